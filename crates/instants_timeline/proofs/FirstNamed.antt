@@ -12,6 +12,7 @@ use Rattle.instants_sources.specs.Grammar.{Grammar, grammar_of}
 use Rattle.instants_sources.specs.declared.source.Source.{Source}
 use Rattle.instants_sources.specs.Named.{named, IsNamedBy}
 use Rattle.instants_timeline.specs.Place.{Setting, or_named, first_named, place_of, place_text, shown_or_refused, answer_to}
+use Rattle.instants_timeline.specs.Refusal.{refusal_of, refusal_text}
 use Rattle.instants_timeline.specs.FirstNamed.{HoldsAnswer, IsLedBy, NamesFrom}
 
 here : (o : Result Shown Fault) (others : Option Shown) (moment : Shown) → result_ok o ≡ Some moment → result_ok (or_named o others) ≡ Some moment
@@ -108,6 +109,11 @@ pub first_is_fault : (setting : Setting) (line : List ℕ) (grammar : Grammar) (
 unfolding first_named
 first_is_fault setting line grammar others fault e none refused = rw e (fault_of_first (named setting.assumed grammar line) (result_ok (first_named setting.assumed others line)) fault (rw e at none) refused)
 
+-- and the answer
+pub answer_is_fault : (setting : Setting) (line : List ℕ) (grammar : Grammar) (others : List Grammar) (fault : Fault) → setting.sources ≡ grammar ∷ others
+    → result_ok (first_named setting.assumed setting.sources line) ≡ None → named setting.assumed grammar line ≡ Err fault → refusal_text (refusal_of fault) ≡ answer_to setting line
+answer_is_fault setting line grammar others fault e none refused = answer_is setting line (Err fault) (first_is_fault setting line grammar others fault e none refused)
+
 -- the source at a place, and those after it
 pub sources_from : (sources : List Source) (i : ℕ) (x : Source) → i < length sources → x ≡ get_or sources i x → map grammar_of (drop i sources) ≡ grammar_of x ∷ map grammar_of (drop (i + 1) sources)
 sources_from sources i x lt e =
@@ -121,15 +127,8 @@ source_at sources place source within is =
     drop-map grammar_of place sources ∙ sources_from sources place source within is ∙ ap (λ (rest : List Grammar). grammar_of source ∷ rest) (sym (drop-map grammar_of (place + 1) sources))
 
 -- after all places there is none
-named_at_end : (setting : Setting) (line : List ℕ) (place : ℕ) → length setting.sources ≤ place → result_ok (first_named setting.assumed (drop place setting.sources) line) ≡ None
-unfolding first_named
-named_at_end setting line place end =
-    let over : drop place setting.sources ≡ [] = drop_all place setting.sources end in
-    rw over refl
-
 pub none_at_end : (setting : Setting) (line : List ℕ) (place : ℕ) → length setting.sources ≤ place → NamesFrom setting line place → result_ok (first_named setting.assumed setting.sources line) ≡ None
-none_at_end setting line place end from = sym from ∙ named_at_end setting line place end
-
--- where none names one, none after all places does
-pub names_from_end : (setting : Setting) (line : List ℕ) (place : ℕ) → length setting.sources ≤ place → result_ok (first_named setting.assumed setting.sources line) ≡ None → NamesFrom setting line place
-names_from_end setting line place end none = named_at_end setting line place end ∙ sym none
+unfolding first_named
+none_at_end setting line place end from =
+    let over : drop place setting.sources ≡ [] = drop_all place setting.sources end in
+    sym (rw over at from)

@@ -143,13 +143,7 @@ impl Timeline<'_> {
     // fault where none does, as it is known or read the exact way.
     #[cold]
     #[inline(never)]
-    fn fill_later(
-        &self,
-        from: usize,
-        known: Option<Parse>,
-        line: &[u8],
-        room: &mut [u8],
-    ) -> usize
+    fn fill_later(&self, from: usize, known: Option<Parse>, line: &[u8], room: &mut [u8]) -> usize
         requires room { 64 ≤ length room.old }
         requires from { NamesFrom (setting_of self.now) line.now from }
         requires known { IfSome known
@@ -165,6 +159,58 @@ impl Timeline<'_> {
         }
     }
 
+    // Writes the first source's fault, read the exact way, where no source names a moment.
+    #[cold]
+    #[inline(never)]
+    fn fill_by_first(&self, line: &[u8], room: &mut [u8]) -> usize
+        requires room { 64 ≤ length room.old }
+        requires none { result_ok (first_named (setting_of self.now).assumed
+            (setting_of self.now).sources line.now) ≡ None }
+        ensures line { HoldsLine (answer_to (setting_of self.now) line.now) result room.new }
+        ensures size { length room.new ≡ length room.old }
+    {
+        match self.first().read_exact(line, self.assumed) {
+            Ok(named) => self.fill_shown(named, room),
+            Err(fault) => LineFault::from(fault).fill(room),
+        }
+    }
+
+    // Writes the answer to a line for which no source names a moment: the first one's fault.
+    #[inline(always)]
+    fn fill_first_fault(&self, line: &[u8], room: &mut [u8]) -> usize
+        requires room { 64 ≤ length room.old }
+        requires none { result_ok (first_named (setting_of self.now).assumed
+            (setting_of self.now).sources line.now) ≡ None }
+        ensures line { HoldsLine (answer_to (setting_of self.now) line.now) result room.new }
+        ensures size { length room.new ≡ length room.old }
+    {
+        if self.first().has_no_year(line, self.assumed) {
+            return fill_no_year(room);
+        }
+        self.fill_by_first(line, room)
+    }
+
+    // Writes the answer to a line by the sources from a place on, where those before it name no moment, and where the first
+    // source's fault may be known. Mostly the first bytes rule all of them out.
+    #[inline(always)]
+    fn fill_from(&self, from: usize, known: Option<Parse>, line: &[u8], room: &mut [u8]) -> usize
+        requires room { 64 ≤ length room.old }
+        requires from { NamesFrom (setting_of self.now) line.now from }
+        requires known { IfSome known
+            (λ fault. IsFirstFault (setting_of self.now) line.now (fault_of fault)) }
+        requires short { IfSome known (λ fault. HasShortName (fault_of fault)) }
+        ensures line { HoldsLine (answer_to (setting_of self.now) line.now) result room.new }
+        ensures size { length room.new ≡ length room.old }
+    {
+        if let Some((likely, _)) = self.likely(from, line) {
+            return self.fill_later(likely, known, line, room);
+        }
+        match known {
+            Some(fault) => LineFault::from(fault).fill(room),
+            None => self.fill_first_fault(line, room),
+        }
+    }
+
     // Writes the answer to a line by reading it the exact way by the first source.
     #[inline(always)]
     fn fill_exact(&self, line: &[u8], room: &mut [u8]) -> usize
@@ -174,7 +220,7 @@ impl Timeline<'_> {
     {
         match self.first().read_exact(line, self.assumed) {
             Ok(named) => self.fill_shown(named, room),
-            Err(fault) => self.fill_later(1, Some(fault), line, room),
+            Err(fault) => self.fill_from(1, Some(fault), line, room),
         }
     }
 
@@ -196,23 +242,8 @@ impl Timeline<'_> {
         }
         match source.read_exact(line, self.assumed) {
             Ok(named) => self.fill_shown(named, room),
-            Err(_) => self.fill_later(place + 1, None, line, room),
+            Err(_) => self.fill_from(place + 1, None, line, room),
         }
-    }
-
-    // Writes the answer to a line for which no source names a moment: the first one's fault.
-    #[inline(always)]
-    fn fill_unlikely(&self, line: &[u8], room: &mut [u8]) -> usize
-        requires room { 64 ≤ length room.old }
-        requires none { result_ok (first_named (setting_of self.now).assumed
-            (setting_of self.now).sources line.now) ≡ None }
-        ensures line { HoldsLine (answer_to (setting_of self.now) line.now) result room.new }
-        ensures size { length room.new ≡ length room.old }
-    {
-        if self.first().has_no_year(line, self.assumed) {
-            return fill_no_year(room);
-        }
-        self.fill_later(self.sources.len(), None, line, room)
     }
 
     // Writes the answer to a line that the first source's first bytes rule out: the likely source is the first after it that
@@ -225,7 +256,7 @@ impl Timeline<'_> {
         ensures size { length room.new ≡ length room.old }
     {
         let Some((place, source)) = self.likely(1, line) else {
-            return self.fill_unlikely(line, room);
+            return self.fill_first_fault(line, room);
         };
         match self.fill_usual(source, line, room) {
             Some(len) => len,

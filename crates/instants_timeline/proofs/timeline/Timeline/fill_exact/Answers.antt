@@ -10,11 +10,11 @@ returns-in-Ok-clause-line c =
     let setting = setting_of c.args.self.now in
     rw (← answer_is_at setting c.args.line.now 0 (grammar_of c.first.result.now) (drop 1 setting.sources) c.in-Ok.named refl c.first.ensures c.in-Ok.ensures.gives) c.fill_shown.ensures.line
 
-pub fill_later-requires-clause-from : goal.fill_later-requires-clause-from
-fill_later-requires-clause-from c = names_from_next (setting_of c.args.self.now) c.args.line.now 0 (grammar_of c.first.result.now) refl c.first.ensures (ap result_ok c.in-Err.ensures.gives)
+pub fill_from-requires-clause-from : goal.fill_from-requires-clause-from
+fill_from-requires-clause-from c = names_from_next (setting_of c.args.self.now) c.args.line.now 0 (grammar_of c.first.result.now) refl c.first.ensures (ap result_ok c.in-Err.ensures.gives)
 
-pub fill_later-requires-clause-known : goal.fill_later-requires-clause-known
-fill_later-requires-clause-known c = record {
+pub fill_from-requires-clause-known : goal.fill_from-requires-clause-known
+fill_from-requires-clause-known c = record {
   grammar = grammar_of c.first.result.now;
   first = c.first.ensures;
   refused = c.in-Err.ensures.gives;

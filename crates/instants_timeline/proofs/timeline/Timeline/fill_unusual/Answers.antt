@@ -15,5 +15,5 @@ returns-in-Ok-clause-line c =
     let setting = setting_of c.args.self.now in
     rw (← answer_is_at setting c.args.line.now c.args.place (grammar_of c.args.source.now) (drop (c.args.place + 1) setting.sources) c.in-Ok.named c.requires.from c.requires.source c.in-Ok.ensures.gives) c.fill_shown.ensures.line
 
-pub fill_later-requires-clause-from : goal.fill_later-requires-clause-from
-fill_later-requires-clause-from c = names_from_next (setting_of c.args.self.now) c.args.line.now c.args.place (grammar_of c.args.source.now) c.requires.from c.requires.source (ap result_ok c.in-Err.ensures.gives)
+pub fill_from-requires-clause-from : goal.fill_from-requires-clause-from
+fill_from-requires-clause-from c = names_from_next (setting_of c.args.self.now) c.args.line.now c.args.place (grammar_of c.args.source.now) c.requires.from c.requires.source (ap result_ok c.in-Err.ensures.gives)
