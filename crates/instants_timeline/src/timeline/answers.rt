@@ -287,9 +287,15 @@ impl Timeline<'_> {
         ensures line { HoldsLine (answer_to (setting_of self.now) line.now) result room.new }
         ensures size { length room.new ≡ length room.old }
     {
-        match self.fill_found(rare_rfc3339(line), room) {
-            Some(len) => len,
-            None => self.fill_exact(line, room),
+        if let Some(len) = self.fill_found(rare_rfc3339(line), room) {
+            return len;
+        }
+        if self.assumed.is_some() {
+            return self.fill_exact(line, room);
+        }
+        match parsing_rfc3339::read_exact(line) {
+            Ok(named) => self.fill_shown(named, room),
+            Err(fault) => self.fill_from(1, Some(fault), line, room),
         }
     }
 
