@@ -1,6 +1,6 @@
 //! The answers of a timeline to lines, each written where it is to lie: at the start of a room of at least 64 bytes, with its
 //! line feed.
-ghost use Rattle.std.specs.Prelude.{◌≡◌, ◌≢◌, ◌<◌, ◌≤◌, ◌+◌, ◌∷◌, codes, drop, length, map, None, Ok, IfSome, IfNone};
+ghost use Rattle.std.specs.Prelude.{◌≡◌, ◌≢◌, ◌<◌, ◌≤◌, ◌+◌, ◌∷◌, codes, drop, length, None, Ok, IfSome};
 ghost use Rattle.std.specs.Option.{option_map};
 ghost use Rattle.std.specs.Result.{result_ok};
 ghost use Rattle.parsing_combinator.specs.FaultOf.{fault_of};
@@ -345,7 +345,7 @@ impl Timeline<'_> {
     }
 
     // Writes the answer to a line, whatever the first source is.
-    #[inline(always)]
+    #[inline(never)]
     fn fill_any(&self, line: &[u8], room: &mut [u8]) -> usize
         requires { 64 ≤ length room.old }
         ensures line { HoldsLine (answer_to (setting_of self.now) line.now) result room.new }
