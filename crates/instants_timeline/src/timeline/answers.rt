@@ -351,10 +351,11 @@ impl Timeline<'_> {
         ensures line { HoldsLine (answer_to (setting_of self.now) line.now) result room.new }
         ensures size { length room.new ≡ length room.old }
     {
-        match self.fill_found(self.first().read_fast(line, self.assumed), room) {
-            Some(len) => len,
-            None => self.fill_rest(line, room),
+        let mut kept = none_kept();
+        if self.keeps_fast(self.first(), line, &mut kept) {
+            return self.fill_kept(&kept, room);
         }
+        self.fill_rest(line, room)
     }
 
     /// The answer to a line: its place as a date-time of fixed width, or why it has none. It is never `! long`.

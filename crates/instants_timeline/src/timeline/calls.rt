@@ -81,10 +81,10 @@ impl<'a> Timeline<'a> {
         ensures short { IfErr result (λ fault. HasShortName (fault_of fault)) }
     {
         let first = self.first();
-        if let Some(fields) = first.read_fast(line, self.assumed) {
-            return Ok(fields.moment());
-        }
         let mut kept = none_kept();
+        if self.keeps_fast(first, line, &mut kept) {
+            return Ok(kept.moment());
+        }
         if self.has_others() && first.cannot_match(line) {
             self.first_named(1, None, line, &mut kept)?;
             return Ok(kept.moment());
