@@ -10,10 +10,6 @@ use Rattle.instants_sources.specs.Planned.{IsPlanned}
 use Rattle.parsing_plan.specs.declared.plan.Plan.{Plan}
 use Rattle.instants_timeline.specs.Place.{Setting, first_named, place_text, shown_or_refused}
 
--- the first source that names a moment names this one
-abbrev pub IsFirstNamed : Setting → List ℕ → Shown → Type 0
-IsFirstNamed setting line m = first_named setting.assumed setting.sources line ≡ Ok m
-
 -- what the sources from a place on name is what all of them name
 abbrev pub NamesFrom : Setting → List ℕ → ℕ → Type 0
 NamesFrom setting line place =

@@ -3,13 +3,11 @@ ghost use Rattle.std.specs.Prelude.{◌≡◌, ◌-◌, ◌<◌, ◌≤◌, ◌+
 ghost use Rattle.std.specs.Io.KnownBytes.{Keeps};
 ghost use Rattle.instants_stream.specs.Answers.{by_answers, output};
 ghost use Rattle.instants_stream.specs.Ran.{Ran};
-ghost use Rattle.instants_timeline.specs.FirstNamed.{IsLedByPlan};
 ghost use Rattle.instants_timeline.specs.Place.{answer_to};
 ghost use Rattle.instants_timeline.specs.Settings.{setting_of};
 
 use crate::timeline::{
-    AnswerWay, ExactWay, Iso8601Way, Led, PlacesWay, PlainWay, PlannedWay, Rfc2822Way, Rfc3339Way,
-    Timeline, UnixWay,
+    AnswerWay, ExactWay, Iso8601Way, Led, PlainPlaces, PlannedWay, Rfc2822Way, Rfc3339Way, Timeline,
 };
 use instants_sources::Source;
 use instants_stream::{ByteReader, ByteWriter, RunFault, TooLittleRoom, lines_over, run_lines};
@@ -61,49 +59,19 @@ pub(crate) fn answer_lines<R: ByteReader, W: ByteWriter>(
         Source::Rfc2822 => run_by(Rfc2822Way, timeline, limit, buffer, reader, writer),
         Source::Iso8601 => run_by(Iso8601Way, timeline, limit, buffer, reader, writer),
         described => match described.plan() {
-            Some(plan) => run_planned(plan, timeline, limit, buffer, reader, writer),
+            Some(Plan::Places(places)) if places.is_plain() => {
+                let plan = PlainPlaces { places };
+                run_by(PlannedWay { plan }, timeline, limit, buffer, reader, writer)
+            }
+            Some(Plan::Places(plan)) => {
+                run_by(PlannedWay { plan }, timeline, limit, buffer, reader, writer)
+            }
+            Some(Plan::Unix(plan)) => {
+                run_by(PlannedWay { plan }, timeline, limit, buffer, reader, writer)
+            }
+            Some(plan) => run_by(PlannedWay { plan }, timeline, limit, buffer, reader, writer),
             None => run_by(ExactWay, timeline, limit, buffer, reader, writer),
         },
-    }
-}
-
-// The same for a description that has a plan.
-#[inline(always)]
-fn run_planned<R: ByteReader, W: ByteWriter>(
-    plan: &Plan,
-    timeline: &Timeline,
-    limit: usize,
-    buffer: &mut [u8],
-    reader: &mut R,
-    writer: &mut W,
-) -> Result<(), RunFault>
-    requires led { ∥ IsLedByPlan (setting_of timeline.now) plan.now ∥₁ }
-    requires room { limit < length buffer.old }
-    requires reader { R.failed reader.old ≡ false }
-    requires writer { W.failed writer.old ≡ false }
-    ensures ran { Ran (by_answers (answer_to (setting_of timeline.now)) limit)
-        R.ByteReader reader.old reader.new W.ByteWriter writer.old writer.new result }
-    // Before the read that failed all was handed on.
-    ensures handed_on { result ≡ Err RunFault.Read
-        → Keeps (W.held writer.new) (W.handed_on writer.new) }
-{
-    match plan {
-        Plan::Places(places) if places.is_plain() => {
-            let way = PlainWay::new(places);
-            run_by(way, timeline, limit, buffer, reader, writer)
-        }
-        Plan::Places(places) => {
-            let way = PlacesWay::new(places);
-            run_by(way, timeline, limit, buffer, reader, writer)
-        }
-        Plan::Unix(unix) => {
-            let way = UnixWay::new(unix);
-            run_by(way, timeline, limit, buffer, reader, writer)
-        }
-        Plan::Steps(_) => {
-            let way = PlannedWay::new(plan);
-            run_by(way, timeline, limit, buffer, reader, writer)
-        }
     }
 }
 
@@ -127,7 +95,7 @@ fn run_by<A: AnswerWay + Drop, R: ByteReader, W: ByteWriter>(
     ensures handed_on { result ≡ Err RunFault.Read
         → Keeps (W.held writer.new) (W.handed_on writer.new) }
 {
-    run_lines(&Led::new(timeline, way), limit, buffer, reader, writer)
+    run_lines(&Led { timeline, way }, limit, buffer, reader, writer)
 }
 
 /// Writes the answer to each line of the input, each followed by a line feed, into the start of the room. How many bytes the
@@ -158,15 +126,16 @@ pub fn run_over(
         Source::Iso8601 => run_over_by(Iso8601Way, timeline, limit, input, room),
         described => match described.plan() {
             Some(Plan::Places(places)) if places.is_plain() => {
-                run_over_by(PlainWay::new(places), timeline, limit, input, room)
+                let plan = PlainPlaces { places };
+                run_over_by(PlannedWay { plan }, timeline, limit, input, room)
             }
-            Some(Plan::Places(places)) => {
-                run_over_by(PlacesWay::new(places), timeline, limit, input, room)
+            Some(Plan::Places(plan)) => {
+                run_over_by(PlannedWay { plan }, timeline, limit, input, room)
             }
-            Some(Plan::Unix(unix)) => {
-                run_over_by(UnixWay::new(unix), timeline, limit, input, room)
+            Some(Plan::Unix(plan)) => {
+                run_over_by(PlannedWay { plan }, timeline, limit, input, room)
             }
-            Some(plan) => run_over_by(PlannedWay::new(plan), timeline, limit, input, room),
+            Some(plan) => run_over_by(PlannedWay { plan }, timeline, limit, input, room),
             None => run_over_by(ExactWay, timeline, limit, input, room),
         },
     }
@@ -191,5 +160,5 @@ fn run_over_by<A: AnswerWay + Drop>(
     ensures full { OnErr result (room.new ≡ take (length room.old)
         (output (answer_to (setting_of timeline.now)) limit input.now)) }
 {
-    lines_over(&Led::new(timeline, way), limit, input, room)
+    lines_over(&Led { timeline, way }, limit, input, room)
 }

@@ -13,8 +13,7 @@ mod search;
 
 use calendar::UtcOffset;
 pub(crate) use fast_ways::{
-    AnswerWay, ExactWay, Iso8601Way, Led, PlacesWay, PlainWay, PlannedWay, Rfc2822Way, Rfc3339Way,
-    UnixWay,
+    AnswerWay, ExactWay, Iso8601Way, Led, PlainPlaces, PlannedWay, Rfc2822Way, Rfc3339Way,
 };
 use instants_answers::Target;
 use instants_sources::Source;

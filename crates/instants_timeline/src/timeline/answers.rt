@@ -1,6 +1,6 @@
 //! The answers of a timeline to lines, each written where it is to lie: at the start of a room of at least 64 bytes, with its
 //! line feed.
-ghost use Rattle.std.specs.Prelude.{◌≡◌, ◌≢◌, ◌<◌, ◌≤◌, ◌+◌, ◌∷◌, codes, drop, length, map, None, Ok, IfSome, IfNone};
+ghost use Rattle.std.specs.Prelude.{◌≡◌, ◌≢◌, ◌<◌, ◌≤◌, ◌+◌, ◌∷◌, codes, drop, length, None, Ok, IfSome};
 ghost use Rattle.std.specs.Option.{option_map};
 ghost use Rattle.std.specs.Result.{result_ok};
 ghost use Rattle.parsing_combinator.specs.FaultOf.{fault_of};
@@ -293,9 +293,15 @@ impl Timeline<'_> {
         ensures line { HoldsLine (answer_to (setting_of self.now) line.now) result room.new }
         ensures size { length room.new ≡ length room.old }
     {
-        match self.fill_found(rare_rfc3339(line), room) {
-            Some(len) => len,
-            None => self.fill_exact(line, room),
+        if let Some(len) = self.fill_found(rare_rfc3339(line), room) {
+            return len;
+        }
+        if self.assumed.is_some() {
+            return self.fill_exact(line, room);
+        }
+        match parsing_rfc3339::read_exact(line) {
+            Ok(named) => self.fill_shown(named, room),
+            Err(fault) => self.fill_from(1, Some(fault), line, room),
         }
     }
 
@@ -345,16 +351,17 @@ impl Timeline<'_> {
     }
 
     // Writes the answer to a line, whatever the first source is.
-    #[inline(always)]
+    #[inline(never)]
     fn fill_any(&self, line: &[u8], room: &mut [u8]) -> usize
         requires { 64 ≤ length room.old }
         ensures line { HoldsLine (answer_to (setting_of self.now) line.now) result room.new }
         ensures size { length room.new ≡ length room.old }
     {
-        match self.fill_found(self.first().read_fast(line, self.assumed), room) {
-            Some(len) => len,
-            None => self.fill_rest(line, room),
+        let mut kept = none_kept();
+        if self.keeps_fast(self.first(), line, &mut kept) {
+            return self.fill_kept(&kept, room);
         }
+        self.fill_rest(line, room)
     }
 
     /// The answer to a line: its place as a date-time of fixed width, or why it has none. It is never `! long`.

@@ -1,18 +1,14 @@
 //! Lines placed on one timeline.
-ghost use Rattle.std.specs.Prelude.{◌≡◌, ◌≢◌, ◌<◌, ◌≤◌, ◌+◌, ◌∷◌, drop, length, map, None, Ok, IfOk, IfErr, IfSome, IfNone};
-ghost use Rattle.std.specs.Option.{ok_or};
-ghost use Rattle.std.specs.Result.{result_ok};
+ghost use Rattle.std.specs.Prelude.{◌≡◌, ◌≢◌, ◌<◌, ◌+◌, ◌∷◌, drop, length, map, None, Ok, IfOk, IfErr, IfSome};
 ghost use Rattle.parsing_combinator.specs.FaultOf.{fault_of, Gives};
 ghost use Rattle.parsing_combinator.specs.ShortName.{HasShortName};
 ghost use Rattle.calendar.specs.UtcOffset.{IsClockOffset};
-ghost use Rattle.parsing_fields.specs.Moment.{moment_of};
 ghost use Rattle.instants_answers.specs.Text.{FitsLine};
 ghost use Rattle.instants_timeline.specs.Refusal.{IsShort, long, refusal_said, year};
 ghost use Rattle.instants_timeline.specs.Sources.{AllMean, IsRefusal};
 ghost use Rattle.instants_words.specs.Sources.{said_by};
 ghost use Rattle.instants_sources.specs.Grammar.{grammar_of};
-ghost use Rattle.instants_timeline.specs.FirstNamed.{IsFirstNamed, NamesFrom};
-ghost use Rattle.instants_timeline.specs.Place.{first_named, place_of, shown_or_refused, IsPlace};
+ghost use Rattle.instants_timeline.specs.Place.{first_named, place_of, IsPlace};
 ghost use Rattle.instants_timeline.specs.Settings.{setting_of};
 
 use crate::line_fault::LineFault;
@@ -85,10 +81,10 @@ impl<'a> Timeline<'a> {
         ensures short { IfErr result (λ fault. HasShortName (fault_of fault)) }
     {
         let first = self.first();
-        if let Some(fields) = first.read_fast(line, self.assumed) {
-            return Ok(fields.moment());
-        }
         let mut kept = none_kept();
+        if self.keeps_fast(first, line, &mut kept) {
+            return Ok(kept.moment());
+        }
         if self.has_others() && first.cannot_match(line) {
             self.first_named(1, None, line, &mut kept)?;
             return Ok(kept.moment());

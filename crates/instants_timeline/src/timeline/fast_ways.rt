@@ -1,16 +1,23 @@
 //! The ways in which the lines of a timeline are answered, each by fast ways first.
-ghost use Rattle.std.specs.Prelude.{◌≡◌, ◌≤◌, length};
+ghost use Rattle.std.specs.Prelude.{◌≡◌, ◌≤◌, length, IfSome, Ok};
+ghost use Rattle.parsing_fields.specs.Moment.{moment_of};
+ghost use Rattle.parsing_plan.specs.declared.plan.Plan.{Plan};
 ghost use Rattle.instants_answers.specs.Line.{HoldsLine};
+ghost use Rattle.instants_sources.specs.Grammar.{Grammar};
+ghost use Rattle.instants_sources.specs.Named.{named};
+ghost use Rattle.instants_sources.specs.Planned.{IsPlanned};
 ghost use Rattle.instants_timeline.specs.Place.{Setting, answer_to};
 ghost use Rattle.instants_timeline.specs.Settings.{setting_of};
 
 use crate::timeline::Timeline;
+use calendar::UtcOffset;
 use instants_answers::Answer;
 use instants_sources::{
     is_no_rfc3339, read_by_places, read_by_plain_places, read_by_plan, read_by_unix, usual_iso8601,
     usual_rfc2822, usual_rfc3339,
 };
 use instants_stream::AnswersLines;
+use parsing_fields::Fields;
 use parsing_plan::{Places, Plan, UnixTime};
 
 /// A way to answer the lines of a timeline, by the kind of its first source. All answer alike: a run over a stream is compiled
@@ -88,118 +95,82 @@ impl AnswerWay for Iso8601Way {
     }
 }
 
-/// Where a description is that has a plan with a place for each component.
-#[derive(Drop)]
-pub(crate) struct PlacesWay<'p> {
-    places: &'p Places,
+/// What reads lines as the plan of a description says.
+pub(crate) trait ReadsPlanned {
+    /// The plan.
+    ghost planned: { Self → Plan };
+
+    /// The fields of the moment of a line, where they are found, with an offset assumed or none: `None` says nothing of the
+    /// line.
+    fn read_planned(&self, line: &[u8], assumed: Option<UtcOffset>) -> Option<Fields>
+        ensures { (grammar : Grammar) → IsPlanned grammar (planned self.now) → IfSome result
+            (λ fields. named assumed grammar line.now ≡ Ok (moment_of fields)) };
 }
 
-impl<'p> PlacesWay<'p> {
-    pub(crate) fn new(places: &'p Places) -> PlacesWay<'p>
-        ensures { result.places.now ≡ places.now }
-    {
-        PlacesWay { places }
-    }
-}
-
-impl AnswerWay for PlacesWay<'_> {
+// A place for each component.
+impl ReadsPlanned for &Places {
     ghost use Rattle.parsing_plan.specs.declared.plan.Plan.TheVariants as plan;
-    ghost use Rattle.instants_timeline.specs.FirstNamed.{IsLedByPlan};
 
-    ghost leads = { λ way setting. IsLedByPlan setting (plan.Places way.places.now) };
+    ghost planned = { λ places. plan.Places places.now };
 
     #[inline(always)]
-    fn fill_answer(&self, timeline: &Timeline, line: &[u8], room: &mut [u8]) -> usize {
-        let planned = read_by_places(self.places, line, timeline.assumed);
-        match timeline.fill_found(planned, room) {
-            Some(len) => len,
-            None => timeline.fill_rest(line, room),
-        }
+    fn read_planned(&self, line: &[u8], assumed: Option<UtcOffset>) -> Option<Fields> {
+        read_by_places(self, line, assumed)
     }
 }
 
-/// Where a description is that has such a plan, with the name of a month, an offset and numbers alone, as a web server's.
+/// Places with the name of a month, an offset and numbers alone, as a web server's.
 #[derive(Drop)]
-pub(crate) struct PlainWay<'p> {
-    places: &'p Places,
+pub(crate) struct PlainPlaces<'p> {
+    pub(crate) places: &'p Places,
 }
 
-impl<'p> PlainWay<'p> {
-    pub(crate) fn new(places: &'p Places) -> PlainWay<'p>
-        ensures { result.places.now ≡ places.now }
-    {
-        PlainWay { places }
-    }
-}
-
-impl AnswerWay for PlainWay<'_> {
+impl ReadsPlanned for PlainPlaces<'_> {
     ghost use Rattle.parsing_plan.specs.declared.plan.Plan.TheVariants as plan;
-    ghost use Rattle.instants_timeline.specs.FirstNamed.{IsLedByPlan};
 
-    ghost leads = { λ way setting. IsLedByPlan setting (plan.Places way.places.now) };
+    ghost planned = { λ plain. plan.Places plain.places.now };
 
     #[inline(always)]
-    fn fill_answer(&self, timeline: &Timeline, line: &[u8], room: &mut [u8]) -> usize {
-        let planned = read_by_plain_places(self.places, line, timeline.assumed);
-        match timeline.fill_found(planned, room) {
-            Some(len) => len,
-            None => timeline.fill_rest(line, room),
-        }
+    fn read_planned(&self, line: &[u8], assumed: Option<UtcOffset>) -> Option<Fields> {
+        read_by_plain_places(self.places, line, assumed)
     }
 }
 
-/// Where Unix time alone is.
-#[derive(Drop)]
-pub(crate) struct UnixWay<'p> {
-    unix: &'p UnixTime,
-}
-
-impl<'p> UnixWay<'p> {
-    pub(crate) fn new(unix: &'p UnixTime) -> UnixWay<'p>
-        ensures { result.unix.now ≡ unix.now }
-    {
-        UnixWay { unix }
-    }
-}
-
-impl AnswerWay for UnixWay<'_> {
+impl ReadsPlanned for &UnixTime {
     ghost use Rattle.parsing_plan.specs.declared.plan.Plan.TheVariants as plan;
-    ghost use Rattle.instants_timeline.specs.FirstNamed.{IsLedByPlan};
 
-    ghost leads = { λ way setting. IsLedByPlan setting (plan.Unix way.unix.now) };
+    ghost planned = { λ unix. plan.Unix unix.now };
 
     #[inline(always)]
-    fn fill_answer(&self, timeline: &Timeline, line: &[u8], room: &mut [u8]) -> usize {
-        let planned = read_by_unix(self.unix, line, timeline.assumed);
-        match timeline.fill_found(planned, room) {
-            Some(len) => len,
-            None => timeline.fill_rest(line, room),
-        }
+    fn read_planned(&self, line: &[u8], assumed: Option<UtcOffset>) -> Option<Fields> {
+        read_by_unix(self, line, assumed)
     }
 }
 
-/// Where a description is that has another plan.
+// Any other plan.
+impl ReadsPlanned for &Plan {
+    ghost planned = { λ plan. plan.now };
+
+    #[inline(always)]
+    fn read_planned(&self, line: &[u8], assumed: Option<UtcOffset>) -> Option<Fields> {
+        read_by_plan(self, line, assumed)
+    }
+}
+
+/// Where a description is that has a plan.
 #[derive(Drop)]
-pub(crate) struct PlannedWay<'p> {
-    plan: &'p Plan,
+pub(crate) struct PlannedWay<P> {
+    pub(crate) plan: P,
 }
 
-impl<'p> PlannedWay<'p> {
-    pub(crate) fn new(plan: &'p Plan) -> PlannedWay<'p>
-        ensures { result.plan.now ≡ plan.now }
-    {
-        PlannedWay { plan }
-    }
-}
-
-impl AnswerWay for PlannedWay<'_> {
+impl<P: ReadsPlanned> AnswerWay for PlannedWay<P> {
     ghost use Rattle.instants_timeline.specs.FirstNamed.{IsLedByPlan};
 
-    ghost leads = { λ way setting. IsLedByPlan setting way.plan.now };
+    ghost leads = { λ way setting. IsLedByPlan setting (P.planned way.plan) };
 
     #[inline(always)]
     fn fill_answer(&self, timeline: &Timeline, line: &[u8], room: &mut [u8]) -> usize {
-        let planned = read_by_plan(self.plan, line, timeline.assumed);
+        let planned = self.plan.read_planned(line, timeline.assumed);
         match timeline.fill_found(planned, room) {
             Some(len) => len,
             None => timeline.fill_rest(line, room),
@@ -223,18 +194,9 @@ impl AnswerWay for ExactWay {
 /// A timeline whose lines are answered in the way of its first source.
 #[derive(Drop)]
 pub(crate) struct Led<'a, 'b, W: AnswerWay> {
-    timeline: &'a Timeline<'b>,
-    way: W,
+    pub(crate) timeline: &'a Timeline<'b>,
+    pub(crate) way: W,
     ghost leads: { ∥ W.leads way (setting_of timeline.now) ∥₁ },
-}
-
-impl<'a, 'b, W: AnswerWay> Led<'a, 'b, W> {
-    pub(crate) fn new(timeline: &'a Timeline<'b>, way: W) -> Led<'a, 'b, W>
-        requires { ∥ W.leads way (setting_of timeline.now) ∥₁ }
-        ensures { result.timeline.now ≡ timeline.now }
-    {
-        Led { timeline, way }
-    }
 }
 
 impl<W: AnswerWay> AnswersLines for Led<'_, '_, W> {

@@ -40,6 +40,19 @@ impl<'a> Timeline<'a> {
         None
     }
 
+    // Whether the fast way of a source finds the moment of a line, which is kept then: `false` says nothing of the line.
+    #[inline(never)]
+    pub(super) fn keeps_fast(&self, source: &Source, line: &[u8], kept: &mut Named) -> bool
+        ensures { result ≡ true
+            → named (setting_of self.now).assumed (grammar_of source.now) line.now ≡ Ok kept.new }
+    {
+        let Some(fields) = source.read_fast(line, self.assumed) else {
+            return false;
+        };
+        *kept = Named::of_fields(fields);
+        true
+    }
+
     // Whether a source names a moment for a line, which is kept then: its fast way is tried before the exact one.
     #[inline(never)]
     fn keeps_named(&self, source: &Source, line: &[u8], kept: &mut Named) -> bool
@@ -48,8 +61,7 @@ impl<'a> Timeline<'a> {
         ensures none { result ≡ false → result_ok
             (named (setting_of self.now).assumed (grammar_of source.now) line.now) ≡ None }
     {
-        if let Some(fields) = source.read_fast(line, self.assumed) {
-            *kept = Named::of_fields(fields);
+        if self.keeps_fast(source, line, kept) {
             return true;
         }
         match source.read_exact(line, self.assumed) {
