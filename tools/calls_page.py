@@ -35,8 +35,7 @@ ALONE = (
 BELOW = {
     "parsing_combinator": {"digit_chunk", "nine_digits"},
     "parsing_values": set(),
-    "parsing_places": {"read"},
-    "parsing_fractions": {"read_long"},
+    "parsing_places": {"read", "read_long"},
     "parsing_fields": {"Fields", "Fraction", "Year", "minute_of_day", "signed_minutes"},
     "parsing_components": {"read_component", "read_component_v3", "read_usual"},
     "parsing_first_bytes": {"FirstBounds", "FirstBytes"},

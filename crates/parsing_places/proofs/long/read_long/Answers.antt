@@ -1,6 +1,6 @@
 use Rattle.std.proofs.Common.{arith}
-use Rattle.parsing_fractions.proofs.KeptLemmas.{some_says}
-use Rattle.parsing_fractions.proofs.reading.read_long.Goals as goal
+use Rattle.parsing_places.proofs.KeptLemmas.{some_says}
+use Rattle.parsing_places.proofs.long.read_long.Goals as goal
 
 pub returns : goal.returns
 returns c =

@@ -13,9 +13,9 @@ use Rattle.parsing_places.specs.End.{SaysOffset, width_of}
 use Rattle.parsing_places.specs.Numbers.{HasShape, HasNumbers}
 use Rattle.parsing_places.specs.declared.numbers.Numbers.{Numbers}
 use Rattle.parsing_places.specs.declared.shape.Shape.{Shape}
-use Rattle.parsing_fractions.specs.Shortened.{without, SaysShortened}
-use Rattle.parsing_fractions.proofs.KeptLemmas as kept
-use Rattle.parsing_fractions.proofs.NumberLemmas.{last_digit, has_shape, year_is, has_numbers}
+use Rattle.parsing_places.specs.Shortened.{without, SaysShortened}
+use Rattle.parsing_places.proofs.KeptLemmas as kept
+use Rattle.parsing_places.proofs.KeptNumbers.{last_digit, has_shape, year_is, has_numbers}
 
 module _ (shape : Shape) (text : List ℕ) (n : Numbers) (s : SaysShortened shape text n) where
   some : shape.length + 10 ≤ s.end

@@ -1,23 +1,23 @@
 //! A text without some of its bytes.
 ghost use Rattle.std.specs.Prelude.{◌≡◌, ◌≤◌, ◌<◌, ◌+◌, ◌-◌, length, take};
-ghost use Rattle.parsing_fractions.specs.Shortened.{without};
+ghost use Rattle.parsing_places.specs.Shortened.{without};
 
-use parsing_places::LANES;
+use crate::lanes::LANES;
 
 /// The most bytes that are left: a date and a time of day, nine digits after a point, and an offset.
-pub(crate) const LONGEST: usize = 35;
+pub const LONGEST: usize = 35;
 
 /// The most bytes of an offset.
-pub(crate) const LONGEST_OFFSET: usize = 6;
+pub const LONGEST_OFFSET: usize = 6;
 
 /// The most bytes before an offset.
-pub(crate) const MOST_KEPT: usize = LONGEST - LONGEST_OFFSET;
+pub const MOST_KEPT: usize = LONGEST - LONGEST_OFFSET;
 
 /// Puts the bytes before a place, and then those from another place on, at the start of some storage.
 ///
 /// Each part is copied in a length that is known, and over what was copied before: a call of a copy costs more.
 #[inline(always)]
-pub(crate) fn shorten(text: &[u8], kept: usize, end: usize, short: &mut [u8; LONGEST])
+pub fn shorten(text: &[u8], kept: usize, end: usize, short: &mut [u8; LONGEST])
     requires many { LANES ≤ kept }
     requires few { kept ≤ MOST_KEPT }
     requires some { kept ≤ end }

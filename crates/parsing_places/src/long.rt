@@ -1,11 +1,18 @@
-//! The numbers of such a text.
+//! The numbers of a text by a shape whose fraction of a second has more than nine digits.
+//!
+//! The digits after the ninth are taken out, and what is left is read by the shape.
 ghost use Rattle.std.specs.Prelude.{◌≡◌, ◌≤◌, ◌<◌, ◌+◌, ◌-◌, length, drop, true, IfSome};
 ghost use Rattle.parsing_combinator.specs.Pieces.{digit_count};
 ghost use Rattle.parsing_places.specs.End.{width_of};
-ghost use Rattle.parsing_fractions.specs.Shortened.{SaysShortened};
+ghost use Rattle.parsing_places.specs.Shortened.{SaysShortened};
 
-use crate::shortened::{LONGEST, MOST_KEPT, shorten};
-use parsing_places::{LANES, Numbers, Shape, read_numbers};
+mod shortened;
+
+use crate::lanes::LANES;
+use crate::numbers::Numbers;
+use crate::reading::read_numbers;
+use crate::shape::Shape;
+use shortened::{LONGEST, MOST_KEPT, shorten};
 
 // The bytes of a point and nine digits.
 const KEPT: usize = 10;

@@ -3,7 +3,7 @@ use Rattle.std.proofs.Math.Seq.{take-add, take-append-add, drop-append-add}
 use Rattle.std.proofs.lemmas.List.{drop-take, drop-drop, take_rest, length-take, length-take-le, length-drop, length-append}
 use Rattle.std.proofs.lemmas.Slice.{take-put_mid, drop-put_mid}
 use borrow.Rule.Slice.PartMut.{put_mid}
-use Rattle.parsing_fractions.proofs.shortened.shorten.Goals as goal
+use Rattle.parsing_places.proofs.long.shortened.shorten.Goals as goal
 
 take_after : (xs ys : List ℕ) (m n k : ℕ) → length xs ≡ m → m + n ≡ k → take k (xs ++ ys) ≡ xs ++ take n ys
 take_after xs ys m n k long e = rw (← e, ← long) (take-append-add xs ys n)

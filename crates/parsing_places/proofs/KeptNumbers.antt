@@ -14,7 +14,7 @@ use Rattle.parsing_places.specs.declared.numbers.Numbers.{Numbers}
 use Rattle.parsing_places.specs.declared.shape.Number.{Number}
 use Rattle.parsing_places.specs.declared.shape.Shape.{Shape}
 use Rattle.parsing_places.specs.declared.shape.Window.{Window}
-use Rattle.parsing_fractions.proofs.KeptLemmas.{same_byte, digits_kept}
+use Rattle.parsing_places.proofs.KeptLemmas.{same_byte, digits_kept}
 
 -- ---- places within the windows of a shape
 

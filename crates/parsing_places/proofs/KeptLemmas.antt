@@ -11,7 +11,7 @@ use Rattle.parsing_combinator.specs.Pieces.{digits, digit_count, nanoseconds_of}
 use Rattle.parsing_combinator.proofs.FractionDigits.{digits_read}
 use Rattle.parsing_combinator.proofs.Longest.{digits_at}
 use Rattle.parsing_fields.specs.Written.{WriteFraction}
-use Rattle.parsing_fractions.specs.Shortened.{without}
+use Rattle.parsing_places.specs.Shortened.{without}
 
 -- one more digit after those from a place on
 pub one_more : (text : List ℕ) (from place : ℕ) → from ≤ place → place < length text → place ≤ from + digit_count (drop from text) → is_ascii_digit (get_or text place 0) ≡ true → place + 1 ≤ from + digit_count (drop from text)
