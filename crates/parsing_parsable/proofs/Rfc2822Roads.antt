@@ -19,9 +19,9 @@ use Rattle.parsing_rfc2822.specs.Range.{AreInRange}
 use Rattle.parsing_rfc2822.specs.Reading.{rfc2822}
 use Rattle.parsing_parsable.specs.Put.{put_rfc2822}
 use Rattle.parsing_parsable.specs.Staged.{reads_rfc2822}
-use Rattle.parsing_laws.specs.TwoRoads.{holding, AgreeOn}
-use Rattle.parsing_laws.proofs.Parts.{of_parts, named_parts, offset_last, AreNamed, none_or_named}
-use Rattle.parsing_laws.proofs.Numbers.{not_all, month_in_range, same_date, same_offset, no_more}
+use Rattle.parsing_parsable.specs.TwoRoads.{holding, AgreeOn}
+use Rattle.parsing_parsable.proofs.RoadParts.{of_parts, named_parts, offset_last, AreNamed, none_or_named}
+use Rattle.parsing_parsable.proofs.RoadNumbers.{not_all, month_in_range, same_date, same_offset, no_more}
 
 abbrev date : Rfc2822Parts → Result ℕ ComponentRange
 date w = date_of (pos w.year) (month_number w.month) w.day

@@ -22,8 +22,8 @@ use Rattle.parsing_record.specs.Whole.{starting, whole, names, all_read, moment_
 use Rattle.parsing_parsable.specs.Put.{put_iso8601, put_date, put_time, put_offset}
 use Rattle.parsing_parsable.specs.Staged.{reads_iso8601}
 use Rattle.parsing_parsable.specs.Moment.{staged}
-use Rattle.parsing_laws.specs.TwoRoads.{holding}
-use Rattle.parsing_laws.proofs.Numbers.{not_all, no_more}
+use Rattle.parsing_parsable.specs.TwoRoads.{holding}
+use Rattle.parsing_parsable.proofs.RoadNumbers.{not_all, no_more}
 
 -- the record before a text sets its parts
 abbrev permitted : Option ℤ → Option ℤ → Record

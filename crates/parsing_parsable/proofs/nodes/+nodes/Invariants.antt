@@ -2,8 +2,8 @@ use Rattle.std.proofs.Common.{◌≡◌, ◌+◌, ◌*◌, ◌≤◌, min, map}
 use Rattle.description_items.specs.Tree.{listed}
 use Rattle.parsing_record.specs.Tally.{greatest_count}
 use Rattle.parsing_record.proofs.lemmas.Sizes.{size, size_all}
-use Rattle.parsing_laws.proofs.Counting.{nodes_from}
-use Rattle.parsing_laws.proofs.nodes.+nodes.Given as goal
+use Rattle.parsing_parsable.proofs.Counting.{nodes_from}
+use Rattle.parsing_parsable.proofs.nodes.+nodes.Given as goal
 
 abbrev pub decreases-nodes_in : goal.decreases-nodes_in
 decreases-nodes_in g l = 2 * size (g.N.Node.tree l.node.now)

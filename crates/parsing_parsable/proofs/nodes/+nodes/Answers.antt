@@ -1,7 +1,7 @@
 use Rattle.std.proofs.Common.{arith, ap}
 use Rattle.parsing_record.proofs.lemmas.Sizes.{size, one_of_them}
-use Rattle.parsing_laws.proofs.Counting.{next_nodes, no_nodes}
-use Rattle.parsing_laws.proofs.nodes.+nodes.Goals as goal
+use Rattle.parsing_parsable.proofs.Counting.{next_nodes, no_nodes}
+use Rattle.parsing_parsable.proofs.nodes.+nodes.Goals as goal
 
 pub nodes_in_all-loop-node-preserved : goal.nodes_in_all-loop-node-preserved
 nodes_in_all-loop-node-preserved g t c =
