@@ -13,8 +13,8 @@ use Rattle.parsing_values.specs.Resolution.{signed_offset_of}
 use Rattle.parsing_values.specs.NamedTime.{named_offset, seconds_after}
 use Rattle.parsing_components.specs.Ranged.{under}
 use Rattle.parsing_components.specs.Read as read
-use Rattle.parsing_record.specs.Parts.{under_sign}
-use Rattle.parsing_record.specs.Whole.{offset_named}
+use Rattle.parsing_nodes.specs.Parts.{under_sign}
+use Rattle.parsing_nodes.specs.Whole.{offset_named}
 use Rattle.parsing_plan.specs.declared.layout.Layout.{Layout}
 use Rattle.parsing_components.specs.Slot.{Values, slot_piece, width}
 use Rattle.parsing_plan.specs.Layout.{day_slot, is_plain}

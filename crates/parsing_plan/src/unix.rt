@@ -2,9 +2,9 @@
 ghost use Rattle.std.specs.Prelude.{◌≡◌, ◌+◌, ◌<◌, ◌≤◌, true, drop, length, Ok, Option, ℤ, IfSome};
 ghost use Rattle.parsing_fields.specs.Moment.{moment_of};
 ghost use Rattle.parsing_fields.specs.Written.{WriteFraction};
-ghost use Rattle.parsing_record.specs.Meaning.{Meaning};
-ghost use Rattle.parsing_record.specs.Record.{Record};
-ghost use Rattle.parsing_record.specs.Whole.{whole, names, moment_named, starting};
+ghost use Rattle.parsing_nodes.specs.Meaning.{Meaning};
+ghost use Rattle.parsing_nodes.specs.Record.{Record};
+ghost use Rattle.parsing_nodes.specs.Whole.{whole, names, moment_named, starting};
 ghost use Rattle.parsing_plan.specs.Beginning.{beginning};
 ghost use Rattle.parsing_plan.specs.UnixTime.{IsUnixOf, IsUnixPart};
 

@@ -14,7 +14,8 @@ mod tree;
 mod usual;
 mod years;
 
-pub use node::{Node, NodeStep};
+pub use node::ReadsNode;
 pub use parsed::Parsed;
+pub use parsing_nodes::{Node, NodeStep};
 pub use tally::{ItemTally, NoTally, Tally};
 pub use tree::parse_tree;

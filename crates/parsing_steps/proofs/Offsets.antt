@@ -6,8 +6,8 @@ use Rattle.std.proofs.lemmas.Int.{ints}
 use Rattle.calendar_count.proofs.lemmas.Signed.{signed, one_sided}
 use Rattle.calendar_clock.specs.UtcOffset.{offset_of, with_sign_of}
 use Rattle.parsing_components.specs.Ranged.{under}
-use Rattle.parsing_record.specs.Parts.{under_sign}
-use Rattle.parsing_record.specs.Whole.{offset_named}
+use Rattle.parsing_nodes.specs.Parts.{under_sign}
+use Rattle.parsing_nodes.specs.Whole.{offset_named}
 use Rattle.parsing_values.specs.NamedTime.{named_offset, seconds_after}
 use Rattle.parsing_values.specs.Resolution.{signed_offset_of}
 use Rattle.parsing_steps.specs.Beginning.{beginning}

@@ -1,6 +1,6 @@
 -- What a reading begins with.
 use Rattle.std.specs.Prelude.{Option, Some, None, ℤ, pos, int_div, int_rem}
-use Rattle.parsing_record.specs.Record.{Record, empty}
+use Rattle.parsing_nodes.specs.Record.{Record, empty}
 
 -- the record that a reading begins with where an offset is assumed: its hour and its minute
 abbrev pub beginning : Option ℤ → Record

@@ -4,7 +4,7 @@ ghost use Rattle.std.specs.Option.{ForSome, ForNone};
 ghost use Rattle.description_items.specs.Tree.{trees, listed};
 ghost use Rattle.description_tree.specs.Description.{v3_tree};
 ghost use Rattle.parsing_components.specs.Component.{reads_component, reads_component_v3};
-ghost use Rattle.parsing_record.specs.Reads.{reading, reading_of_all};
+ghost use Rattle.parsing_nodes.specs.Reads.{reading, reading_of_all};
 ghost use Rattle.parsing_places.specs.Windows.{LetsAt, TakeTwo, TakeOne, SpareTwo, SpareOne};
 ghost use Rattle.parsing_plan.specs.Layout.{HasNoOffset, HasNoClock, IsPrefix, IsPlain, HasRoom};
 ghost use Rattle.parsing_plan.specs.Windows.{LetText, LetYear, TakesOffset, SpareOffset, LetLastText, BeginsApart, SparesClock, SparesSign, TakesLastOffset};
@@ -16,8 +16,8 @@ use crate::plan::{Back, NEVER, OffsetPlaces, Places, Plan, Prefix};
 use crate::windows::{last_window_of, windows_of};
 use description_items::BorrowedFormatItem;
 use description_tree::FormatDescriptionV3;
+use parsing_nodes::{Node, NodeStep};
 use parsing_places::{LANES, LastBytes, Window, Windows};
-use parsing_record::{Node, NodeStep};
 use parsing_steps::Steps;
 
 // The places of an offset, or that there is none: `None` where it has hours or minutes alone, or the windows don't take it.

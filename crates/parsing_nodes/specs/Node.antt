@@ -1,8 +1,8 @@
 -- The tree of what a node is.
 use Rattle.std.specs.Prelude.{map}
 use Rattle.description_items.specs.Tree.{Tree, Literal, Part, Compound, Optional, First, listed}
-use Rattle.parsing_record.specs.declared.node.NodeStep.{NodeStep}
-use Rattle.parsing_record.specs.declared.node.NodeStep.TheVariants as step
+use Rattle.parsing_nodes.specs.declared.node.NodeStep.{NodeStep}
+use Rattle.parsing_nodes.specs.declared.node.NodeStep.TheVariants as step
 
 -- of the trees of the nodes inside it
 abbrev pub step_tree : {N : Type 0} → (N → Tree) → NodeStep N → Tree

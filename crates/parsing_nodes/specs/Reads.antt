@@ -4,8 +4,8 @@ use Rattle.description_items.specs.declared.component.Component.{Component}
 use Rattle.description_items.specs.Tree.{Tree, Trees, Literal, Part, Compound, Optional, First, none, also}
 use Rattle.parsing_combinator.specs.Readings.{Reading}
 use Rattle.parsing_components.specs.Read.{Read}
-use Rattle.parsing_record.specs.Record.{Record}
-use Rattle.parsing_record.specs.Meaning.{Meaning, Counted, meaning, alone, more, literally, unchanged, all_of, optionally, first_of}
+use Rattle.parsing_nodes.specs.Record.{Record}
+use Rattle.parsing_nodes.specs.Meaning.{Meaning, Counted, meaning, alone, more, literally, unchanged, all_of, optionally, first_of}
 pub use Rattle.parsing_components.specs.Put.{putting}
 
 -- what a component reads in the versions before 3 and in strftime, and in version 3

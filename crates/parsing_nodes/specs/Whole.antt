@@ -8,9 +8,9 @@ use Rattle.parsing_combinator.specs.declared.fault.Parse.{Parse}
 use Rattle.parsing_values.specs.NamedDate.{named_date}
 use Rattle.parsing_values.specs.NamedTime.{named_time, named_offset}
 use Rattle.parsing_values.specs.NamedMoment.{named_wall, named_moment, named_utc, named_timestamp}
-use Rattle.parsing_record.specs.Record.{Record, empty}
-use Rattle.parsing_record.specs.Parts.{date_parts, time_parts, offset_parts, moment_parts}
-use Rattle.parsing_record.specs.Meaning.{Answer, Meaning}
+use Rattle.parsing_nodes.specs.Record.{Record, empty}
+use Rattle.parsing_nodes.specs.Parts.{date_parts, time_parts, offset_parts, moment_parts}
+use Rattle.parsing_nodes.specs.Meaning.{Answer, Meaning}
 
 -- the rest and the record after it, or the fault and the record unchanged
 abbrev pub ReadsInto : Result (Bor (List ℕ)) Parse → Record → Record → Answer → Type 0

@@ -1,0 +1,8 @@
+//! The nodes of descriptions, and what a reading by them means: the record and the rest that it leaves, and the items that it begins.
+#![tactic(auto)]
+
+mod items;
+mod node;
+mod tree;
+
+pub use node::{Node, NodeStep};
