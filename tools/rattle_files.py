@@ -144,8 +144,13 @@ def file_of(path):
     parts = path.split(".")
     if parts[0] != "Rattle" or len(parts) < 4 or parts[2] != "specs" or "declared" in parts:
         return None
-    file = CRATES / parts[1] / "specs" / ("/".join(parts[3:]) + ".antt")
-    return file if file.exists() else None
+    folder = CRATES / parts[1] / "specs"
+    file = folder / ("/".join(parts[3:]) + ".antt")
+    if file.exists() or not (folder / "Lib.antt").exists():
+        return file if file.exists() else None
+    # (a crate gives on what another one has)
+    given_on = re.search(rf"^pub use (Rattle\.\w+\.specs\.{parts[-1]})$", (folder / "Lib.antt").read_text(), re.M)
+    return file_of(given_on[1]) if given_on else None
 
 
 def imports_in(text, keyword):

@@ -1,4 +1,5 @@
 pub mod CasedTables
+pub mod Few
 pub mod LetterCase
 pub mod Letters
 pub mod Nodes

@@ -14,10 +14,10 @@ use Rattle.parsing_rfc3339.specs.Direct.{direct}
 use Rattle.parsing_rfc3339.proofs.FastLemmas.{moment_read}
 use Rattle.parsing_rfc3339.proofs.StrictLemmas.{strict_is_in_range}
 use Rattle.parsing_parsable.specs.Staged.{reads_rfc3339}
-use Rattle.parsing_laws.specs.TwoRoads.{AgreeOn}
-use Rattle.parsing_laws.proofs.Rfc3339.{agree}
-use Rattle.parsing_laws.specs.TwoFormats.{HoldsAtMostAnOffset}
-use Rattle.parsing_laws.proofs.Assumed.{one_road, same_moment, two_formats}
+use Rattle.parsing_parsable.specs.TwoRoads.{AgreeOn, HoldsAtMostAnOffset}
+use Rattle.parsing_parsable.proofs.Rfc3339Roads.{agree}
+use Rattle.parsing_parsable.proofs.Assumed.{one_road}
+use Rattle.parsing_laws.proofs.Assumed.{same_moment, two_formats}
 use Rattle.instants_laws.proofs.Pieces.{date_read, any_read, clock_read, subsecond_read, zone_named, offset_read, offset_ends}
 use Rattle.instants_laws.proofs.Values.{day_named, time_named, offset_named}
 use Rattle.instants_laws.proofs.Bytes.{after_second, after_date, line_parts, both, unrounded}

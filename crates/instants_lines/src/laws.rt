@@ -25,7 +25,7 @@ ghost use Rattle.instants_lines_words.specs.declared.mode.Mode.{Mode};
 ghost use Rattle.instants_lines_words.specs.declared.mode.Mode.TheVariants.{Key, Carry, Explain};
 
 pub use instants_lines_words::laws::words_in_full;
-use parsing_laws::two_roads::{two_roads_of_rfc2822, two_roads_of_rfc3339};
+use parsing_parsable::laws::{two_roads_of_rfc2822, two_roads_of_rfc3339};
 
 /// What stands before and after the date of a line is unchanged where it is replaced, and between them stands the
 /// date-time, if its year is written. All other lines stay, and so does one whose date is in doubt.

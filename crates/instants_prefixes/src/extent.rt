@@ -7,7 +7,7 @@ ghost use Rattle.instants_prefixes.specs.Ends.{AreEnds, IsExtent, IsByTexts, Lea
 
 use crate::ends::Ends;
 use crate::nodes::length_read;
-use parsing_record::Node;
+use parsing_record::ReadsNode;
 
 /// How many bytes of a text are read by the items before the first that says something, by those up to the last that does,
 /// and by those and the texts after them.
@@ -33,7 +33,7 @@ fn by_texts(ends: &Ends, read: usize) -> Option<Extent>
 
 // By reading the text again.
 #[inline(never)]
-fn by_reading<N: Node>(nodes: &[N], ends: &Ends, text: &[u8]) -> Extent
+fn by_reading<N: ReadsNode>(nodes: &[N], ends: &Ends, text: &[u8]) -> Extent
     requires { AreEnds (map N.tree nodes.now) ends.now }
     ensures { IsExtent N.language (map N.tree nodes.now) text.now result }
 {
@@ -46,7 +46,7 @@ fn by_reading<N: Node>(nodes: &[N], ends: &Ends, text: &[u8]) -> Extent
 
 /// The extent of nodes in a text that they read up to the rest, by the lengths of the texts: `None` where these don't tell it.
 #[inline(always)]
-pub(crate) fn extent_by_texts<N: Node>(
+pub(crate) fn extent_by_texts<N: ReadsNode>(
     _nodes: &[N],
     ends: &Ends,
     text: &[u8],
@@ -64,7 +64,7 @@ pub(crate) fn extent_by_texts<N: Node>(
 
 /// The extent of nodes in a text that they read up to the rest.
 #[inline(always)]
-pub(crate) fn extent_of<N: Node>(nodes: &[N], ends: &Ends, text: &[u8], rest: &[u8]) -> Extent
+pub(crate) fn extent_of<N: ReadsNode>(nodes: &[N], ends: &Ends, text: &[u8], rest: &[u8]) -> Extent
     requires ends { AreEnds (map N.tree nodes.now) ends.now }
     requires read { LeavesAfter N.language (map N.tree nodes.now) text.now rest.now }
     ensures { IsExtent N.language (map N.tree nodes.now) text.now result }

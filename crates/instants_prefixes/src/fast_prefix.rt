@@ -8,7 +8,7 @@ ghost use Rattle.parsing_record.specs.Record.{empty};
 use instants_edges::byte_at;
 use instants_sources::fast_rfc3339;
 use parsing_fields::Fields;
-use parsing_laws::two_roads::two_roads_of_rfc3339;
+use parsing_parsable::laws::two_roads_of_rfc3339;
 
 // The bytes of a date and a time of day to the second.
 const SECONDS_END: usize = 19;

@@ -13,12 +13,12 @@ use crate::extent::{Extent, extent_by_texts, extent_of};
 use crate::prefix::Prefix;
 use description_tree::FormatDescriptionV3;
 use instants_sources::{Named, Source};
-use parsing_record::{Node, NodeStep};
+use parsing_record::{Node, NodeStep, ReadsNode};
 use std::slice;
 
 // The prefix of this extent that nodes read up to the rest of a text.
 #[inline(always)]
-fn prefix_of_extent<N: Node>(
+fn prefix_of_extent<N: ReadsNode>(
     _nodes: &[N],
     extent: Extent,
     text: &[u8],
@@ -36,7 +36,7 @@ fn prefix_of_extent<N: Node>(
 /// The prefix that nodes read up to the rest of a text, one after the other, by the lengths of the texts among them: `None`
 /// where these don't tell it.
 #[inline(always)]
-pub(crate) fn prefix_by_texts<N: Node>(
+pub(crate) fn prefix_by_texts<N: ReadsNode>(
     nodes: &[N],
     ends: &Ends,
     text: &[u8],
@@ -55,7 +55,7 @@ pub(crate) fn prefix_by_texts<N: Node>(
 
 /// The prefix that nodes read up to the rest of a text, one after the other.
 #[inline(always)]
-pub(crate) fn prefix_of_nodes<N: Node>(
+pub(crate) fn prefix_of_nodes<N: ReadsNode>(
     nodes: &[N],
     ends: &Ends,
     text: &[u8],

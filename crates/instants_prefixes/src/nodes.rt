@@ -7,12 +7,12 @@ ghost use Rattle.parsing_record.specs.Record.{empty};
 ghost use Rattle.instants_prefixes.specs.Answered.{Answered};
 ghost use Rattle.instants_prefixes.specs.Lengths.{length_by};
 
-use parsing_record::{Node, NodeStep, Parsed};
+use parsing_record::{NodeStep, Parsed, ReadsNode};
 
 // Reads by one node: `None` where it is refused, and then the record holds anything.
-#[tactic(auto, unfolding(parsing_record::specs::Reads::reads, parsing_record::specs::Meaning::optionally))]
+#[tactic(auto, unfolding(parsing_nodes::specs::Reads::reads, parsing_nodes::specs::Meaning::optionally))]
 #[cycle(reading)]
-fn read_node<'a, N: Node>(node: &N, input: &'a [u8], parsed: &mut Parsed) -> Option<&'a [u8]>
+fn read_node<'a, N: ReadsNode>(node: &N, input: &'a [u8], parsed: &mut Parsed) -> Option<&'a [u8]>
     ensures answer { Answered result parsed.new
         (reading N.language (N.tree node.now) parsed.old input.now) }
 {
@@ -26,9 +26,13 @@ fn read_node<'a, N: Node>(node: &N, input: &'a [u8], parsed: &mut Parsed) -> Opt
 }
 
 // Reads by the node, or leaves everything as it was.
-#[tactic(auto, unfolding(parsing_record::specs::Meaning::optionally))]
+#[tactic(auto, unfolding(parsing_nodes::specs::Meaning::optionally))]
 #[cycle(reading)]
-fn read_optional<'a, N: Node>(node: &N, input: &'a [u8], parsed: &mut Parsed) -> Option<&'a [u8]>
+fn read_optional<'a, N: ReadsNode>(
+    node: &N,
+    input: &'a [u8],
+    parsed: &mut Parsed,
+) -> Option<&'a [u8]>
     ensures answer { Answered result parsed.new
         (optionally (reads N.language (N.tree node.now)) parsed.old input.now).0 }
 {
@@ -44,7 +48,11 @@ fn read_optional<'a, N: Node>(node: &N, input: &'a [u8], parsed: &mut Parsed) ->
 
 // Reads by each node in turn.
 #[cycle(reading)]
-fn read_nodes<'a, N: Node>(nodes: &[N], input: &'a [u8], parsed: &mut Parsed) -> Option<&'a [u8]>
+fn read_nodes<'a, N: ReadsNode>(
+    nodes: &[N],
+    input: &'a [u8],
+    parsed: &mut Parsed,
+) -> Option<&'a [u8]>
     ensures answer { Answered result parsed.new
         (reading_of_all N.language (listed (map N.tree nodes.now)) parsed.old input.now) }
 {
@@ -60,7 +68,11 @@ fn read_nodes<'a, N: Node>(nodes: &[N], input: &'a [u8], parsed: &mut Parsed) ->
 
 // Reads by the first node that reads.
 #[cycle(reading)]
-fn read_first<'a, N: Node>(nodes: &[N], input: &'a [u8], parsed: &mut Parsed) -> Option<&'a [u8]>
+fn read_first<'a, N: ReadsNode>(
+    nodes: &[N],
+    input: &'a [u8],
+    parsed: &mut Parsed,
+) -> Option<&'a [u8]>
     ensures answer { Answered result parsed.new
         (first_of
         (each_reads N.language (listed (map N.tree nodes.now))) parsed.old
@@ -77,7 +89,7 @@ fn read_first<'a, N: Node>(nodes: &[N], input: &'a [u8], parsed: &mut Parsed) ->
 }
 
 /// How many bytes of a text the nodes read, one after the other.
-pub(crate) fn length_read<N: Node>(nodes: &[N], text: &[u8]) -> usize
+pub(crate) fn length_read<N: ReadsNode>(nodes: &[N], text: &[u8]) -> usize
     ensures { result ≡ length_by N.language text.now (map N.tree nodes.now) }
 {
     match read_nodes(nodes, text, &mut Parsed::new()) {

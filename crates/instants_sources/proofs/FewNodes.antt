@@ -2,7 +2,7 @@
 use Rattle.std.proofs.Common.{ℕ, ◌≤◌, List, Option, ℤ, arith}
 use Rattle.description_items.specs.Tree.{listed}
 use Rattle.parsing_components.specs.Component.{reads_component, reads_component_v3}
-use Rattle.parsing_laws.proofs.Tried.{tree_tried, in_turn_tried}
+use Rattle.parsing_parsable.proofs.Tried.{tree_tried, in_turn_tried}
 use Rattle.instants_sources.specs.Grammar.{Grammar, Items, V3, Rfc2822, Rfc3339, Iso8601}
 use Rattle.instants_sources.specs.Tried.{beginning, nodes_in, tried_by}
 

@@ -12,8 +12,7 @@ use Rattle.parsing_record.specs.Whole.{by_roads, whole, names, moment_named}
 use Rattle.parsing_iso8601.specs.Moment.{IsOfOffset}
 use Rattle.parsing_iso8601.proofs.Pieces.{same}
 use Rattle.parsing_parsable.specs.Staged.{reads_iso8601}
-use Rattle.parsing_laws.specs.TwoFormats.{HoldsAtMostAnOffset}
-use Rattle.parsing_laws.specs.TwoRoads.{AgreeOn}
+use Rattle.parsing_parsable.specs.TwoRoads.{AgreeOn, HoldsAtMostAnOffset}
 use Rattle.instants_sources.specs.Grammar.{Iso8601}
 use Rattle.instants_sources.specs.Named.{defaults_of, IsNamedBy}
 

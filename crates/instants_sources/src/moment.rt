@@ -14,7 +14,7 @@ use crate::source::Source;
 use calendar::UtcOffset;
 use datetime_types::OffsetDateTime;
 use parsing_fields::Fields;
-use parsing_laws::two_roads::{one_road_of_iso8601, two_roads_of_rfc2822, two_roads_of_rfc3339};
+use parsing_parsable::laws::{one_road_of_iso8601, two_roads_of_rfc2822, two_roads_of_rfc3339};
 use parsing_plan::{Places, Plan, UnixTime};
 
 /// The fields of the moment of a line of RFC 2822, where the fast way finds them, whatever offset is assumed: `None` says

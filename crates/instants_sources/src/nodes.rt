@@ -6,8 +6,7 @@ ghost use Rattle.instants_sources.specs.Tried.{nodes_in, tried_by};
 
 use crate::source::{Source, starting};
 use calendar::UtcOffset;
-use parsing_laws::{nodes_in_description, nodes_in_items};
-use parsing_parsable::{Items, Parsable};
+use parsing_parsable::{Items, Parsable, nodes_in_description, nodes_in_items};
 
 impl Source<'_> {
     /// How many nodes the source has: all of what it reads by; a well-known format is one. Where they are more

@@ -14,8 +14,8 @@ ghost use Rattle.parsing_record.specs.Whole.{by_roads};
 ghost use Rattle.parsing_rfc2822.specs.Direct as rfc2822;
 ghost use Rattle.parsing_rfc3339.specs.Direct as rfc3339;
 ghost use Rattle.parsing_parsable.specs.Staged.{reads_rfc2822, reads_rfc3339};
-ghost use Rattle.parsing_laws.specs.TwoFormats.{HoldsAtMostAnOffset, IsReadAlike};
-ghost use Rattle.parsing_laws.specs.TwoRoads.{AgreeOn};
+ghost use Rattle.parsing_parsable.specs.TwoRoads.{AgreeOn, HoldsAtMostAnOffset};
+ghost use Rattle.parsing_laws.specs.TwoFormats.{IsReadAlike};
 ghost use Rattle.parsing.specs.Laws.{HasOneInstant};
 
 pub use parsing_laws::node_laws::{few_nodes, tried_at_most_nodes};
@@ -34,8 +34,8 @@ pub fn two_roads()
     ensures rfc3339 { (bytes : List ℕ) → AgreeOn rfc3339.direct reads_rfc3339 bytes }
     ensures rfc2822 { (bytes : List ℕ) → AgreeOn rfc2822.direct reads_rfc2822 bytes }
 {
-    parsing_laws::two_roads::two_roads_of_rfc3339();
-    parsing_laws::two_roads::two_roads_of_rfc2822();
+    parsing_parsable::laws::two_roads_of_rfc3339();
+    parsing_parsable::laws::two_roads_of_rfc2822();
 }
 
 /// Where RFC 3339 names a moment for a text, ISO 8601 names one exactly if a `T` stands between date and time, a `Z` is

@@ -30,7 +30,6 @@ pub mod laws;
 pub use description_items::{Iso8601, Rfc2822, Rfc3339};
 pub use error::Error;
 pub use parsing_combinator::{Parse, ParseFromDescription, TryFromParsed};
-pub use parsing_laws::{nodes_in_description, nodes_in_items};
-pub use parsing_parsable::{Items, Parsable, TwoRoads};
+pub use parsing_parsable::{Items, Parsable, TwoRoads, nodes_in_description, nodes_in_items};
 pub use parsing_record::Parsed;
 pub use parsing_values::is_valid_leap_second_stand_in;

@@ -6,8 +6,8 @@ use Rattle.parsing_fields.specs.Moment as Moment
 use Rattle.parsing_fields.specs.Numbers.{HaveNumbers}
 use Rattle.parsing_places.specs.Says.{SaysNumbers}
 use Rattle.parsing_places.specs.declared.numbers.Numbers.{Numbers}
-use Rattle.parsing_fractions.specs.Shortened.{SaysShortened, without}
-use Rattle.parsing_fractions.proofs.LongLemmas.{shape_kept, year_kept, numbers_kept, after_kept, end_kept, count_kept, point_kept, fraction_kept}
+use Rattle.parsing_places.specs.Shortened.{SaysShortened, without}
+use Rattle.parsing_places.proofs.LongLemmas.{shape_kept, year_kept, numbers_kept, after_kept, end_kept, count_kept, point_kept, fraction_kept}
 use Rattle.parsing_iso8601.specs.Forms.{NamesDate}
 use Rattle.parsing_iso8601.specs.Fractions.{next_if}
 use Rattle.parsing_iso8601.specs.Moment.{IsOfOffset}

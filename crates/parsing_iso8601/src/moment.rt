@@ -11,8 +11,7 @@ use crate::form::{Dating, Form};
 use crate::forms::{form_at, form_of};
 use parsing_combinator::nine_digits;
 use parsing_fields::{Fields, Fraction};
-use parsing_fractions::read_long;
-use parsing_places::{LANES, Numbers, read_numbers};
+use parsing_places::{LANES, Numbers, read_long, read_numbers};
 use parsing_values::OffsetDateTime;
 
 // The fields of the numbers of a text, where their date is one of a form.

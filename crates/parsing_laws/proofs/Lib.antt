@@ -1,13 +1,8 @@
 pub mod Assumed
 pub mod Inversion
-pub mod Iso8601
 pub mod Moments
 pub mod NearTimes
-pub mod Numbers
-pub mod Parts
 pub mod Places
-pub mod Rfc2822
-pub mod Rfc3339
 pub mod RfcPieces
 pub mod SameDates
 pub mod SameOffsets
@@ -16,6 +11,3 @@ pub mod Alike
 pub mod ItemLemmas
 pub mod InTurn
 pub mod Letters
-pub mod Counting
-pub mod Few
-pub mod Tried

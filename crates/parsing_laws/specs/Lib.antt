@@ -1,4 +1,3 @@
 pub mod TwoFormats
-pub mod TwoRoads
 pub mod Joined
 pub mod TwoVersions

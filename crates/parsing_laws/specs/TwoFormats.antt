@@ -1,5 +1,5 @@
 -- Texts of RFC 3339 as ISO 8601 reads them, with an assumed offset or none. The date has ten bytes, the time to the second ends after byte 18, and the zone is last.
-use Rattle.std.specs.Prelude.{◌≡◌, ℕ, ◌-◌, ◌*◌, ◌%◌, ◌^◌, ◌==◌, ◌&&◌, Bool, true, false, not, List, [], length, get_or, take, drop, Option, Some, None, nat_le, if◌then◌else◌, Ok, IfSome, pos, ◌+ℤ◌}
+use Rattle.std.specs.Prelude.{◌≡◌, ℕ, ◌-◌, ◌*◌, ◌%◌, ◌^◌, ◌==◌, ◌&&◌, Bool, true, false, not, List, [], length, get_or, take, drop, Option, Some, None, nat_le, if◌then◌else◌, Ok, pos, ◌+ℤ◌}
 use Rattle.std.specs.Result.{IsErr}
 use Rattle.std.specs.Str.Parse.{digits_value}
 use Rattle.base.specs.Bytes.{dot, lower_z}
@@ -9,7 +9,6 @@ use Rattle.parsing_iso8601.specs.Designators.{time_designator}
 use Rattle.parsing_record.specs.Record.{Record}
 use Rattle.parsing_record.specs.Whole.{whole, names, moment_named}
 use Rattle.parsing_parsable.specs.Staged.{reads_iso8601}
-use Rattle.parsing_laws.specs.TwoRoads.{holding}
 
 -- the byte between date and time
 abbrev pub separator : List ℕ → ℕ
@@ -47,10 +46,6 @@ is_of_both bytes =
 abbrev pub rounded : List ℕ → Shown → Shown
 rounded bytes m =
     if rounds_up (fraction_of bytes) && not (second_of bytes == 60) then record { wall = m.wall +ℤ pos 1; offset = m.offset } else m
-
--- no defaults, or an assumed offset alone
-abbrev pub HoldsAtMostAnOffset : Option Record → Type 0
-HoldsAtMostAnOffset defaults = IfSome defaults (λ r. r ≡ holding r.offset_hour r.offset_minute)
 
 -- what ISO 8601 makes of a text for which RFC 3339 names a moment, with the same defaults
 pub record IsReadAlike (defaults : Option Record) (bytes : List ℕ) (m : Shown) : Type 0 where

@@ -4,7 +4,6 @@
 
 pub mod descriptions;
 pub mod node_laws;
-mod nodes;
 pub mod two_roads;
 
-pub use nodes::{nodes_in_description, nodes_in_items};
+pub use parsing_parsable::{nodes_in_description, nodes_in_items};

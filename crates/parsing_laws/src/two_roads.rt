@@ -1,36 +1,14 @@
-//! Laws that follow from the definitions, each the contract of a function here.
+//! What the readings of two formats have to do with one another, beside the laws on both ways to read one.
 ghost use Rattle.std.specs.Prelude.{◌≡◌, ℕ, List, Option, Ok};
 ghost use Rattle.datetime_wall.specs.Wall.{Shown};
-ghost use Rattle.parsing_iso8601.specs.Moment.{IsOfOffset};
 ghost use Rattle.parsing_record.specs.Record.{Record};
-ghost use Rattle.parsing_record.specs.Whole.{by_roads, whole, names, moment_named};
+ghost use Rattle.parsing_record.specs.Whole.{by_roads};
 ghost use Rattle.parsing_rfc3339.specs.Direct as rfc3339;
-ghost use Rattle.parsing_rfc2822.specs.Direct as rfc2822;
-ghost use Rattle.parsing_parsable.specs.Staged.{reads_rfc3339, reads_rfc2822, reads_iso8601};
-ghost use Rattle.parsing_laws.specs.TwoFormats.{HoldsAtMostAnOffset, IsReadAlike};
-ghost use Rattle.parsing_laws.specs.TwoRoads.{AgreeOn};
+ghost use Rattle.parsing_parsable.specs.Staged.{reads_rfc3339};
+ghost use Rattle.parsing_parsable.specs.TwoRoads.{HoldsAtMostAnOffset};
+ghost use Rattle.parsing_laws.specs.TwoFormats.{IsReadAlike};
 
-/// RFC 3339: a text names a moment directly exactly where it names one by a record, and then it is the same one.
-pub fn two_roads_of_rfc3339()
-    ensures { (bytes : List ℕ) → AgreeOn rfc3339.direct reads_rfc3339 bytes }
-{
-    parsing_rfc3339::laws::strict_reading();
-}
-
-/// RFC 2822: a text names a moment directly exactly where it names one by a record, and then it is the same one.
-pub fn two_roads_of_rfc2822()
-    ensures { (bytes : List ℕ) → AgreeOn rfc2822.direct reads_rfc2822 bytes }
-{
-    parsing_rfc2822::laws::strict_reading();
-}
-
-/// ISO 8601: the moment that the parts of a text with an offset name is that of the record which the text sets, beginning
-/// without any field or with an assumed offset.
-pub fn one_road_of_iso8601()
-    ensures { (bytes : List ℕ) (m : Shown) → IsOfOffset bytes m →
-        (defaults : Option Record) → HoldsAtMostAnOffset defaults →
-        names moment_named (whole reads_iso8601 defaults bytes) ≡ Ok m }
-{}
+pub use parsing_parsable::laws::{one_road_of_iso8601, two_roads_of_rfc2822, two_roads_of_rfc3339};
 
 /// Where RFC 3339 names a moment for a text, ISO 8601 names one exactly if a `T` stands between date and time, a `Z` is
 /// no small letter, and the fraction does not round up to a whole second. It is the same moment, or the next nanosecond

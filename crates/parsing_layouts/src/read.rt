@@ -4,11 +4,11 @@ ghost use Rattle.std.specs.Option.{ForSome, ForNone};
 ghost use Rattle.calendar_count.specs.Calendar.{IsDay};
 ghost use Rattle.parsing_combinator.specs.Pieces.{digits};
 ghost use Rattle.parsing_fields.specs.Moment.{moment_of};
-ghost use Rattle.parsing_record.specs.Meaning.{Meaning};
-ghost use Rattle.parsing_record.specs.Whole.{offset_named};
+ghost use Rattle.parsing_nodes.specs.Meaning.{Meaning};
+ghost use Rattle.parsing_nodes.specs.Whole.{offset_named};
 ghost use Rattle.parsing_layouts.specs.Layout.{HasNoOffset, IsPrefix};
 ghost use Rattle.parsing_layouts.specs.Parts.{AreLetters, HasName, IsWeekday, WritesAt, WritesDay, WritesOffset, SaysMonth, SaysWeekday, SaysDate, SaysClock, SaysFraction, SaysOffset, HasSpaced};
-ghost use Rattle.parsing_record.specs.Prefix.{NamesPrefix, beginning};
+ghost use Rattle.parsing_nodes.specs.Prefix.{NamesPrefix, beginning};
 ghost use Rattle.parsing_layouts.specs.Sums.{HasSums, HasOffsetSums};
 ghost use Rattle.parsing_layouts.specs.Windows.{SpareOffset};
 ghost use Rattle.parsing_layouts.specs.declared.layout.Layout.{Layout};
@@ -19,7 +19,7 @@ use crate::sums::{Sums, split_sums_of, sums_of};
 use calendar::{Month, UtcOffset};
 use parsing_fields::{Fields, Fraction, Year, has_day};
 use parsing_places::{LANES, signed};
-use parsing_record::assumed_minutes;
+use parsing_nodes::assumed_minutes;
 use std::simd::prelude::*;
 
 // `Oct`, `Feb`, `Dec`, `Jul`, `Nov`, `Jan`, `Jun`, `May`, `Sep`, `Aug`, `Mar`, `Apr`, in one number each, the first letter

@@ -1,1 +1,9 @@
+pub mod Assumed
+pub mod Counting
+pub mod Iso8601Road
+pub mod Rfc2822Roads
+pub mod Rfc3339Roads
+pub mod RoadNumbers
+pub mod RoadParts
 pub mod TameLemmas
+pub mod Tried

@@ -1,3 +1,4 @@
 pub mod Put
 pub mod Staged
 pub mod Moment
+pub mod TwoRoads

@@ -6,6 +6,8 @@ mod by_items;
 mod by_reference;
 mod by_tree;
 mod iso8601;
+pub mod laws;
+mod nodes;
 mod parsable;
 mod rfc2822;
 mod rfc3339;
@@ -14,6 +16,7 @@ mod zone;
 
 pub use by_items::Items;
 pub use iso8601::read_iso8601;
+pub use nodes::{nodes_in_description, nodes_in_items};
 pub use parsable::Parsable;
 pub use rfc2822::read_rfc2822;
 pub use rfc3339::read_rfc3339;

@@ -5,6 +5,7 @@ pub mod Last
 pub mod Numbers
 pub mod Says
 pub mod Shape
+pub mod Shortened
 pub mod Stamp
 pub mod Tail
 pub mod Text

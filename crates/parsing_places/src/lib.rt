@@ -9,6 +9,7 @@
 mod ending;
 mod lanes;
 mod last;
+mod long;
 mod named;
 mod numbers;
 mod parts;
@@ -21,6 +22,7 @@ mod windows;
 
 pub use lanes::{LANES, Moves, joined, paired, sums};
 pub use last::{LastBytes, fraction_of};
+pub use long::read_long;
 pub use named::NamedShape;
 pub use numbers::Numbers;
 pub use parts::signed;

@@ -5,11 +5,11 @@ ghost use Rattle.description_tree.specs.Description.{v3_tree};
 ghost use Rattle.parsing_combinator.specs.Tame.{EndsWith};
 ghost use Rattle.parsing_components.specs.Component.{reads_component, reads_component_v3};
 ghost use Rattle.parsing_fields.specs.Moment.{moment_of};
-ghost use Rattle.parsing_record.specs.Meaning.{Meaning};
-ghost use Rattle.parsing_record.specs.Prefix.{NamesPrefix, beginning};
-ghost use Rattle.parsing_record.specs.Reads.{reading, reading_of_all};
-ghost use Rattle.parsing_record.specs.Record.{Record};
-ghost use Rattle.parsing_record.specs.Whole.{whole, names, moment_named, starting};
+ghost use Rattle.parsing_nodes.specs.Meaning.{Meaning};
+ghost use Rattle.parsing_nodes.specs.Prefix.{NamesPrefix, beginning};
+ghost use Rattle.parsing_nodes.specs.Reads.{reading, reading_of_all};
+ghost use Rattle.parsing_nodes.specs.Record.{Record};
+ghost use Rattle.parsing_nodes.specs.Whole.{whole, names, moment_named, starting};
 ghost use Rattle.parsing_plan.specs.Plan.{IsPlanOf};
 
 use calendar::UtcOffset;
@@ -17,7 +17,7 @@ use description_items::BorrowedFormatItem;
 use description_tree::FormatDescriptionV3;
 use parsing_fields::Fields;
 use parsing_layouts::{Places, UnixTime};
-use parsing_record::{Node, NodeStep};
+use parsing_nodes::{Node, NodeStep};
 use parsing_steps::Steps;
 
 /// How lines of a description are read at once.

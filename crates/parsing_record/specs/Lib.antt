@@ -1,8 +1,8 @@
-pub mod Record
-pub mod Parts
-pub mod Meaning
-pub mod Reads
+pub use Rattle.parsing_nodes.specs.Record
+pub use Rattle.parsing_nodes.specs.Parts
+pub use Rattle.parsing_nodes.specs.Meaning
+pub use Rattle.parsing_nodes.specs.Reads
 pub mod Tally
-pub mod Whole
-pub mod Node
-pub mod Prefix
+pub use Rattle.parsing_nodes.specs.Whole
+pub use Rattle.parsing_nodes.specs.Node
+pub use Rattle.parsing_nodes.specs.Prefix

@@ -3,10 +3,10 @@ ghost use Rattle.std.specs.Prelude.{◌≡◌, Ok, IfSome};
 ghost use Rattle.description_items.specs.Tree.{tree_of, trees, listed};
 ghost use Rattle.parsing_combinator.specs.FaultOf.{Gives, reading_fault};
 ghost use Rattle.parsing_components.specs.Component.{reads_component, reads_component_v3};
-ghost use Rattle.parsing_record.specs.Meaning.{Reads, literally};
-ghost use Rattle.parsing_record.specs.Reads.{putting, reading, reading_of_all, tried, tried_in_all};
+ghost use Rattle.parsing_nodes.specs.Meaning.{Reads, literally};
+ghost use Rattle.parsing_nodes.specs.Reads.{putting, reading, reading_of_all, tried, tried_in_all};
 
-use crate::node::{Node, NodeStep};
+use crate::node::ReadsNode;
 use crate::parsed::Parsed;
 use crate::reading::{read_node, read_nodes};
 use crate::tally::{NoTally, Tally};
@@ -17,7 +17,7 @@ use parsing_components::{read_component, read_component_v3, read_usual};
 impl Parsed {
     /// The bytes after the literal, which have to begin with it: `InvalidLiteral` where they do not.
     #[inline(always)]
-    #[tactic(auto, unfolding(crate::specs::Meaning::literally))]
+    #[tactic(auto, unfolding(parsing_nodes::specs::Meaning::literally))]
     pub fn parse_literal<'a>(
         input: &'a [u8],
         literal: &[u8],
@@ -135,7 +135,7 @@ impl Parsed {
 
 // The bytes after a literal of one byte: `None` says nothing of others.
 #[inline(always)]
-#[tactic(auto, unfolding(crate::specs::Meaning::literally))]
+#[tactic(auto, unfolding(parsing_nodes::specs::Meaning::literally))]
 pub(crate) fn after_byte<'a>(literal: &[u8], input: &'a [u8]) -> Option<&'a [u8]>
     ensures { IfSome result (λ rest. literally literal.now input.now ≡ Ok (tt, rest.now)) }
 {
@@ -145,27 +145,7 @@ pub(crate) fn after_byte<'a>(literal: &[u8], input: &'a [u8]) -> Option<&'a [u8]
     }
 }
 
-impl Node for BorrowedFormatItem<'_> {
-    ghost use Rattle.description_items.specs.Tree.{tree_of};
-    ghost use Rattle.parsing_components.specs.Component.{reads_component};
-
-    ghost language = { reads_component };
-
-    ghost is_either = { λ _ older _. older };
-
-    ghost tree = { tree_of };
-
-    fn step(&self) -> NodeStep<'_, Self> {
-        match self {
-            BorrowedFormatItem::Literal(literal) => NodeStep::Literal(literal),
-            BorrowedFormatItem::StringLiteral(literal) => NodeStep::Literal(literal.as_bytes()),
-            BorrowedFormatItem::Component(component) => NodeStep::Component(*component),
-            BorrowedFormatItem::Compound(items) => NodeStep::Compound(items),
-            BorrowedFormatItem::Optional(item) => NodeStep::Optional(true, item),
-            BorrowedFormatItem::First(items) => NodeStep::First(items),
-        }
-    }
-
+impl ReadsNode for BorrowedFormatItem<'_> {
     #[inline(always)]
     fn read_component<'a>(
         component: Component,
@@ -179,7 +159,7 @@ impl Node for BorrowedFormatItem<'_> {
     }
 
     #[inline(always)]
-    #[tactic(auto, unfolding(crate::specs::Reads::reads))]
+    #[tactic(auto, unfolding(parsing_nodes::specs::Reads::reads))]
     fn read_fast<'a>(&self, input: &'a [u8], parsed: &mut Parsed) -> Option<&'a [u8]> {
         match self {
             BorrowedFormatItem::Literal(literal) => after_byte(literal, input),

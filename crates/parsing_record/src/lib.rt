@@ -1,7 +1,6 @@
 //! The record of components that a description or a format reads into, and reading by items and trees.
 #![tactic(auto)]
 
-mod assumed;
 mod clock;
 mod conversions;
 mod days;
@@ -15,8 +14,8 @@ mod tree;
 mod usual;
 mod years;
 
-pub use assumed::assumed_minutes;
-pub use node::{Node, NodeStep};
+pub use node::ReadsNode;
 pub use parsed::Parsed;
+pub use parsing_nodes::{Node, NodeStep};
 pub use tally::{ItemTally, NoTally, Tally};
 pub use tree::parse_tree;

@@ -1,18 +1,19 @@
 //! Reading by nodes, whatever kind they are of.
 ghost use Rattle.std.specs.Prelude.{map};
 ghost use Rattle.description_items.specs.Tree.{listed};
-ghost use Rattle.parsing_record.specs.Meaning.{Answers, optionally, first_of};
-ghost use Rattle.parsing_record.specs.Reads.{reads, reading, reading_of_all, each_reads, tried, tried_in_all};
+ghost use Rattle.parsing_nodes.specs.Meaning.{Answers, optionally, first_of};
+ghost use Rattle.parsing_nodes.specs.Reads.{reads, reading, reading_of_all, each_reads, tried, tried_in_all};
 
-use crate::node::{Node, NodeStep};
+use crate::node::ReadsNode;
 use crate::parsed::Parsed;
 use crate::tally::Tally;
 use parsing_combinator::ParseFromDescription;
+use parsing_nodes::NodeStep;
 
 // Reads by one node, the fast way where it has one.
 #[inline(always)]
 #[cycle(reading)]
-fn read_next<'a, N: Node, T: Tally>(
+fn read_next<'a, N: ReadsNode, T: Tally>(
     node: &N,
     input: &'a [u8],
     parsed: &mut Parsed,
@@ -31,9 +32,9 @@ fn read_next<'a, N: Node, T: Tally>(
 }
 
 /// Reads by one node, and tells the tally; a refusal leaves what was read before it in the record.
-#[tactic(auto, unfolding(crate::specs::Reads::reads, crate::specs::Meaning::optionally))]
+#[tactic(auto, unfolding(parsing_nodes::specs::Reads::reads, parsing_nodes::specs::Meaning::optionally))]
 #[cycle(reading)]
-pub(crate) fn read_node<'a, N: Node, T: Tally>(
+pub(crate) fn read_node<'a, N: ReadsNode, T: Tally>(
     node: &N,
     input: &'a [u8],
     parsed: &mut Parsed,
@@ -55,9 +56,9 @@ pub(crate) fn read_node<'a, N: Node, T: Tally>(
 }
 
 // Reads by the node, or leaves everything as it was.
-#[tactic(auto, unfolding(crate::specs::Meaning::optionally))]
+#[tactic(auto, unfolding(parsing_nodes::specs::Meaning::optionally))]
 #[cycle(reading)]
-fn read_optional<'a, N: Node, T: Tally>(
+fn read_optional<'a, N: ReadsNode, T: Tally>(
     node: &N,
     input: &'a [u8],
     parsed: &mut Parsed,
@@ -80,7 +81,7 @@ fn read_optional<'a, N: Node, T: Tally>(
 
 /// Reads by each node in turn; a refusal leaves what was read before it in the record.
 #[cycle(reading)]
-pub(crate) fn read_nodes<'a, N: Node, T: Tally>(
+pub(crate) fn read_nodes<'a, N: ReadsNode, T: Tally>(
     nodes: &[N],
     input: &'a [u8],
     parsed: &mut Parsed,
@@ -100,7 +101,7 @@ pub(crate) fn read_nodes<'a, N: Node, T: Tally>(
 
 // Reads by the first node that reads.
 #[cycle(reading)]
-fn read_first<'a, N: Node, T: Tally>(
+fn read_first<'a, N: ReadsNode, T: Tally>(
     nodes: &[N],
     input: &'a [u8],
     parsed: &mut Parsed,

@@ -4,11 +4,11 @@ ghost use Rattle.description_items.specs.Tree.{Part};
 ghost use Rattle.description_tree.specs.Description.{v3_tree};
 ghost use Rattle.description_tree.specs.Inner.{inner_tree};
 ghost use Rattle.parsing_components.specs.Component.{reads_component_v3};
-ghost use Rattle.parsing_record.specs.Meaning.{Reads};
-ghost use Rattle.parsing_record.specs.Reads.{putting, reading, tried};
+ghost use Rattle.parsing_nodes.specs.Meaning.{Reads};
+ghost use Rattle.parsing_nodes.specs.Reads.{putting, reading, tried};
 
 use crate::items::after_byte;
-use crate::node::{Node, NodeStep};
+use crate::node::ReadsNode;
 use crate::parsed::Parsed;
 use crate::reading::read_node;
 use crate::tally::Tally;
@@ -60,33 +60,7 @@ fn usual_component(node: &Inner<'_>) -> Option<Component>
     Some(component)
 }
 
-impl Node for Inner<'_> {
-    ghost use Rattle.description_tree.specs.Inner.{inner_tree};
-    ghost use Rattle.parsing_components.specs.Component.{reads_component_v3};
-
-    ghost language = { reads_component_v3 };
-
-    ghost is_either = { λ _ _ newer. newer };
-
-    ghost tree = { inner_tree };
-
-    fn step(&self) -> NodeStep<'_, Self> {
-        if let Some(component) = self.component() {
-            return NodeStep::Component(component);
-        }
-        match self {
-            Inner::BorrowedLiteral(text) => NodeStep::Literal(text.as_bytes()),
-            Inner::OwnedLiteral(text) => NodeStep::Literal(text.as_bytes()),
-            Inner::BorrowedCompound(lent) => NodeStep::Compound(lent.items),
-            Inner::OwnedCompound(nodes) => NodeStep::Compound(nodes),
-            Inner::BorrowedOptional { format, item } => NodeStep::Optional(*format, item),
-            Inner::OwnedOptional { format, item } => NodeStep::Optional(*format, item),
-            Inner::BorrowedFirst(lent) => NodeStep::First(lent.items),
-            Inner::OwnedFirst(nodes) => NodeStep::First(nodes),
-            _ => unreachable!(),
-        }
-    }
-
+impl ReadsNode for Inner<'_> {
     #[inline(always)]
     fn read_component<'a>(
         component: Component,
@@ -100,7 +74,7 @@ impl Node for Inner<'_> {
     }
 
     #[inline(always)]
-    #[tactic(auto, unfolding(crate::specs::Reads::reads))]
+    #[tactic(auto, unfolding(parsing_nodes::specs::Reads::reads))]
     fn read_fast<'a>(&self, input: &'a [u8], parsed: &mut Parsed) -> Option<&'a [u8]> {
         if let Inner::BorrowedLiteral(text) = self {
             return after_byte(text.as_bytes(), input);

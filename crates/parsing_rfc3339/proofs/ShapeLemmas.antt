@@ -15,11 +15,11 @@ use Rattle.parsing_places.specs.Numbers.{LieIn, HasShape, HasNumbers}
 use Rattle.parsing_places.specs.Says.{Says}
 use Rattle.parsing_places.specs.declared.numbers.Numbers.{Numbers}
 use Rattle.parsing_places.specs.declared.shape.Shape.{Shape}
-use Rattle.parsing_fractions.specs.Shortened.{without, SaysShortened}
-use Rattle.parsing_fractions.proofs.KeptLemmas.{same_byte, written_kept}
-use Rattle.parsing_fractions.proofs.NumberLemmas.{last_digit, has_shape, year_is, has_numbers}
+use Rattle.parsing_places.specs.Shortened.{without, SaysShortened}
+use Rattle.parsing_places.proofs.KeptLemmas.{same_byte, written_kept}
+use Rattle.parsing_places.proofs.KeptNumbers.{last_digit, has_shape, year_is, has_numbers}
 use Rattle.parsing_values.specs.Resolution.{signed_offset_of}
-use Rattle.parsing_fractions.proofs.LongLemmas.{shape_kept, year_kept, numbers_kept, after_kept, end_kept, point_kept, fraction_kept}
+use Rattle.parsing_places.proofs.LongLemmas.{shape_kept, year_kept, numbers_kept, after_kept, end_kept, point_kept, fraction_kept}
 use Rattle.parsing_fields.specs.Numbers.{HaveNumbers}
 use Rattle.parsing_places.proofs.YearLemmas.{byte_in}
 use Rattle.parsing_rfc3339.specs.Direct.{direct}

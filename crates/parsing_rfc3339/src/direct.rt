@@ -13,8 +13,7 @@ use crate::reading::parse_prefix;
 use crate::shape::shape;
 use parsing_combinator::{Parse, ParseFromDescription, four_digits};
 use parsing_fields::Fields;
-use parsing_fractions::read_long;
-use parsing_places::read;
+use parsing_places::{read, read_long};
 use parsing_values::{OffsetDateTime, leap_checked, resolve};
 
 // The moment of the numbers that a text has, with what follows them.

@@ -5,9 +5,9 @@ use datetime_types::WallClock;
 use description::{Description, DescriptionVersion, parse_borrowed, parse_strftime_borrowed};
 use parsing_combinator::digit_chunk;
 use parsing_fields::{Fields, Fraction, Year, digit_pair, minute_of_day, signed_minutes};
-use parsing_fractions::read_long;
 use parsing_places::{
-    Moves, NamedShape, Number, Numbers, Shape, Window, Windows, read, read_numbers, read_stamp,
+    Moves, NamedShape, Number, Numbers, Shape, Window, Windows, read, read_long, read_numbers,
+    read_stamp,
 };
 use parsing_plan::Plan;
 use parsing_steps::Steps;

@@ -2,7 +2,7 @@
 ghost use Rattle.std.specs.Prelude.{◌≡◌, ◌+◌, ◌≤◌, ◌<◌, true, false, Some, None, map, IfSome, IsSome};
 ghost use Rattle.std.specs.Option.{ForSome, ForNone};
 ghost use Rattle.description_items.specs.Tree.{listed};
-ghost use Rattle.parsing_record.specs.Reads.{reading_of_all};
+ghost use Rattle.parsing_nodes.specs.Reads.{reading_of_all};
 ghost use Rattle.parsing_places.specs.Windows.{LetsAt, TakeTwo, TakeOne, SpareTwo, SpareOne};
 ghost use Rattle.parsing_layouts.specs.Layout.{HasNoOffset, HasNoClock, IsPrefix, IsPlain, HasRoom};
 ghost use Rattle.parsing_layouts.specs.Windows.{LetText, LetYear, TakesOffset, SpareOffset, LetLastText, BeginsApart, SparesClock, SparesSign, TakesLastOffset};
@@ -13,7 +13,7 @@ use crate::layout::{LENGTH, Layout};
 use crate::places::{Back, NEVER, OffsetPlaces, Places, Prefix};
 use crate::windows::{last_window_of, windows_of};
 use parsing_places::{LANES, LastBytes, Window, Windows};
-use parsing_record::Node;
+use parsing_nodes::Node;
 
 // The places of an offset, or that there is none: `None` where it has hours or minutes alone, or the windows don't take it.
 fn offset_of(layout: &Layout, windows: &Windows) -> Option<Option<OffsetPlaces>>

@@ -2,7 +2,7 @@ use Rattle.std.proofs.Common.{arith}
 use Rattle.description_items.specs.Tree.{trees}
 use Rattle.description_tree.specs.Description.{v3_tree}
 use Rattle.description.proofs.Nodes.{tree_nodes}
-use Rattle.parsing_laws.proofs.Few.{items_few}
+use Rattle.description.proofs.Few.{items_few}
 use Rattle.instants_sources.proofs.source.described.Goals as goal
 
 pub returns-in-Items-clause-few : goal.returns-in-Items-clause-few

@@ -1,6 +1,6 @@
 use Rattle.std.proofs.Common.{◌+◌, arith}
 use Rattle.std.proofs.lemmas.List.{take_rest}
-use Rattle.parsing_fractions.proofs.LongLemmas.{nine_read}
+use Rattle.parsing_places.proofs.LongLemmas.{nine_read}
 use Rattle.parsing_iso8601.proofs.ReadLemmas.{long_directly}
 use Rattle.parsing_iso8601.proofs.moment.read_long_form.Goals as goal
 

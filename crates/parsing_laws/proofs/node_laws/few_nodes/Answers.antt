@@ -1,4 +1,4 @@
-use Rattle.parsing_laws.proofs.Few.{items_few, letters_single}
+use Rattle.description.proofs.Few.{items_few, letters_single}
 use Rattle.parsing_laws.proofs.node_laws.few_nodes.Goals as goal
 
 pub returns-clause-items : goal.returns-clause-items

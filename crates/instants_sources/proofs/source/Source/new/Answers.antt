@@ -1,7 +1,7 @@
 use Rattle.std.proofs.Common.{arith}
 use Rattle.std.proofs.lemmas.List.{length-map}
 use Rattle.description_items.specs.Tree.{tree_of, trees}
-use Rattle.parsing_laws.proofs.Few.{letters_single}
+use Rattle.description.proofs.Few.{letters_single}
 use Rattle.instants_sources.proofs.source.Source.new.Goals as goal
 
 pub returns-in_ok-items-in-Strftime-clause-few : goal.returns-in_ok-items-in-Strftime-clause-few

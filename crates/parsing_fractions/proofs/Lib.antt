@@ -1,3 +1,0 @@
-pub mod KeptLemmas
-pub mod NumberLemmas
-pub mod LongLemmas

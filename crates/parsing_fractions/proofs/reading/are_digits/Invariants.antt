@@ -1,6 +1,0 @@
-use Rattle.std.proofs.Common.{◌≤◌, ◌+◌, drop}
-use Rattle.parsing_combinator.specs.Pieces.{digit_count}
-use Rattle.parsing_fractions.proofs.reading.are_digits.Given as goal
-
-abbrev pub invariant-loop-place : goal.invariant-loop-place
-invariant-loop-place l = l.place ≤ l.from + digit_count (drop l.from l.text)

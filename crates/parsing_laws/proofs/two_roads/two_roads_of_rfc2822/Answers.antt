@@ -1,5 +1,0 @@
-use Rattle.parsing_laws.proofs.Rfc2822.{agree}
-use Rattle.parsing_laws.proofs.two_roads.two_roads_of_rfc2822.Goals as goal
-
-pub returns : goal.returns
-returns c = λ bytes. agree bytes (c.strict_reading.ensures bytes)
