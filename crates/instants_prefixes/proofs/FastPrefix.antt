@@ -14,7 +14,7 @@ use Rattle.parsing_rfc3339.proofs.PrefixLemmas.{prefix_read}
 use Rattle.parsing_parsable.specs.Put.{put_rfc3339}
 use Rattle.parsing_parsable.specs.Staged.{reads_rfc3339}
 use Rattle.parsing_record.specs.Prefix.{NamesPrefix}
-use Rattle.parsing_laws.specs.TwoRoads.{AgreeOn}
+use Rattle.parsing_parsable.specs.TwoRoads.{AgreeOn}
 use Rattle.instants_sources.specs.Grammar.{Rfc3339}
 use Rattle.instants_sources.specs.Named.{IsNamedBy}
 use Rattle.instants_sources.proofs.Roads.{same_moment}
