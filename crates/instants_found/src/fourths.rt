@@ -38,8 +38,7 @@ fn fourths_of(source: &Source<'_>) -> [bool; 256]
     ensures { AreFourthsOf (grammar_of source.now) result }
 {
     match source {
-        Source::Items(described) => of_first_bytes(&FirstBytes::of_items(described.items())),
-        Source::V3(described) => of_first_bytes(&FirstBytes::of_description(described.tree())),
+        Source::Described(described) => of_first_bytes(described.first_bytes()),
         Source::Rfc3339 => digits(),
         _ => [true; 256],
     }

@@ -33,8 +33,7 @@ fn can_begin(source: &Source<'_>, byte: u8) -> bool
     ensures { result ≡ false → CannotBegin byte (grammar_of source.now) }
 {
     match source {
-        Source::Items(described) => described.can_begin(byte),
-        Source::V3(described) => described.can_begin(byte),
+        Source::Described(described) => described.can_begin(byte),
         Source::Rfc2822 => begins_day(byte),
         Source::Rfc3339 => byte.is_ascii_digit(),
         Source::Iso8601 => begins_part(byte),

@@ -187,8 +187,7 @@ impl<'a> Source<'a> {
         ensures { result ≡ true → NamesNothing (grammar_of self.now) line.now }
     {
         match self {
-            Source::Items(described) => described.cannot_match_whole(line),
-            Source::V3(described) => described.cannot_match_whole(line),
+            Source::Described(described) => described.cannot_match_whole(line),
             Source::Rfc2822 => is_no_rfc2822(line),
             Source::Rfc3339 => is_no_rfc3339(line),
             Source::Iso8601 => begins_no_part(line),
@@ -214,8 +213,7 @@ impl<'a> Source<'a> {
         ensures { IfSome result (λ plan. IsPlanned (grammar_of self.now) plan.now) }
     {
         match self {
-            Source::Items(described) => described.plan(),
-            Source::V3(described) => described.plan(),
+            Source::Described(described) => described.plan(),
             _ => None,
         }
     }
@@ -242,7 +240,7 @@ impl<'a> Source<'a> {
             Source::Rfc2822 => fast_rfc2822(line),
             Source::Rfc3339 => fast_rfc3339(line),
             Source::Iso8601 => fast_iso8601(line),
-            Source::Items(_) | Source::V3(_) => self.read_planned(line, assumed),
+            Source::Described(_) => self.read_planned(line, assumed),
         }
     }
 

@@ -97,7 +97,7 @@ impl Timeline<'_> {
             Source::Rfc2822 => self.fill_found(usual_rfc2822(line), room),
             Source::Rfc3339 => self.fill_found(usual_rfc3339(line), room),
             Source::Iso8601 => self.fill_found(usual_iso8601(line), room),
-            Source::Items(_) | Source::V3(_) => match source.plan() {
+            Source::Described(_) => match source.plan() {
                 Some(Plan::Places(places)) => {
                     self.fill_found(read_by_places(places, line, self.assumed), room)
                 }
@@ -118,7 +118,7 @@ impl Timeline<'_> {
             Source::Rfc2822 => self.fill_found(other_rfc2822(line), room),
             Source::Rfc3339 => self.fill_found(rare_rfc3339(line), room),
             Source::Iso8601 => self.fill_found(fast_iso8601(line), room),
-            Source::Items(_) | Source::V3(_) => {
+            Source::Described(_) => {
                 self.fill_found(source.read_planned(line, self.assumed), room)
             }
         }
