@@ -10,28 +10,28 @@ use Rattle.instants_prefixes.proofs.NoneNamed.{described_none, day_none, part_no
 use Rattle.instants_prefixes.proofs.Windows.{first_of_text}
 use Rattle.instants_sources.specs.Grammar.{Described, Rfc2822, Rfc3339, Iso8601, Written}
 use Rattle.instants_sources.specs.Written.{reads_written}
-use Rattle.instants_found.specs.Starts.{CannotBegin}
+use Rattle.instants_found.specs.Starts.{CannotStand}
 
 -- the first bytes of a window are those of what it is taken from
 first_bytes : (bytes : List ℕ) (n : ℕ) → n < window → get_or (take window bytes) n 0 ≡ get_or bytes n 0
 first_bytes bytes n lt = get_or-take window bytes n 0 lt
 
-pub described_cannot : (written : Written) (byte : ℕ) → IsRefusedAt (reads_written written) 0 byte → CannotBegin byte (Described written)
+pub described_cannot : (written : Written) (byte : ℕ) → IsRefusedAt (reads_written written) 0 byte → CannotStand 0 byte (Described written)
 unfolding text_for
 described_cannot written byte refused = λ bytes at given. described_none written (take window bytes) (refused (take window bytes) (first_bytes bytes 0 (omega arith) ∙ at)) given
 
-pub year_cannot : (byte : ℕ) → is_ascii_digit byte ≡ false → CannotBegin byte Rfc3339
+pub year_cannot : (byte : ℕ) → is_ascii_digit byte ≡ false → CannotStand 0 byte Rfc3339
 unfolding text_for
 year_cannot byte none = λ bytes at given. no_digit given (take window bytes) (rw (first_bytes bytes 0 (omega arith) ∙ at) none)
 
-pub day_cannot : (byte : ℕ) → begins_day byte ≡ false → CannotBegin byte Rfc2822
+pub day_cannot : (byte : ℕ) → begins_day byte ≡ false → CannotStand 0 byte Rfc2822
 day_cannot byte none = λ bytes at given.
     elim (first_of_text Rfc2822 bytes) [
       | inl nothing ↦ rw nothing (nothing_rfc2822 given)
       | inr first ↦ day_none (text_for Rfc2822 bytes) (rw (first ∙ at) none) given
     ]
 
-pub part_cannot : (byte : ℕ) → begins_part byte ≡ false → CannotBegin byte Iso8601
+pub part_cannot : (byte : ℕ) → begins_part byte ≡ false → CannotStand 0 byte Iso8601
 part_cannot byte none = λ bytes at given.
     elim (first_of_text Iso8601 bytes) [
       | inl nothing ↦ rw nothing (nothing_iso8601 given)

@@ -10,7 +10,7 @@ use Rattle.instants_prefixes.specs.NoPrefix.{HasNoPrefix}
 use Rattle.instants_prefixes.specs.Reading.{window, text_for}
 use Rattle.instants_sources.specs.Grammar.{Described, Rfc3339, Written}
 use Rattle.instants_sources.specs.Written.{reads_written}
-use Rattle.instants_found.specs.Fourths.{CannotBeFourth}
+use Rattle.instants_found.specs.Starts.{CannotStand}
 use Rattle.instants_found.specs.Keys.{IsKeyOf, IsRuledOutAt, RuleOutShort, NeedsKey, NeedsFour}
 use Rattle.instants_found.specs.declared.key.Key.{Key}
 use Rattle.instants_prefixes.proofs.RuledOut.{described_due, hyphen_due}
@@ -42,7 +42,7 @@ module _ (written : Written) (f : FirstBytes) (are : AreOf (reads_written writte
   pub described_four : RuleOutShort f → NeedsFour (Described written)
   described_four is = λ bytes short. ruled_out bytes (is bytes short)
 
-  pub described_fourth : (byte : ℕ) → IsRuledOutAt f 3 byte → CannotBeFourth byte (Described written)
+  pub described_fourth : (byte : ℕ) → IsRuledOutAt f 3 byte → CannotStand 3 byte (Described written)
   described_fourth byte is = λ bytes there. ruled_out bytes (is bytes there)
 
 -- ---- RFC 3339

@@ -3,8 +3,12 @@ use Rattle.std.proofs.Common.{◌≡◌, ℕ, List, Option, Some, None, Ok, refl
 use Rattle.std.specs.Prelude.{IfSome}
 use Rattle.parsing_fields.specs.Moment.{moment_of}
 use Rattle.parsing_fields.specs.declared.fields.Fields.{Fields}
-use Rattle.parsing_plan.specs.Plan.{beginning, IsPlanOf}
+use Rattle.parsing_plan.specs.Plan.{beginning, ArePlacesOf, IsPlanOf}
+use Rattle.parsing_plan.specs.UnixTime.{IsUnixOf}
+use Rattle.parsing_plan.specs.declared.plan.Places.{Places}
 use Rattle.parsing_plan.specs.declared.plan.Plan.{Plan}
+use Rattle.parsing_plan.specs.declared.plan.Plan.TheVariants as plan
+use Rattle.parsing_plan.specs.declared.unix.UnixTime.{UnixTime}
 use Rattle.parsing_record.specs.Meaning.{Meaning}
 use Rattle.parsing_record.specs.Record.{Record}
 use Rattle.parsing_record.specs.Whole.{starting, whole, names, moment_named}
@@ -25,3 +29,14 @@ planned_named (Described written) plan line assumed result is read = read (reads
 planned_named Rfc2822 plan line assumed result is read = absurd is
 planned_named Rfc3339 plan line assumed result is read = absurd is
 planned_named Iso8601 plan line assumed result is read = absurd is
+
+-- what places, or Unix time alone, find
+pub places_named : (grammar : Grammar) (places : Places) (line : List ℕ) (assumed : Option ℤ) (result : Option Fields) → IsPlanned grammar (plan.Places places)
+    → ((m : Meaning) (defaults : Option Record) → ArePlacesOf m places → starting defaults ≡ beginning assumed → IfSome result (λ f. names moment_named (whole m defaults line) ≡ Ok (moment_of f)))
+    → IfSome result (λ f. named assumed grammar line ≡ Ok (moment_of f))
+places_named grammar places line assumed result is read = planned_named grammar (plan.Places places) line assumed result is (λ m defaults of starts. read m defaults (of.0 places refl) starts)
+
+pub unix_named : (grammar : Grammar) (unix : UnixTime) (line : List ℕ) (assumed : Option ℤ) (result : Option Fields) → IsPlanned grammar (plan.Unix unix)
+    → ((m : Meaning) (defaults : Option Record) (assumed : Option ℤ) → IsUnixOf m unix.finer → starting defaults ≡ beginning assumed → IfSome result (λ f. names moment_named (whole m defaults line) ≡ Ok (moment_of f)))
+    → IfSome result (λ f. named assumed grammar line ≡ Ok (moment_of f))
+unix_named grammar unix line assumed result is read = planned_named grammar (plan.Unix unix) line assumed result is (λ m defaults of starts. read m defaults assumed (of.1 unix refl) starts)

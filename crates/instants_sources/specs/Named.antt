@@ -5,11 +5,12 @@ use Rattle.datetime_wall.specs.Wall.{Shown}
 use Rattle.parsing_combinator.specs.Fault.{Fault}
 use Rattle.parsing_record.specs.Record.{Record}
 use Rattle.parsing_record.specs.Whole.{whole, names, moment_named, by_roads}
+use Rattle.parsing_iso8601.specs.Moment.{IsOfOffset}
 use Rattle.parsing_rfc2822.specs.Direct as rfc2822
 use Rattle.parsing_rfc3339.specs.Direct as rfc3339
 use Rattle.parsing_parsable.specs.Staged.{reads_rfc2822, reads_rfc3339}
 use Rattle.parsing_laws.specs.TwoRoads.{holding}
-use Rattle.instants_sources.specs.Grammar.{Grammar, Rfc2822, Rfc3339}
+use Rattle.instants_sources.specs.Grammar.{Grammar, Described, Rfc2822, Rfc3339, Iso8601}
 use Rattle.instants_sources.specs.Reading.{reading_of}
 
 -- what a reading begins with where an offset is assumed: its hour and its minute
@@ -26,6 +27,13 @@ named assumed grammar line = names moment_named (whole (reading_of grammar) (def
 -- the source names this moment for the line, whatever offset is assumed
 abbrev pub IsNamedBy : Grammar → List ℕ → Shown → Type 0
 IsNamedBy grammar line moment = (assumed : Option ℤ) → named assumed grammar line ≡ Ok moment
+
+-- a well-known format reads this moment from the line by itself, without a record
+abbrev pub IsDirect : Grammar → List ℕ → Shown → Type 0
+IsDirect (Described written) line moment = ⊥
+IsDirect Rfc2822 line moment = rfc2822.direct line ≡ Ok moment
+IsDirect Rfc3339 line moment = rfc3339.direct line ≡ Ok moment
+IsDirect Iso8601 line moment = IsOfOffset line moment
 
 -- the source names no moment for the line, whatever offset is assumed
 abbrev pub NamesNothing : Grammar → List ℕ → Type 0

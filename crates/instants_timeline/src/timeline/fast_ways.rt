@@ -6,10 +6,7 @@ ghost use Rattle.instants_timeline.specs.Settings.{setting_of};
 
 use crate::timeline::Timeline;
 use instants_answers::Answer;
-use instants_sources::{
-    is_no_rfc3339, read_by_places, read_by_plain_places, read_by_plan, read_by_unix, usual_iso8601,
-    usual_rfc2822, usual_rfc3339,
-};
+use instants_sources::{directly_named, is_no_rfc3339};
 use instants_stream::AnswersLines;
 use parsing_plan::{Places, Plan, UnixTime};
 
@@ -43,7 +40,8 @@ impl AnswerWay for Rfc3339Way {
         if is_no_rfc3339(line) {
             return timeline.fill_after(line, room);
         }
-        match timeline.fill_found(usual_rfc3339(line), room) {
+        directly_named();
+        match timeline.fill_found(parsing_rfc3339::read_usual_fields(line), room) {
             Some(len) => len,
             None => timeline.fill_rest_rfc3339(line, room),
         }
@@ -62,7 +60,8 @@ impl AnswerWay for Rfc2822Way {
 
     #[inline(always)]
     fn fill_answer(&self, timeline: &Timeline, line: &[u8], room: &mut [u8]) -> usize {
-        match timeline.fill_found(usual_rfc2822(line), room) {
+        directly_named();
+        match timeline.fill_found(parsing_rfc2822::read_usual_fields(line), room) {
             Some(len) => len,
             None => timeline.fill_rest_rfc2822(line, room),
         }
@@ -81,7 +80,8 @@ impl AnswerWay for Iso8601Way {
 
     #[inline(always)]
     fn fill_answer(&self, timeline: &Timeline, line: &[u8], room: &mut [u8]) -> usize {
-        match timeline.fill_found(usual_iso8601(line), room) {
+        directly_named();
+        match timeline.fill_found(parsing_iso8601::read_usual_fields(line), room) {
             Some(len) => len,
             None => timeline.fill_rest_iso8601(line, room),
         }
@@ -110,7 +110,7 @@ impl AnswerWay for PlacesWay<'_> {
 
     #[inline(always)]
     fn fill_answer(&self, timeline: &Timeline, line: &[u8], room: &mut [u8]) -> usize {
-        let planned = read_by_places(self.places, line, timeline.assumed);
+        let planned = self.places.read(line, timeline.assumed);
         match timeline.fill_found(planned, room) {
             Some(len) => len,
             None => timeline.fill_rest(line, room),
@@ -140,7 +140,7 @@ impl AnswerWay for PlainWay<'_> {
 
     #[inline(always)]
     fn fill_answer(&self, timeline: &Timeline, line: &[u8], room: &mut [u8]) -> usize {
-        let planned = read_by_plain_places(self.places, line, timeline.assumed);
+        let planned = self.places.read_plain(line, timeline.assumed);
         match timeline.fill_found(planned, room) {
             Some(len) => len,
             None => timeline.fill_rest(line, room),
@@ -170,7 +170,7 @@ impl AnswerWay for UnixWay<'_> {
 
     #[inline(always)]
     fn fill_answer(&self, timeline: &Timeline, line: &[u8], room: &mut [u8]) -> usize {
-        let planned = read_by_unix(self.unix, line, timeline.assumed);
+        let planned = self.unix.read_within(line);
         match timeline.fill_found(planned, room) {
             Some(len) => len,
             None => timeline.fill_rest(line, room),
@@ -199,7 +199,7 @@ impl AnswerWay for PlannedWay<'_> {
 
     #[inline(always)]
     fn fill_answer(&self, timeline: &Timeline, line: &[u8], room: &mut [u8]) -> usize {
-        let planned = read_by_plan(self.plan, line, timeline.assumed);
+        let planned = self.plan.read(line, timeline.assumed);
         match timeline.fill_found(planned, room) {
             Some(len) => len,
             None => timeline.fill_rest(line, room),

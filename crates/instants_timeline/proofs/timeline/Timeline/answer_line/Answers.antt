@@ -1,4 +1,4 @@
-use Rattle.std.proofs.Common.{◌≡◌, ◌≢◌, ◌≤◌, ◌-◌, ◌++◌, codes, length, take, ap, ◌∙◌, rules, subst, sym, arith, ℕ, List}
+use Rattle.std.proofs.Common.{◌≡◌, ◌≤◌, ◌-◌, length, take, ◌∙◌, rules, sym}
 use Rattle.instants_timeline.specs.Place.{answer_to}
 use Rattle.instants_timeline.specs.Settings.{setting_of}
 use Rattle.instants_timeline.proofs.LineLength.{text_of_line, never_long}

@@ -1,9 +1,10 @@
 use Rattle.std.proofs.Math.Logic.{∥∥₁_elim}
 use Rattle.std.proofs.Props.{props}
+use Rattle.instants_sources.proofs.Planned.{planned_named}
 use Rattle.instants_timeline.specs.Settings.{setting_of}
 use Rattle.instants_timeline.proofs.FirstNamed.{led_found}
 use Rattle.instants_timeline.proofs.timeline.fast_ways.PlannedWayAnswerWay.fill_answer.Goals as goal
 
 pub returns-in-Some-clause-line : goal.returns-in-Some-clause-line
 returns-in-Some-clause-line c =
-    ∥∥₁_elim c.requires.leads (Prim.hlevel props) (λ led. led_found (setting_of c.args.timeline.now) c.read_by_plan-planned.result led.grammar c.args.line.now c.fill_found.new.room c.in-Some.len led.first (c.read_by_plan-planned.ensures led.grammar led.planned) c.in-Some.ensures.line)
+    ∥∥₁_elim c.requires.leads (Prim.hlevel props) (λ led. led_found (setting_of c.args.timeline.now) c.read-planned.result led.grammar c.args.line.now c.fill_found.new.room c.in-Some.len led.first (planned_named led.grammar c.args.self.now.plan.now c.args.line.now c.args.timeline.now.assumed c.read-planned.result led.planned c.read-planned.ensures) c.in-Some.ensures.line)
