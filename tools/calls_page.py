@@ -49,7 +49,7 @@ BELOW = {
     "instants_words": {"fault_in_text"},
     "instants_timeline": {"run_over"},
     "instants_stream": {"AnswersLines", "WritesLines", "run_lines", "lines_over", "write_lines"},
-    "instants_sources": {"fast_rfc3339", "fast_rfc2822", "fast_iso8601", "is_no_rfc3339"},
+    "instants_sources": {"directly_named", "is_no_rfc3339"},
 }
 # The modules that the crates give on, each with the files or folders where its calls stand.
 MODULES = {

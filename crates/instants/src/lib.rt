@@ -33,7 +33,7 @@ pub use instants_answers::{
     Answer, fits_line, fits_utc_line, rfc3339_line, utc_line_by_timestamp, utc_line_by_utc,
 };
 pub use instants_laws as laws;
-pub use instants_sources::{DescribedItems, DescribedTree, Named, Source};
+pub use instants_sources::{Described, Named, Source};
 pub use instants_stream::{
     BlockWriter, ByteReader, ByteWriter, CutReader, CutWriter, DeviceFailed, RunFault, StdReader,
     StdWriter, TooLittleRoom,

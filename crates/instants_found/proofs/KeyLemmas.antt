@@ -7,8 +7,7 @@ use Rattle.std.proofs.lemmas.List.{get_or-drop, length-drop}
 use Rattle.std.proofs.lemmas.List.Elements.{All-weaker}
 use Rattle.instants_prefixes.specs.NoPrefix.{HasNoPrefix}
 use Rattle.instants_sources.specs.Grammar.{Grammar}
-use Rattle.instants_found.specs.Starts.{AreStarts, HasNoDate, IsNoDate, MarkPlaces}
-use Rattle.instants_found.specs.Fourths.{CannotBeFourth}
+use Rattle.instants_found.specs.Starts.{AreMarked, CannotStand, HasNoDate, IsNoDate, MarkPlaces}
 use Rattle.instants_found.specs.Keys.{AreBytes, stands_at, has_key, NeedsFour, NeedsOne, AreKeys}
 use Rattle.instants_found.specs.declared.key.Key.{Key}
 use Rattle.instants_found.specs.declared.keys.Keys.{Keys}
@@ -37,18 +36,18 @@ module _ (sources : List Grammar) (line : List ℕ) where
       no_prefix_there sources line start (All-weaker NeedsFour (HasNoPrefix (drop start line)) (λ grammar four. four (drop start line) (let left : length (drop start line) ≡ length line - start = length-drop start line in omega (arith, left, short))) sources are)
 
   -- what isn't marked has no date
-  pub unmarked_none : (starts : List Bool) (marks : Marks) (start : ℕ) → AreStarts sources starts → AreMarks sources starts marks → AreBytes line → IsUnmarked marks line start → IsNoDate sources line start
+  pub unmarked_none : (starts : List Bool) (marks : Marks) (start : ℕ) → AreMarked 0 sources starts → AreMarks sources starts marks → AreBytes line → IsUnmarked marks line start → IsNoDate sources line start
   unmarked_none starts marks start are right few none =
       elim none [
         | inl keys ↦ unkeyed_none marks.keys start right.keys few keys.0 keys.1
         | inr (inl first) ↦ none_starts sources starts line start are (right.first (get_or line start 0) (few start) first)
         | inr (inr fourth) ↦
             no_prefix_there sources line start
-            (All-weaker (CannotBeFourth (get_or line (start + 3) 0)) (HasNoPrefix (drop start line)) (λ grammar cannot. cannot (drop start line) (get_or-drop start line 3 0)) sources (right.fourth (get_or line (start + 3) 0) (few (start + 3)) fourth))
+            (All-weaker (CannotStand 3 (get_or line (start + 3) 0)) (HasNoPrefix (drop start line)) (λ grammar cannot. cannot (drop start line) (get_or-drop start line 3 0)) sources (right.fourth (get_or line (start + 3) 0) (few (start + 3)) fourth))
       ]
 
   -- the bits of the marks of sixteen places
-  pub marks_of : (starts : List Bool) (marks : Marks) (at bits : ℕ) → AreStarts sources starts → AreMarks sources starts marks → AreBytes line
+  pub marks_of : (starts : List Bool) (marks : Marks) (at bits : ℕ) → AreMarked 0 sources starts → AreMarks sources starts marks → AreBytes line
       → ((k : ℕ) → k < 16 → bit_at bits k ≡ 0 → IsUnmarked marks line (at + k)) → MarkPlaces sources line at (at + 16) bits
   marks_of starts marks at bits are right few is_bits = λ k lt none. unmarked_none starts marks (at + k) are right few (is_bits k (omega (arith, lt)) none)
 

@@ -5,7 +5,7 @@ use Rattle.std.specs.Option.{is_none}
 use Rattle.std.proofs.lemmas.Bool.{cases_lt}
 use Rattle.std.proofs.lemmas.List.{take-append-le, drop-append-le, length-take, length-drop}
 use Rattle.datetime_wall.specs.Wall.{Shown}
-use Rattle.instants_sources.specs.Grammar.{Grammar, Items, V3, Rfc2822, Rfc3339, Iso8601}
+use Rattle.instants_sources.specs.Grammar.{Grammar, Described, Rfc2822, Rfc3339, Iso8601}
 use Rattle.instants_edges.specs.Text.{iso_text, mail_text}
 use Rattle.instants_edges.specs.Pieces.{reach}
 use Rattle.instants_edges.proofs.Near.{near_edge, near_sign, near_clock_beside, near_clock_before, near_offset, near_year, near_reach}
@@ -31,8 +31,7 @@ use Rattle.instants_found.proofs.FirstFound.{is_found}
 -- what a source is given is the same whatever stands after the window
 near_text : (grammar : Grammar) (prefix rest : List ℕ) → window ≤ length prefix → text_for grammar (prefix ++ rest) ≡ text_for grammar prefix
 unfolding text_for
-near_text (Items items) prefix rest within = take-append-le 256 prefix rest within
-near_text (V3 tree) prefix rest within = take-append-le 256 prefix rest within
+near_text (Described written) prefix rest within = take-append-le 256 prefix rest within
 near_text Rfc2822 prefix rest within = ap (λ (bytes : List ℕ). mail_text 0 bytes) (take-append-le 256 prefix rest within)
 near_text Rfc3339 prefix rest within = take-append-le 256 prefix rest within
 near_text Iso8601 prefix rest within = ap (λ (bytes : List ℕ). iso_text bytes) (take-append-le 256 prefix rest within)

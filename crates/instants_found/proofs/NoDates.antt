@@ -11,7 +11,7 @@ use Rattle.instants_prefixes.specs.NoPrefix.{HasNoPrefix}
 use Rattle.instants_sources.specs.Grammar.{Grammar}
 use Rattle.instants_found.specs.Candidate.{candidate, candidates}
 use Rattle.instants_found.specs.Found.{at_place, found}
-use Rattle.instants_found.specs.Starts.{CannotBegin, AreStarts, IsNoDate, HasNoDate}
+use Rattle.instants_found.specs.Starts.{CannotStand, AreMarked, IsNoDate, HasNoDate}
 use Rattle.instants_found.specs.declared.found.Finding.{Finding}
 use Rattle.instants_found.proofs.Steps.{GiveFromPlace, place_has, place_has_none, places_end}
 
@@ -37,10 +37,10 @@ unfolding at_place
 no_prefix_there sources line start none = λ given. if_edge (is_edge line start) _ (rw (no_candidates given line start 0 sources none) refl)
 
 -- no source reads a date that begins with the byte there
-pub none_starts : (sources : List Grammar) (starts : List Bool) (line : List ℕ) (start : ℕ) → AreStarts sources starts → get_or starts (get_or line start 0) true ≡ false → IsNoDate sources line start
+pub none_starts : (sources : List Grammar) (starts : List Bool) (line : List ℕ) (start : ℕ) → AreMarked 0 sources starts → get_or starts (get_or line start 0) true ≡ false → IsNoDate sources line start
 none_starts sources starts line start are none =
     let first : get_or (drop start line) 0 0 ≡ get_or line start 0 = get_or-drop start line 0 0 ∙ ap (λ (n : ℕ). get_or line n 0) (omega arith) in
-    no_prefix_there sources line start (All-weaker (CannotBegin (get_or line start 0)) (HasNoPrefix (drop start line)) (λ grammar cannot. cannot (drop start line) first) sources (are (get_or line start 0) none))
+    no_prefix_there sources line start (All-weaker (CannotStand 0 (get_or line start 0)) (HasNoPrefix (drop start line)) (λ grammar cannot. cannot (drop start line) first) sources (are (get_or line start 0) none))
 
 -- the place is inside a word
 pub none_inside : (sources : List Grammar) (line : List ℕ) (start : ℕ) → is_edge line start ≡ false → IsNoDate sources line start

@@ -2,42 +2,36 @@
 use Rattle.std.proofs.Common.{◌≡◌, ◌<◌, ◌∙◌, inl, inr, ℕ, false, List, get_or, take, arith}
 use Rattle.std.specs.Char.{is_ascii_digit}
 use Rattle.std.proofs.lemmas.List.{get_or-take}
-use Rattle.description_items.specs.Tree.{Tree, listed}
-use Rattle.parsing_components.specs.Component.{reads_component, reads_component_v3}
 use Rattle.parsing_first_bytes.specs.FirstBytes.{IsRefusedAt}
-use Rattle.parsing_record.specs.Reads.{reading, reading_of_all}
 use Rattle.instants_prefixes.specs.NoPrefix.{begins_day, begins_part}
 use Rattle.instants_prefixes.specs.Reading.{window, text_for}
 use Rattle.instants_prefixes.proofs.ReadPrefixes.{no_digit}
-use Rattle.instants_prefixes.proofs.NoneNamed.{items_none, tree_none, day_none, part_none, nothing_rfc2822, nothing_iso8601}
+use Rattle.instants_prefixes.proofs.NoneNamed.{described_none, day_none, part_none, nothing_rfc2822, nothing_iso8601}
 use Rattle.instants_prefixes.proofs.Windows.{first_of_text}
-use Rattle.instants_sources.specs.Grammar.{Items, V3, Rfc2822, Rfc3339, Iso8601}
-use Rattle.instants_found.specs.Starts.{CannotBegin}
+use Rattle.instants_sources.specs.Grammar.{Described, Rfc2822, Rfc3339, Iso8601, Written}
+use Rattle.instants_sources.specs.Written.{reads_written}
+use Rattle.instants_found.specs.Starts.{CannotStand}
 
 -- the first bytes of a window are those of what it is taken from
 first_bytes : (bytes : List ℕ) (n : ℕ) → n < window → get_or (take window bytes) n 0 ≡ get_or bytes n 0
 first_bytes bytes n lt = get_or-take window bytes n 0 lt
 
-pub items_cannot : (items : List Tree) (byte : ℕ) → IsRefusedAt (reading_of_all reads_component (listed items)) 0 byte → CannotBegin byte (Items items)
+pub described_cannot : (written : Written) (byte : ℕ) → IsRefusedAt (reads_written written) 0 byte → CannotStand 0 byte (Described written)
 unfolding text_for
-items_cannot items byte refused = λ bytes at given. items_none items (take window bytes) (refused (take window bytes) (first_bytes bytes 0 (omega arith) ∙ at)) given
+described_cannot written byte refused = λ bytes at given. described_none written (take window bytes) (refused (take window bytes) (first_bytes bytes 0 (omega arith) ∙ at)) given
 
-pub tree_cannot : (tree : Tree) (byte : ℕ) → IsRefusedAt (reading reads_component_v3 tree) 0 byte → CannotBegin byte (V3 tree)
-unfolding text_for
-tree_cannot tree byte refused = λ bytes at given. tree_none tree (take window bytes) (refused (take window bytes) (first_bytes bytes 0 (omega arith) ∙ at)) given
-
-pub year_cannot : (byte : ℕ) → is_ascii_digit byte ≡ false → CannotBegin byte Rfc3339
+pub year_cannot : (byte : ℕ) → is_ascii_digit byte ≡ false → CannotStand 0 byte Rfc3339
 unfolding text_for
 year_cannot byte none = λ bytes at given. no_digit given (take window bytes) (rw (first_bytes bytes 0 (omega arith) ∙ at) none)
 
-pub day_cannot : (byte : ℕ) → begins_day byte ≡ false → CannotBegin byte Rfc2822
+pub day_cannot : (byte : ℕ) → begins_day byte ≡ false → CannotStand 0 byte Rfc2822
 day_cannot byte none = λ bytes at given.
     elim (first_of_text Rfc2822 bytes) [
       | inl nothing ↦ rw nothing (nothing_rfc2822 given)
       | inr first ↦ day_none (text_for Rfc2822 bytes) (rw (first ∙ at) none) given
     ]
 
-pub part_cannot : (byte : ℕ) → begins_part byte ≡ false → CannotBegin byte Iso8601
+pub part_cannot : (byte : ℕ) → begins_part byte ≡ false → CannotStand 0 byte Iso8601
 part_cannot byte none = λ bytes at given.
     elim (first_of_text Iso8601 bytes) [
       | inl nothing ↦ rw nothing (nothing_iso8601 given)

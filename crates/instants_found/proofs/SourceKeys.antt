@@ -1,20 +1,19 @@
 -- What sources need, by their first bytes.
-use Rattle.std.proofs.Common.{◌≡◌, ◌∙◌, ℕ, List, take, get_or, Option, Some, None, refl, subst, arith}
+use Rattle.std.proofs.Common.{◌≡◌, ◌∙◌, ℕ, true, List, take, get_or, Option, Some, None, refl, subst, arith}
 use Rattle.std.specs.Prelude.{IfSome}
 use Rattle.std.specs.Option.{ForSome}
 use Rattle.std.proofs.lemmas.List.{get_or-take, get_or_past}
 use Rattle.base.specs.Bytes.{hyphen}
-use Rattle.description_items.specs.Tree.{Tree, listed}
-use Rattle.parsing_components.specs.Component.{reads_component, reads_component_v3}
 use Rattle.parsing_first_bytes.specs.FirstBytes.{AreOf, rule_out}
 use Rattle.parsing_first_bytes.specs.declared.first_bytes.FirstBytes.{FirstBytes}
-use Rattle.parsing_record.specs.Reads.{reading, reading_of_all}
+use Rattle.instants_prefixes.specs.NoPrefix.{HasNoPrefix}
 use Rattle.instants_prefixes.specs.Reading.{window, text_for}
-use Rattle.instants_sources.specs.Grammar.{Items, V3, Rfc3339}
-use Rattle.instants_found.specs.Fourths.{CannotBeFourth}
+use Rattle.instants_sources.specs.Grammar.{Described, Rfc3339, Written}
+use Rattle.instants_sources.specs.Written.{reads_written}
+use Rattle.instants_found.specs.Starts.{CannotStand}
 use Rattle.instants_found.specs.Keys.{IsKeyOf, IsRuledOutAt, RuleOutShort, NeedsKey, NeedsFour}
 use Rattle.instants_found.specs.declared.key.Key.{Key}
-use Rattle.instants_prefixes.proofs.RuledOut.{items_due, tree_due, hyphen_due}
+use Rattle.instants_prefixes.proofs.RuledOut.{described_due, hyphen_due}
 
 pub if_some : {T : Type 0} (P Q : T → Type 0) (o : Option T) → ((x : T) → P x → Q x) → IfSome o P → IfSome o Q
 if_some P Q (Some x) f h = f x h
@@ -32,31 +31,19 @@ unfolding rule_out
 cut f bytes =
     rw (get_or-take window bytes 0 0 (omega arith), get_or-take window bytes 1 0 (omega arith), get_or-take window bytes 2 0 (omega arith), get_or-take window bytes 3 0 (omega arith)) refl
 
-module _ (items : List Tree) (f : FirstBytes) (are : AreOf (reading_of_all reads_component (listed items)) f) where
-  pub items_key : (key : Key) → IsKeyOf f key → NeedsKey key (Items items)
+module _ (written : Written) (f : FirstBytes) (are : AreOf (reads_written written) f) where
+  ruled_out : (bytes : List ℕ) → rule_out f bytes ≡ true → HasNoPrefix bytes (Described written)
   unfolding text_for
-  items_key key is = λ bytes few none. items_due items bytes (take window bytes) refl (are (take window bytes) (cut f bytes ∙ is bytes few none))
+  ruled_out bytes is = described_due written bytes (take window bytes) refl (are (take window bytes) (cut f bytes ∙ is))
 
-  pub items_four : RuleOutShort f → NeedsFour (Items items)
-  unfolding text_for
-  items_four is = λ bytes short. items_due items bytes (take window bytes) refl (are (take window bytes) (cut f bytes ∙ is bytes short))
+  pub described_key : (key : Key) → IsKeyOf f key → NeedsKey key (Described written)
+  described_key key is = λ bytes few none. ruled_out bytes (is bytes few none)
 
-  pub items_fourth : (byte : ℕ) → IsRuledOutAt f 3 byte → CannotBeFourth byte (Items items)
-  unfolding text_for
-  items_fourth byte is = λ bytes there. items_due items bytes (take window bytes) refl (are (take window bytes) (cut f bytes ∙ is bytes there))
+  pub described_four : RuleOutShort f → NeedsFour (Described written)
+  described_four is = λ bytes short. ruled_out bytes (is bytes short)
 
-module _ (tree : Tree) (f : FirstBytes) (are : AreOf (reading reads_component_v3 tree) f) where
-  pub tree_key : (key : Key) → IsKeyOf f key → NeedsKey key (V3 tree)
-  unfolding text_for
-  tree_key key is = λ bytes few none. tree_due tree bytes (take window bytes) refl (are (take window bytes) (cut f bytes ∙ is bytes few none))
-
-  pub tree_four : RuleOutShort f → NeedsFour (V3 tree)
-  unfolding text_for
-  tree_four is = λ bytes short. tree_due tree bytes (take window bytes) refl (are (take window bytes) (cut f bytes ∙ is bytes short))
-
-  pub tree_fourth : (byte : ℕ) → IsRuledOutAt f 3 byte → CannotBeFourth byte (V3 tree)
-  unfolding text_for
-  tree_fourth byte is = λ bytes there. tree_due tree bytes (take window bytes) refl (are (take window bytes) (cut f bytes ∙ is bytes there))
+  pub described_fourth : (byte : ℕ) → IsRuledOutAt f 3 byte → CannotStand 3 byte (Described written)
+  described_fourth byte is = λ bytes there. ruled_out bytes (is bytes there)
 
 -- ---- RFC 3339
 

@@ -8,7 +8,6 @@ pub mod IsFound
 pub mod Ranges
 pub mod Starts
 pub mod Keys
-pub mod Fourths
 pub mod Marks
 pub mod Finder
 pub mod Tried

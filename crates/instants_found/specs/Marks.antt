@@ -2,7 +2,7 @@
 use Rattle.std.specs.Prelude.{◌≡◌, ◌<◌, ◌⊎◌, ◌+◌, ℕ, Bool, false, List, get_or, All}
 use Rattle.instants_sources.specs.Grammar.{Grammar}
 use Rattle.instants_found.specs.Keys.{stands_at, AreKeys}
-use Rattle.instants_found.specs.Fourths.{CannotBeFourth}
+use Rattle.instants_found.specs.Starts.{CannotStand}
 use Rattle.instants_found.specs.Ranges.{AreWithin, is_within}
 use Rattle.instants_found.specs.declared.marks.Marks.{Marks}
 
@@ -15,4 +15,4 @@ IsUnmarked marks line place =
 pub record AreMarks (sources : List Grammar) (starts : List Bool) (marks : Marks) : Type 0 where
   pub keys : AreKeys sources marks.keys
   pub first : AreWithin starts marks.first
-  pub fourth : (byte : ℕ) → byte < 256 → is_within marks.fourth byte ≡ false → All (CannotBeFourth byte) sources
+  pub fourth : (byte : ℕ) → byte < 256 → is_within marks.fourth byte ≡ false → All (CannotStand 3 byte) sources

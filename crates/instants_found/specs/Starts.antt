@@ -6,17 +6,17 @@ use Rattle.instants_prefixes.specs.declared.given.Given.{Given}
 use Rattle.instants_prefixes.specs.NoPrefix.{HasNoPrefix}
 use Rattle.instants_found.specs.Found.{at_place}
 
--- no prefix that a source reads begins with this byte
-abbrev pub CannotBegin : ℕ → Grammar → Type 0
-CannotBegin byte grammar = (bytes : List ℕ) → get_or bytes 0 0 ≡ byte → HasNoPrefix bytes grammar
+-- no prefix that a source reads has this byte at this place
+abbrev pub CannotStand : ℕ → ℕ → Grammar → Type 0
+CannotStand place byte grammar = (bytes : List ℕ) → get_or bytes place 0 ≡ byte → HasNoPrefix bytes grammar
 
--- no prefix that one of the sources reads begins with this byte
-abbrev pub NoneBegins : List Grammar → ℕ → Type 0
-NoneBegins sources byte = All (CannotBegin byte) sources
+-- no prefix that one of the sources reads has it there
+abbrev pub NoneHas : ℕ → List Grammar → ℕ → Type 0
+NoneHas place sources byte = All (CannotStand place byte) sources
 
--- what is marked in a table are all bytes at which a prefix of a source can begin
-abbrev pub AreStarts : List Grammar → List Bool → Type 0
-AreStarts sources starts = (byte : ℕ) → get_or starts byte true ≡ false → NoneBegins sources byte
+-- what is marked in a table are all bytes that can stand at this place of a prefix of a source
+abbrev pub AreMarked : ℕ → List Grammar → List Bool → Type 0
+AreMarked place sources marked = (byte : ℕ) → get_or marked byte true ≡ false → NoneHas place sources byte
 
 -- nothing is found at a place of a line, whatever is given
 abbrev pub IsNoDate : List Grammar → List ℕ → ℕ → Type 0

@@ -3,7 +3,7 @@ ghost use Rattle.std.specs.Prelude.{map};
 ghost use Rattle.std.specs.Option.{ForSome};
 ghost use Rattle.instants_prefixes.specs.DateSource.{grammar_in};
 ghost use Rattle.instants_found.specs.Marks.{AreMarks};
-ghost use Rattle.instants_found.specs.Starts.{AreStarts};
+ghost use Rattle.instants_found.specs.Starts.{AreMarked};
 
 mod calls;
 
@@ -20,6 +20,6 @@ pub struct Finder<'a> {
     pub(crate) starts: [bool; 256],
     // What stands in each date.
     pub(crate) marks: Option<Marks>,
-    ghost starts_are: { AreStarts (map grammar_in sources.items) starts },
+    ghost starts_are: { AreMarked 0 (map grammar_in sources.items) starts },
     ghost marks_are: { ForSome marks (AreMarks (map grammar_in sources.items) starts) },
 }

@@ -7,7 +7,6 @@ mod doubt;
 mod finder;
 mod finding;
 mod found;
-mod fourths;
 mod key;
 mod keys;
 mod lanes;

@@ -1,11 +1,10 @@
 //! The places of a line at which a date may begin, marked sixteen at a time.
 ghost use Rattle.std.specs.Prelude.{◌≡◌, ◌<◌, ◌≤◌, ◌+◌, ℕ, length, map, IfSome};
 
-use crate::fourths::{FOURTH, fourths};
 use crate::keys::{KeyedLine, Keys, REACH};
 use crate::lanes::{LANES, bits_within, load};
 use crate::range::Range;
-use crate::starts::{are_within, range_of};
+use crate::starts::{FOURTH, are_within, marked_at, range_of};
 use instants_sources::Source;
 
 /// What each date of some sources has: one of their keys, and a first and a fourth byte from a range.
@@ -31,7 +30,7 @@ impl Marks {
         if !are_within(starts, &first) {
             return None;
         }
-        let fourths = fourths(sources);
+        let fourths = marked_at(sources, FOURTH);
         let fourth = range_of(&fourths);
         if !are_within(&fourths, &fourth) {
             return None;

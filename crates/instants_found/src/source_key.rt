@@ -6,7 +6,6 @@ ghost use Rattle.instants_found.specs.Keys.{NeedsFour, NeedsKey};
 use crate::key::Key;
 use crate::prefix_bytes::key_of_first_bytes;
 use instants_sources::Source;
-use parsing_first_bytes::FirstBytes;
 
 /// The key of a source, if one is found: RFC 3339 has a hyphen after its year.
 pub(crate) fn key_of(source: &Source<'_>) -> Option<Key>
@@ -15,10 +14,7 @@ pub(crate) fn key_of(source: &Source<'_>) -> Option<Key>
     ensures long { IfSome result (λ _. NeedsFour (grammar_of source.now)) }
 {
     match source {
-        Source::Items(described) => key_of_first_bytes(&FirstBytes::of_items(described.items())),
-        Source::V3(described) => {
-            key_of_first_bytes(&FirstBytes::of_description(described.tree()))
-        }
+        Source::Described(described) => key_of_first_bytes(described.first_bytes()),
         Source::Rfc3339 => Some(Key {
             place: 4,
             byte: b'-',

@@ -1,12 +1,15 @@
-//! The bytes at which a date of a source can begin.
+//! The bytes that can stand at the first and at the fourth place of a date.
 ghost use Rattle.std.specs.Prelude.{◌≡◌, true, false, map, get_or};
 ghost use Rattle.instants_sources.specs.Grammar.{grammar_of};
 ghost use Rattle.instants_prefixes.specs.NoPrefix.{begins_day, begins_part};
 ghost use Rattle.instants_found.specs.Ranges.{AreWithin, is_within};
-ghost use Rattle.instants_found.specs.Starts.{AreStarts, CannotBegin, NoneBegins};
+ghost use Rattle.instants_found.specs.Starts.{AreMarked, CannotStand, NoneHas};
 
 use crate::range::Range;
 use instants_sources::Source;
+
+/// The fourth place, counted from 0.
+pub(crate) const FOURTH: usize = 3;
 
 // Whether a date of RFC 2822 can begin with a byte: its weekday, or its day.
 fn begins_day(byte: u8) -> bool
@@ -30,38 +33,59 @@ fn begins_part(byte: u8) -> bool
 
 // Whether a date of a source can begin with a byte: `true` says nothing of it.
 fn can_begin(source: &Source<'_>, byte: u8) -> bool
-    ensures { result ≡ false → CannotBegin byte (grammar_of source.now) }
+    ensures { result ≡ false → CannotStand 0 byte (grammar_of source.now) }
 {
     match source {
-        Source::Items(described) => described.can_begin(byte),
-        Source::V3(described) => described.can_begin(byte),
+        Source::Described(described) => described.can_begin(byte),
         Source::Rfc2822 => begins_day(byte),
         Source::Rfc3339 => byte.is_ascii_digit(),
         Source::Iso8601 => begins_part(byte),
     }
 }
 
-// The same of some source.
-fn some_begins(sources: &[Source<'_>], byte: u8) -> bool
-    ensures { result ≡ false → NoneBegins (map grammar_of sources.now) byte }
+// Whether a byte can stand at the fourth place: RFC 3339 has a year of four digits.
+fn can_be_fourth(source: &Source<'_>, byte: u8) -> bool
+    ensures { result ≡ false → CannotStand 3 byte (grammar_of source.now) }
+{
+    match source {
+        Source::Described(described) => described.first_bytes().can_stand(FOURTH, byte),
+        Source::Rfc3339 => byte.is_ascii_digit(),
+        _ => true,
+    }
+}
+
+// Whether a byte can stand at a place of a date of a source: `true` says nothing of it.
+fn can_stand(source: &Source<'_>, place: usize, byte: u8) -> bool
+    ensures { result ≡ false → CannotStand place byte (grammar_of source.now) }
+{
+    match place {
+        0 => can_begin(source, byte),
+        3 => can_be_fourth(source, byte),
+        _ => true,
+    }
+}
+
+// Whether a byte can stand at a place of a date of some source.
+fn some_has(sources: &[Source<'_>], place: usize, byte: u8) -> bool
+    ensures { result ≡ false → NoneHas place (map grammar_of sources.now) byte }
 {
     for number in 0..sources.len() {
-        if can_begin(&sources[number], byte) {
+        if can_stand(&sources[number], place, byte) {
             return true;
         }
     }
     false
 }
 
-/// For each byte whether a date of some source can begin with it: `true` says nothing of it.
-pub(crate) fn starts(sources: &[Source<'_>]) -> [bool; 256]
-    ensures { AreStarts (map grammar_of sources.now) result }
+/// For each byte whether it can stand at a place of a date of some source: `true` says nothing of it.
+pub(crate) fn marked_at(sources: &[Source<'_>], place: usize) -> [bool; 256]
+    ensures { AreMarked place (map grammar_of sources.now) result }
 {
-    let mut starts = [true; 256];
+    let mut marked = [true; 256];
     for byte in 0..=255u8 {
-        starts[usize::from(byte)] = some_begins(sources, byte);
+        marked[usize::from(byte)] = some_has(sources, place, byte);
     }
-    starts
+    marked
 }
 
 /// The range of the bytes that are marked in a table; `are_within` says whether it is.

@@ -13,17 +13,15 @@ use Rattle.std.proofs.lemmas.List.Sums.{prefix_len_passes, suffix_len-le-length}
 use Rattle.base.specs.Bytes.{dot, colon}
 use Rattle.datetime_wall.specs.Wall.{Shown}
 use Rattle.parsing_combinator.specs.Fault.{Fault}
-use Rattle.parsing_components.specs.Component.{reads_component_v3}
-use Rattle.parsing_record.specs.Meaning.{Answer, Meaning, meaning}
-use Rattle.parsing_record.specs.Reads.{reads}
+use Rattle.parsing_record.specs.Meaning.{Answer, Meaning}
 use Rattle.parsing_record.specs.Record.{empty}
 use Rattle.parsing_record.specs.Whole.{whole, all_read, names, moment_named}
 use Rattle.parsing_rfc2822.specs.Direct as rfc2822
 use Rattle.parsing_rfc3339.specs.Direct as rfc3339
 use Rattle.parsing_parsable.specs.Staged.{reads_rfc2822, reads_rfc3339, reads_iso8601}
-use Rattle.parsing_parsable.specs.Moment.{reads_in_turn}
 use Rattle.parsing_parsable.specs.TwoRoads.{AgreeOn}
-use Rattle.instants_sources.specs.Grammar.{Grammar, Items, V3, Rfc2822, Rfc3339, Iso8601}
+use Rattle.instants_sources.specs.Grammar.{Grammar, Described, Rfc2822, Rfc3339, Iso8601}
+use Rattle.instants_sources.specs.Written.{reads_written}
 use Rattle.instants_sources.specs.Named.{named}
 use Rattle.instants_edges.specs.Clock.{has_clock_before, has_seconds_before, quote_place}
 use Rattle.instants_edges.specs.Edge.{is_edge, is_sign, may_say}
@@ -79,8 +77,7 @@ module _ (given : Given) (grammar : Grammar) (moment : Shown) (likely : is_likel
 prefix_whole : (given : Given) (grammar : Grammar) (line : List ℕ) (moment : Shown) → AgreeOn rfc3339.direct reads_rfc3339 line → AgreeOn rfc2822.direct reads_rfc2822 line
     → named None grammar line ≡ Ok moment → may_begin grammar line ≡ true → is_likely grammar moment ≡ true → prefix_named given grammar line ≡ Some (moment, [])
 unfolding prefix_named
-prefix_whole given (Items items) line moment of_rfc3339 of_rfc2822 e begins likely = by_record given (Items items) moment likely (meaning (reads_in_turn items)) line e
-prefix_whole given (V3 tree) line moment of_rfc3339 of_rfc2822 e begins likely = by_record given (V3 tree) moment likely (meaning (reads reads_component_v3 tree)) line e
+prefix_whole given (Described written) line moment of_rfc3339 of_rfc2822 e begins likely = by_record given (Described written) moment likely (reads_written written) line e
 prefix_whole given Rfc2822 line moment of_rfc3339 of_rfc2822 e begins likely = rw begins (by_road given Rfc2822 moment likely rfc2822.direct reads_rfc2822 line of_rfc2822 e)
 prefix_whole given Rfc3339 line moment of_rfc3339 of_rfc2822 e begins likely = by_road given Rfc3339 moment likely rfc3339.direct reads_rfc3339 line of_rfc3339 e
 prefix_whole given Iso8601 line moment of_rfc3339 of_rfc2822 e begins likely = by_record given Iso8601 moment likely reads_iso8601 line e

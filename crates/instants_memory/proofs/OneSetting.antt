@@ -10,7 +10,7 @@ use Rattle.description_strftime.proofs.Outcomes as letters
 use Rattle.instants_words.specs.Sources.{SourceSaid}
 use Rattle.instants_words.specs.Sources as said
 use Rattle.instants_words.specs.declared.words.Words.{Words}
-use Rattle.instants_sources.specs.Grammar.{Grammar, Items, V3, Means}
+use Rattle.instants_sources.specs.Grammar.{Grammar, Described, Items, V3, Means}
 use Rattle.instants_timeline.specs.Place.{Setting}
 use Rattle.instants_timeline.specs.Program.{Asks, AsksFor}
 use Rattle.instants_timeline.specs.Sources.{AllMean}
@@ -31,10 +31,10 @@ one_tree text t u h k =
 
 -- what is said of a source means one grammar
 one_grammar : (s : SourceSaid) (g h : Grammar) → Means s g → Means s h → g ≡ h
-one_grammar (said.V1 text) g h a b = a.1 ∙ ap Items ((one_outcome_holds One text).one_tree a.0 b.0 a.2 b.2) ∙ sym b.1
-one_grammar (said.V2 text) g h a b = a.1 ∙ ap Items ((one_outcome_holds Two text).one_tree a.0 b.0 a.2 b.2) ∙ sym b.1
-one_grammar (said.V3 text) g h a b = a.1 ∙ ap V3 (one_tree text a.0 b.0 a.2 b.2) ∙ sym b.1
-one_grammar (said.Strftime text) g h a b = a.1 ∙ ap Items ((letters.one_outcome_holds text).one_list a.0 b.0 a.2 b.2) ∙ sym b.1
+one_grammar (said.V1 text) g h a b = a.1 ∙ ap (λ items. Described (Items items)) ((one_outcome_holds One text).one_tree a.0 b.0 a.2 b.2) ∙ sym b.1
+one_grammar (said.V2 text) g h a b = a.1 ∙ ap (λ items. Described (Items items)) ((one_outcome_holds Two text).one_tree a.0 b.0 a.2 b.2) ∙ sym b.1
+one_grammar (said.V3 text) g h a b = a.1 ∙ ap (λ tree. Described (V3 tree)) (one_tree text a.0 b.0 a.2 b.2) ∙ sym b.1
+one_grammar (said.Strftime text) g h a b = a.1 ∙ ap (λ items. Described (Items items)) ((letters.one_outcome_holds text).one_list a.0 b.0 a.2 b.2) ∙ sym b.1
 one_grammar said.Rfc2822 g h a b = a ∙ sym b
 one_grammar said.Rfc3339 g h a b = a ∙ sym b
 one_grammar said.Iso8601 g h a b = a ∙ sym b

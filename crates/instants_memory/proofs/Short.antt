@@ -9,7 +9,7 @@ use Rattle.calendar_count.specs.declared.component_range.ComponentRange.{Compone
 use Rattle.datetime_wall.specs.Wall.{Shown, instant, shown_at}
 use Rattle.description_items.specs.Tree.{listed}
 use Rattle.instants_answers.specs.Text.{has_written_year}
-use Rattle.instants_sources.specs.Grammar.{Grammar, Items, V3, Rfc2822, Rfc3339, Iso8601}
+use Rattle.instants_sources.specs.Grammar.{Grammar, Described, Rfc2822, Rfc3339, Iso8601, Items, V3}
 use Rattle.instants_sources.specs.Named.{named, defaults_of}
 use Rattle.instants_timeline.specs.Place.{Setting, or_named, first_named, in_written_years, shown_or_refused, place_of, place_text, answer_to}
 use Rattle.instants_timeline.specs.Refusal.{year, refusal_of, refusal_text}
@@ -150,8 +150,8 @@ roads_mild direct m h t None line = h line
 roads_mild direct m h t (Some defaults) line = moment_by_mild m t (Some defaults) line
 
 named_mild : (assumed : Option ℤ) (grammar : Grammar) (line : List ℕ) → IsMild (named assumed grammar line)
-named_mild assumed (Items items) line = moment_by_mild (meaning (reads_in_turn items)) (in_turn_tame reads_component component_tame (listed items)) (defaults_of assumed) line
-named_mild assumed (V3 tree) line = moment_by_mild (meaning (reads reads_component_v3 tree)) (tree_tame reads_component_v3 component_tame_v3 tree) (defaults_of assumed) line
+named_mild assumed (Described (Items items)) line = moment_by_mild (meaning (reads_in_turn items)) (in_turn_tame reads_component component_tame (listed items)) (defaults_of assumed) line
+named_mild assumed (Described (V3 tree)) line = moment_by_mild (meaning (reads reads_component_v3 tree)) (tree_tame reads_component_v3 component_tame_v3 tree) (defaults_of assumed) line
 named_mild assumed Rfc2822 line = roads_mild rfc2822.direct reads_rfc2822 rfc2822_mild rfc2822_tame (defaults_of assumed) line
 named_mild assumed Rfc3339 line = roads_mild rfc3339.direct reads_rfc3339 rfc3339_mild rfc3339_tame (defaults_of assumed) line
 named_mild assumed Iso8601 line = moment_by_mild reads_iso8601 staged_tame (defaults_of assumed) line

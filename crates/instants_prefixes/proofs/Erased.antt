@@ -7,20 +7,20 @@ use Rattle.description_items.specs.Tree.{listed}
 use Rattle.parsing_components.specs.Component.{reads_component, reads_component_v3}
 use Rattle.parsing_record.specs.Meaning.{Answer}
 use Rattle.parsing_record.specs.Record.{Record, empty}
-use Rattle.instants_sources.specs.Grammar.{Grammar, Items, V3, Rfc2822, Rfc3339, Iso8601}
+use Rattle.instants_sources.specs.Grammar.{Grammar, Described, Rfc2822, Rfc3339, Iso8601, Items, V3}
+use Rattle.instants_sources.specs.Reading.{reading_of}
 use Rattle.instants_prefixes.specs.Lacks.{stands, is_year, is_century, is_last_two, is_month, is_day, is_ordinal, is_week, is_weekday, is_hour}
-use Rattle.instants_prefixes.specs.Reading.{reading_of}
 use Rattle.instants_prefixes.proofs.Commutes.{changed, tree_commutes, in_turn_commutes}
 use Rattle.instants_prefixes.proofs.Spared.{Erases, spares, spares_v3}
 
 -- where none of the kind stands, nothing is there to take away
 erased : (u : Record → Record) (kind : Component → Bool) → Erases u kind → u empty ≡ empty → (grammar : Grammar) → stands kind grammar ≡ false → (text : List ℕ) → reading_of grammar empty text ≡ changed u (reading_of grammar empty text)
-erased u kind each is (Items items) free text =
+erased u kind each is (Described (Items items)) free text =
     let both = in_turn_commutes u reads_component (λ c. kind (modern c)) (spares u (λ c. kind (modern c)) (λ c other. each (modern c) other)) (listed items) free empty text in
-    ap (λ r. reading_of (Items items) r text) (sym is) ∙ both
-erased u kind each is (V3 tree) free text =
+    ap (λ r. reading_of (Described (Items items)) r text) (sym is) ∙ both
+erased u kind each is (Described (V3 tree)) free text =
     let both = tree_commutes u reads_component_v3 (λ c. kind (modern c)) (spares_v3 u (λ c. kind (modern c)) (λ c other. each (modern c) other)) tree free empty text in
-    ap (λ r. reading_of (V3 tree) r text) (sym is) ∙ both
+    ap (λ r. reading_of (Described (V3 tree)) r text) (sym is) ∙ both
 erased u kind each is Rfc2822 free text = absurd cc
 erased u kind each is Rfc3339 free text = absurd cc
 erased u kind each is Iso8601 free text = absurd cc

@@ -5,15 +5,19 @@ use Rattle.std.proofs.lemmas.List.{take-map, length-take-le, take_all}
 use Rattle.std.proofs.lemmas.List.Sums.{prefix_len-le-length}
 use Rattle.description_items.specs.Tree.{Tree, listed}
 use Rattle.parsing_combinator.specs.Tame.{EndsWith, Tame}
+use Rattle.parsing_components.specs.Component.{reads_component_v3}
+use Rattle.parsing_components.proofs.lemmas.Tame.{component_tame, component_tame_v3}
 use Rattle.parsing_record.specs.Meaning.{Answer}
 use Rattle.parsing_record.specs.Record.{Record, empty}
 use Rattle.parsing_record.specs.Reads.{Language, reading_of_all}
 use Rattle.parsing_record.proofs.lemmas.Tame.{IsTameLanguage, in_turn_tame}
-use Rattle.instants_prefixes.specs.Ends.{AreTexts, AreTextsOf, AreEnds, IsExtent, IsByTexts, LeavesAfter}
-use Rattle.instants_prefixes.specs.Lengths.{is_silent, is_text, length_read, length_by, before_first, up_to_last, with_text}
+use Rattle.instants_sources.specs.Grammar.{Described, Written, Items, V3}
+use Rattle.instants_sources.specs.Written.{language_of}
+use Rattle.instants_prefixes.specs.Ends.{AreTexts, AreTextsOf, AreEnds, IsExtent, IsExtentOf, IsByTexts, LeavesAfter, LeavesRest}
+use Rattle.instants_prefixes.specs.Lengths.{is_silent, is_text, length_read, length_by, before_first, up_to_last, with_text, items_written}
 use Rattle.instants_prefixes.specs.declared.ends.Ends.{Ends}
 use Rattle.instants_prefixes.specs.declared.extent.Extent.{Extent}
-use Rattle.instants_prefixes.proofs.Turns.{split, texts_read}
+use Rattle.instants_prefixes.proofs.Turns.{split, texts_read, by_items}
 
 pub last_length : (items : List Tree) → length (up_to_last items) ≡ length items - suffix_len is_silent items
 last_length items = length-take-le (length items - suffix_len is_silent items) items (omega arith)
@@ -84,7 +88,7 @@ all_written items long are =
     let last = last_length items in
     ap (λ n. take (n + prefix_len is_text (drop n items)) items) last ∙ take_all (count + prefix_len is_text (drop count items)) items (omega (arith, all))
 
-pub texts_extent : (language : Language) → IsTameLanguage language → (items : List Tree) (ends : Ends) (text rest : List ℕ) (read : ℕ) (extent : Extent) → AreEnds items ends → LeavesAfter language items text rest → read ≡ length text - length rest → IsByTexts ends read extent → IsExtent language items text extent
+texts_extent : (language : Language) → IsTameLanguage language → (items : List Tree) (ends : Ends) (text rest : List ℕ) (read : ℕ) (extent : Extent) → AreEnds items ends → LeavesAfter language items text rest → read ≡ length text - length rest → IsByTexts ends read extent → IsExtent language items text extent
 texts_extent language tame items ends text rest read extent are leaves sum by =
     let texts : AreTextsOf items by.texts = are.texts by.texts by.are in
     record {
@@ -92,6 +96,18 @@ texts_extent language tame items ends text rest read extent are leaves sum by =
       up_to = by.up_to ∙ ap (λ n. n - by.texts.back) sum ∙ sym (back_length language tame items text rest by.texts.back texts.back leaves);
       written = by.written ∙ sum ∙ sym (ap (length_by language text) (all_written items by.texts.back texts.back) ∙ ap (length_read text) leaves.1);
     }
+
+described_after : (written : Written) (text rest : List ℕ) → LeavesRest (Described written) text rest → LeavesAfter (language_of written) (items_written written) text rest
+described_after (Items items) text rest leaves = leaves
+described_after (V3 tree) text rest (set, e) = (set, by_items reads_component_v3 tree empty text ∙ e)
+
+is_tame : (written : Written) → IsTameLanguage (language_of written)
+is_tame (Items items) = component_tame
+is_tame (V3 tree) = component_tame_v3
+
+pub described_extent : (written : Written) (ends : Ends) (text rest : List ℕ) (read : ℕ) (extent : Extent) → AreEnds (items_written written) ends → LeavesRest (Described written) text rest → read ≡ length text - length rest → IsByTexts ends read extent → IsExtentOf written text extent
+described_extent written ends text rest read extent are leaves sum by =
+    texts_extent (language_of written) (is_tame written) (items_written written) ends text rest read extent are (described_after written text rest leaves) sum by
 
 -- the extent lies within the text
 pub read_within : (text : List ℕ) (a : Answer) → length_read text a ≤ length text

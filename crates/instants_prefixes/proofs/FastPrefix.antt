@@ -15,8 +15,6 @@ use Rattle.parsing_parsable.specs.Put.{put_rfc3339}
 use Rattle.parsing_parsable.specs.Staged.{reads_rfc3339}
 use Rattle.parsing_record.specs.Prefix.{NamesPrefix}
 use Rattle.parsing_parsable.specs.TwoRoads.{AgreeOn}
-use Rattle.instants_sources.specs.Grammar.{Rfc3339}
-use Rattle.instants_sources.specs.Named.{IsNamedBy}
 use Rattle.instants_sources.proofs.Roads.{same_moment}
 
 -- all was read, into a record that names the moment
@@ -47,8 +45,8 @@ prefix_by r bytes n moment h =
     let read = prefix_read true bytes n parts.0 parts.1 in
     record { set = put_rfc3339 parts.0 r; reads = rw read refl; names = ap moment_named parts.2 ∙ h.names_it }
 
-pub named_prefix : (bytes : List ℕ) (n : ℕ) (moment : Shown) → AgreeOn direct reads_rfc3339 (take n bytes) → IsNamedBy Rfc3339 (take n bytes) moment → NamesPrefix reads_rfc3339 empty bytes (drop n bytes) moment
+pub named_prefix : (bytes : List ℕ) (n : ℕ) (moment : Shown) → AgreeOn direct reads_rfc3339 (take n bytes) → direct (take n bytes) ≡ Ok moment → NamesPrefix reads_rfc3339 empty bytes (drop n bytes) moment
 unfolding whole
-named_prefix bytes n moment agree named =
-    let all : names moment_named (whole reads_rfc3339 (Some empty) (take n bytes)) ≡ Ok moment = same_moment (direct (take n bytes)) _ moment (agree None None) (named None) in
+named_prefix bytes n moment agree is =
+    let all : names moment_named (whole reads_rfc3339 (Some empty) (take n bytes)) ≡ Ok moment = same_moment (direct (take n bytes)) _ moment (agree None None) is in
     prefix_by empty bytes n moment (whole_named (reads_rfc3339 empty (take n bytes)) moment all)

@@ -8,10 +8,8 @@ use Rattle.std.proofs.lemmas.Bool.Decides.{nat_tests}
 use Rattle.std.proofs.lemmas.List.Sums.{prefix_len_passes}
 use Rattle.base.specs.Bytes.{plus, hyphen, upper_z}
 use Rattle.calendar_count.specs.declared.weekday.Weekday.{Weekday}
-use Rattle.description_items.specs.Tree.{Tree, listed}
 use Rattle.parsing_combinator.specs.Fault.{Fault, literal, component}
 use Rattle.parsing_combinator.specs.Pieces.{byte, digits, digit_count, byte_of, skip_of}
-use Rattle.parsing_components.specs.Component.{reads_component, reads_component_v3}
 use Rattle.parsing_iso8601.specs.declared.kind.Kind.TheVariants.{Unknown}
 use Rattle.parsing_iso8601.specs.Reading as iso8601
 use Rattle.parsing_iso8601.specs.Dates as iso8601_dates
@@ -19,14 +17,14 @@ use Rattle.parsing_iso8601.specs.Times as iso8601_times
 use Rattle.parsing_iso8601.specs.Offsets as iso8601_offsets
 use Rattle.parsing_iso8601.specs.Numbers as iso8601_numbers
 use Rattle.parsing_record.specs.Meaning.{Answer}
-use Rattle.parsing_record.specs.Reads.{reading, reading_of_all}
 use Rattle.parsing_record.specs.Record.{Record, empty}
 use Rattle.parsing_rfc2822.specs.Reading as rfc2822
 use Rattle.parsing_rfc2822.specs.Names.{weekday, weekday_of}
 use Rattle.parsing_rfc2822.proofs.WhiteSpaceLemmas.{none_at}
 use Rattle.parsing_rfc3339.specs.Reading as rfc3339
 use Rattle.parsing_parsable.specs.Staged.{reads_rfc2822, reads_rfc3339, reads_iso8601}
-use Rattle.instants_sources.specs.Grammar.{Grammar, Items, V3, Rfc2822, Rfc3339, Iso8601}
+use Rattle.instants_sources.specs.Grammar.{Grammar, Described, Rfc2822, Rfc3339, Iso8601, Written}
+use Rattle.instants_sources.specs.Written.{reads_written}
 use Rattle.instants_sources.proofs.RuledOut.{part_due_of_nothing}
 use Rattle.instants_prefixes.specs.Given.{Given}
 use Rattle.instants_prefixes.specs.NoPrefix.{begins_day, begins_part}
@@ -39,13 +37,9 @@ none_prefix given grammar (Err f) e = refl
 
 -- ---- descriptions
 
-pub items_none : (items : List Tree) (text : List ℕ) → ((r : Record) → result_ok (reading_of_all reads_component (listed items) r text) ≡ None) → (given : Given) → prefix_named given (Items items) text ≡ None
+pub described_none : (written : Written) (text : List ℕ) → ((r : Record) → result_ok (reads_written written r text) ≡ None) → (given : Given) → prefix_named given (Described written) text ≡ None
 unfolding prefix_named
-items_none items text refused given = none_prefix given (Items items) (reading_of_all reads_component (listed items) empty text) (refused empty)
-
-pub tree_none : (tree : Tree) (text : List ℕ) → ((r : Record) → result_ok (reading reads_component_v3 tree r text) ≡ None) → (given : Given) → prefix_named given (V3 tree) text ≡ None
-unfolding prefix_named
-tree_none tree text refused given = none_prefix given (V3 tree) (reading reads_component_v3 tree empty text) (refused empty)
+described_none written text refused given = none_prefix given (Described written) (reads_written written empty text) (refused empty)
 
 -- ---- RFC 3339
 

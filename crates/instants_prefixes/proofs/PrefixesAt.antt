@@ -8,18 +8,19 @@ use Rattle.std.proofs.lemmas.List.Sums.{prefix_len-le-length}
 use Rattle.base.specs.Bytes.{space}
 use Rattle.datetime_wall.specs.Wall.{Shown}
 use Rattle.description_items.specs.Tree.{Tree, listed}
-use Rattle.parsing_components.specs.Component.{reads_component, reads_component_v3}
 use Rattle.parsing_record.specs.Meaning.{Answer}
 use Rattle.parsing_record.specs.Record.{empty}
 use Rattle.parsing_record.specs.Reads.{Language, reading_of_all}
-use Rattle.instants_sources.specs.Grammar.{Grammar, Items, V3, Rfc2822, Rfc3339, Iso8601}
+use Rattle.instants_sources.specs.Grammar.{Grammar, Described, Rfc2822, Rfc3339, Iso8601}
+use Rattle.instants_sources.specs.Reading.{reading_of}
+use Rattle.instants_sources.specs.Written.{language_of}
 use Rattle.instants_edges.specs.Pieces.{blanks, trimmed_length, zone_length}
 use Rattle.instants_prefixes.specs.DateSource.{IsWithin}
 use Rattle.instants_prefixes.specs.Ends.{LeavesRest}
 use Rattle.instants_prefixes.specs.Prefix.{prefix_at, prefix_in, with_lengths}
 use Rattle.instants_prefixes.specs.Given.{Given, moment_of}
-use Rattle.instants_prefixes.specs.Lengths.{Lengths, lengths, lengths_by, whole, length_by, items_of, before_first, up_to_last, with_text}
-use Rattle.instants_prefixes.specs.Reading.{text_for, reading_of, may_begin, prefix_named, prefix_of, if_likely, is_likely}
+use Rattle.instants_prefixes.specs.Lengths.{Lengths, lengths, lengths_by, whole, length_by, items_written, before_first, up_to_last, with_text}
+use Rattle.instants_prefixes.specs.Reading.{text_for, may_begin, prefix_named, prefix_of, if_likely, is_likely}
 use Rattle.instants_prefixes.specs.declared.prefix.Prefix.{Prefix}
 use Rattle.instants_prefixes.proofs.Extents.{read_within}
 
@@ -95,8 +96,7 @@ whole_within text n = let here = trimmed_within (take n text) in let long = leng
 
 lengths_within : (grammar : Grammar) (text rest : List ℕ) → AreWithin text (lengths grammar text rest)
 unfolding lengths
-lengths_within (Items items) text rest = by_within reads_component text items
-lengths_within (V3 tree) text rest = by_within reads_component_v3 text (items_of tree)
+lengths_within (Described written) text rest = by_within (language_of written) text (items_written written)
 lengths_within Rfc2822 text rest = whole_within text (length text - length rest)
 lengths_within Rfc3339 text rest = whole_within text (length text - length rest)
 lengths_within Iso8601 text rest = whole_within text (length text - length rest)

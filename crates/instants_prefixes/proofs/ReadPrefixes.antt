@@ -14,10 +14,11 @@ use Rattle.parsing_rfc3339.specs.Reading as rfc3339
 use Rattle.parsing_record.specs.Prefix.{NamesPrefix}
 use Rattle.parsing_record.specs.Meaning.{Answer, Meaning}
 use Rattle.parsing_record.specs.Record.{Record, empty}
-use Rattle.parsing_record.specs.Reads.{Language, reads, reading, reading_of_all}
+use Rattle.parsing_record.specs.Reads.{Language, reads, reading}
 use Rattle.parsing_record.specs.Parts.{moment_parts, offset_parts}
 use Rattle.parsing_record.specs.Whole.{moment_named}
-use Rattle.instants_sources.specs.Grammar.{Grammar, Items, V3, Rfc3339}
+use Rattle.instants_sources.specs.Grammar.{Grammar, Described, Rfc3339, Written, Items, V3}
+use Rattle.instants_sources.specs.Written.{reads_written}
 use Rattle.instants_sources.specs.Tried.{beginning}
 use Rattle.instants_prefixes.specs.Contents.{is_offset_part, is_placing, AreContents}
 use Rattle.instants_prefixes.specs.declared.contents.Contents.{Contents}
@@ -135,20 +136,14 @@ tree_reads language erased tree contents placing part =
       offset = λ e. record { placed = λ hour minute. tree_commutes (placed hour minute) language _ (spares.offset hour minute) tree (part ∙ e); unplaced = tree_commutes unplaced language _ spares.hour tree (part ∙ e) };
     }
 
-pub items_read_as : (items : List Tree) (contents : Contents) → AreContents (Items items) contents → ReadsAs (reading_of_all reads_component (listed items)) contents
+pub read_as : (written : Written) (contents : Contents) → AreContents (Described written) contents → ReadsAs (reads_written written) contents
 unfolding reads
-items_read_as items contents are = tree_reads reads_component spares (Compound (listed items)) contents are.placing are.offset_part
+read_as (Items items) contents are = tree_reads reads_component spares (Compound (listed items)) contents are.placing are.offset_part
+read_as (V3 tree) contents are = tree_reads reads_component_v3 spares_v3 tree contents are.placing are.offset_part
 
-pub tree_reads_as : (tree : Tree) (contents : Contents) → AreContents (V3 tree) contents → ReadsAs (reading reads_component_v3 tree) contents
-tree_reads_as tree contents are = tree_reads reads_component_v3 spares_v3 tree contents are.placing are.offset_part
-
-pub items_prefix : (given : Given) (items : List Tree) (contents : Contents) (text : List ℕ) → AreContents (Items items) contents → prefix_named given (Items items) text ≡ prefix_by contents.has_unix_time given (reading_of_all reads_component (listed items) empty text)
+pub described_prefix : (given : Given) (written : Written) (contents : Contents) (text : List ℕ) → AreContents (Described written) contents → prefix_named given (Described written) text ≡ prefix_by contents.has_unix_time given (reads_written written empty text)
 unfolding prefix_named
-items_prefix given items contents text are = prefix_same given (Items items) contents.has_unix_time are.unix_time (reading_of_all reads_component (listed items) empty text)
-
-pub tree_prefix : (given : Given) (tree : Tree) (contents : Contents) (text : List ℕ) → AreContents (V3 tree) contents → prefix_named given (V3 tree) text ≡ prefix_by contents.has_unix_time given (reading reads_component_v3 tree empty text)
-unfolding prefix_named
-tree_prefix given tree contents text are = prefix_same given (V3 tree) contents.has_unix_time are.unix_time (reading reads_component_v3 tree empty text)
+described_prefix given written contents text are = prefix_same given (Described written) contents.has_unix_time are.unix_time (reads_written written empty text)
 
 none_of : {A : Type 0} (o : Option A) → is_some o ≡ false → o ≡ None
 none_of None e = refl

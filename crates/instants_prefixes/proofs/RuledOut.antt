@@ -3,15 +3,13 @@ use Rattle.std.proofs.Common.{◌≡◌, ◌⊎◌, inl, inr, ℕ, Bool, false, 
 use Rattle.std.specs.Result.{result_ok}
 use Rattle.std.specs.Char.{is_ascii_digit}
 use Rattle.base.specs.Bytes.{hyphen}
-use Rattle.description_items.specs.Tree.{Tree, listed}
-use Rattle.parsing_components.specs.Component.{reads_component, reads_component_v3}
-use Rattle.parsing_record.specs.Reads.{reading, reading_of_all}
 use Rattle.parsing_record.specs.Record.{Record}
 use Rattle.parsing_rfc2822.specs.Reading as rfc2822
-use Rattle.instants_sources.specs.Grammar.{Items, V3, Rfc2822, Rfc3339}
+use Rattle.instants_sources.specs.Grammar.{Described, Rfc2822, Rfc3339, Written}
+use Rattle.instants_sources.specs.Written.{reads_written}
 use Rattle.instants_prefixes.specs.NoPrefix.{HasNoPrefix}
 use Rattle.instants_prefixes.specs.Reading.{text_for, prefix_named}
-use Rattle.instants_prefixes.proofs.NoneNamed.{items_none, tree_none, hyphen_none, year_none, comma_none}
+use Rattle.instants_prefixes.proofs.NoneNamed.{described_none, hyphen_none, year_none, comma_none}
 use Rattle.instants_prefixes.proofs.Windows.{text_byte}
 
 -- a test that no byte passes that is not there
@@ -34,8 +32,5 @@ comma_due bytes digit e given =
     let text = text_for Rfc2822 bytes in
     comma_none text (still_fails is_ascii_digit (get_or text 0 0) (get_or bytes 0 0) refl (text_byte Rfc2822 bytes 0) digit) (still_fails (λ b. eqb b rfc2822.comma) (get_or text 3 0) (get_or bytes 3 0) refl (text_byte Rfc2822 bytes 3) e) given
 
-pub items_due : (items : List Tree) (bytes text : List ℕ) → text ≡ text_for (Items items) bytes → ((r : Record) → result_ok (reading_of_all reads_component (listed items) r text) ≡ None) → HasNoPrefix bytes (Items items)
-items_due items bytes text is refused given = ap (prefix_named given (Items items)) (sym is) ∙ items_none items text refused given
-
-pub tree_due : (tree : Tree) (bytes text : List ℕ) → text ≡ text_for (V3 tree) bytes → ((r : Record) → result_ok (reading reads_component_v3 tree r text) ≡ None) → HasNoPrefix bytes (V3 tree)
-tree_due tree bytes text is refused given = ap (prefix_named given (V3 tree)) (sym is) ∙ tree_none tree text refused given
+pub described_due : (written : Written) (bytes text : List ℕ) → text ≡ text_for (Described written) bytes → ((r : Record) → result_ok (reads_written written r text) ≡ None) → HasNoPrefix bytes (Described written)
+described_due written bytes text is refused given = ap (prefix_named given (Described written)) (sym is) ∙ described_none written text refused given

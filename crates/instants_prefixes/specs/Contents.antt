@@ -3,9 +3,8 @@ use Rattle.std.specs.Prelude.{◌≡◌, ◌||◌, Bool, true, false}
 use Rattle.description_items.specs.declared.component.Component.{Component}
 use Rattle.description_items.specs.declared.component.Component.TheVariants as component
 use Rattle.description_items.specs.Modern.{modern}
-use Rattle.instants_sources.specs.Grammar.{Grammar, Items, V3, Rfc2822, Rfc3339, Iso8601}
-use Rattle.description_items.specs.Tree.{listed}
-use Rattle.instants_prefixes.specs.Reading.{is_unix_time, stands_in, has, any_has}
+use Rattle.instants_sources.specs.Grammar.{Grammar, Described}
+use Rattle.instants_prefixes.specs.Reading.{is_unix_time, stands_in, written_has}
 use Rattle.instants_prefixes.specs.Lengths.{is_saying}
 use Rattle.instants_prefixes.specs.Lacks.{is_year, is_century, is_last_two, is_month, is_day, is_ordinal, is_week, is_weekday, is_hour}
 pub use Rattle.instants_prefixes.specs.Lacks.{is_offset_hour}
@@ -50,8 +49,5 @@ pub record AreContents (grammar : Grammar) (contents : Contents) : Type 0 where
 
 -- a component of a kind stands in a source; the well-known formats have all that a moment needs
 abbrev pub stands_of : Kind → Grammar → Bool
-stands_of kind (Items items) = any_has (is_of kind) (listed items)
-stands_of kind (V3 tree) = has (is_of kind) tree
-stands_of kind Rfc2822 = true
-stands_of kind Rfc3339 = true
-stands_of kind Iso8601 = true
+stands_of kind (Described written) = written_has (is_of kind) written
+stands_of kind _ = true

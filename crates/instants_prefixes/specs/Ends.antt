@@ -6,9 +6,10 @@ use Rattle.description_items.specs.Tree.{Tree, Literal, listed}
 use Rattle.parsing_record.specs.Record.{Record, empty}
 use Rattle.parsing_record.specs.Reads.{Language, reading_of_all}
 use Rattle.instants_edges.specs.Pieces.{blanks, trimmed_length, zone_length}
-use Rattle.instants_sources.specs.Grammar.{Grammar, Items, V3, Rfc2822, Rfc3339, Iso8601}
-use Rattle.instants_prefixes.specs.Lengths.{Lengths, is_silent, is_text, length_by, before_first, up_to_last, with_text, items_of}
-use Rattle.instants_prefixes.specs.Reading.{reading_of}
+use Rattle.instants_sources.specs.Grammar.{Grammar, Described, Written}
+use Rattle.instants_sources.specs.Reading.{reading_of}
+use Rattle.instants_sources.specs.Written.{language_of}
+use Rattle.instants_prefixes.specs.Lengths.{Lengths, is_silent, is_text, length_by, before_first, up_to_last, with_text, items_written}
 use Rattle.instants_prefixes.specs.declared.ends.Ends.{Ends}
 use Rattle.instants_prefixes.specs.declared.ends.Texts.{Texts}
 use Rattle.instants_prefixes.specs.declared.extent.Extent.{Extent}
@@ -36,17 +37,18 @@ pub record AreEnds (items : List Tree) (ends : Ends) : Type 0 where
 
 -- the items of a source; the well-known formats have none
 abbrev pub items_in : Grammar → List Tree
-items_in (Items items) = items
-items_in (V3 tree) = items_of tree
-items_in Rfc2822 = []
-items_in Rfc3339 = []
-items_in Iso8601 = []
+items_in (Described written) = items_written written
+items_in _ = []
 
 -- how much of a text is read by the items before the first, up to the last, and with the text after it
 pub record IsExtent (language : Language) (items : List Tree) (text : List ℕ) (extent : Extent) : Type 0 where
   pub begins : extent.begins ≡ length_by language text (before_first items)
   pub up_to : extent.up_to ≡ length_by language text (up_to_last items)
   pub written : extent.written ≡ length_by language text (with_text items)
+
+-- of a text that a description reads
+abbrev pub IsExtentOf : Written → List ℕ → Extent → Type 0
+IsExtentOf written text extent = IsExtent (language_of written) (items_written written) text extent
 
 -- the lengths by these
 abbrev pub lengths_from : List ℕ → Extent → Lengths

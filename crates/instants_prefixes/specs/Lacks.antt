@@ -4,11 +4,9 @@ use Rattle.std.specs.Option.{is_none}
 use Rattle.description_items.specs.declared.component.Component.{Component}
 use Rattle.description_items.specs.declared.component.Component.TheVariants as component
 use Rattle.description_items.specs.Modern.{modern}
-use Rattle.description_items.specs.Tree.{listed}
-use Rattle.instants_sources.specs.Grammar.{Grammar, Items, V3, Rfc2822, Rfc3339, Iso8601}
+use Rattle.instants_sources.specs.Grammar.{Grammar, Described}
 use Rattle.instants_prefixes.specs.Given.{Given, Years, Unknown, In, Near}
-use Rattle.instants_prefixes.specs.Has.{has, any_has}
-use Rattle.instants_prefixes.specs.Reading.{is_unix_time}
+use Rattle.instants_prefixes.specs.Reading.{is_unix_time, written_has}
 pub use Rattle.instants_prefixes.specs.declared.lacks.Lack.{Lack}
 pub use Rattle.instants_prefixes.specs.declared.lacks.Lack.TheVariants.{Century, Year, Day, Hour, Offset}
 
@@ -69,11 +67,8 @@ is_offset_hour _ = false
 
 -- such a component stands in a source, or an older form that says the same; the well-known formats have all that a moment needs
 abbrev pub stands : (Component → Bool) → Grammar → Bool
-stands kind (Items items) = any_has (λ c. kind (modern c)) (listed items)
-stands kind (V3 tree) = has (λ c. kind (modern c)) tree
-stands kind Rfc2822 = true
-stands kind Rfc3339 = true
-stands kind Iso8601 = true
+stands kind (Described written) = written_has (λ c. kind (modern c)) written
+stands kind _ = true
 
 abbrev pub is_known : Years → Bool
 is_known Unknown = false

@@ -4,11 +4,11 @@ use Rattle.std.specs.List.{prefix_len, suffix_len}
 use Rattle.description_items.specs.declared.component.Component.{Component}
 use Rattle.description_items.specs.declared.component.Component.TheVariants as component
 use Rattle.description_items.specs.Tree.{Tree, Trees, Literal, Compound, none, also, listed}
-use Rattle.parsing_components.specs.Component.{reads_component, reads_component_v3}
 use Rattle.parsing_record.specs.Meaning.{Answer}
 use Rattle.parsing_record.specs.Record.{empty}
 use Rattle.parsing_record.specs.Reads.{Language, reading_of_all}
-use Rattle.instants_sources.specs.Grammar.{Grammar, Items, V3, Rfc2822, Rfc3339, Iso8601}
+use Rattle.instants_sources.specs.Grammar.{Grammar, Described, Written, Items, V3}
+use Rattle.instants_sources.specs.Written.{language_of}
 use Rattle.instants_edges.specs.Pieces.{blanks, trimmed_length, zone_length}
 use Rattle.instants_prefixes.specs.Reading.{has}
 
@@ -72,10 +72,12 @@ abbrev pub items_of : Tree → List Tree
 items_of (Compound ts) = children ts
 items_of t = t ∷ []
 
+-- the items of a description
+abbrev pub items_written : Written → List Tree
+items_written (Items items) = items
+items_written (V3 tree) = items_of tree
+
 -- the lengths at the start of a text that is read, by what stands after the prefix
 unfoldable pub lengths : Grammar → List ℕ → List ℕ → Lengths
-lengths (Items items) text rest = lengths_by reads_component text items
-lengths (V3 tree) text rest = lengths_by reads_component_v3 text (items_of tree)
-lengths Rfc2822 text rest = whole (trimmed_length (take (length text - length rest) text))
-lengths Rfc3339 text rest = whole (trimmed_length (take (length text - length rest) text))
-lengths Iso8601 text rest = whole (trimmed_length (take (length text - length rest) text))
+lengths (Described written) text rest = lengths_by (language_of written) text (items_written written)
+lengths _ text rest = whole (trimmed_length (take (length text - length rest) text))

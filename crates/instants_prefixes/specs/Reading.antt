@@ -5,13 +5,10 @@ use Rattle.datetime_wall.specs.Wall.{Shown, instant}
 use Rattle.description_items.specs.declared.component.Component.{Component}
 use Rattle.description_items.specs.declared.component.Component.TheVariants as component
 use Rattle.description_items.specs.Tree.{listed}
-use Rattle.parsing_components.specs.Component.{reads_component_v3}
-use Rattle.parsing_record.specs.Meaning.{Answer, Meaning, meaning}
-use Rattle.parsing_record.specs.Reads.{reads}
+use Rattle.parsing_record.specs.Meaning.{Answer}
 use Rattle.parsing_record.specs.Record.{empty}
-use Rattle.parsing_parsable.specs.Staged.{reads_rfc2822, reads_rfc3339, reads_iso8601}
-use Rattle.parsing_parsable.specs.Moment.{reads_in_turn}
-use Rattle.instants_sources.specs.Grammar.{Grammar, Items, V3, Rfc2822, Rfc3339, Iso8601}
+use Rattle.instants_sources.specs.Grammar.{Grammar, Described, Rfc2822, Iso8601, Written, Items, V3}
+use Rattle.instants_sources.specs.Reading.{reading_of}
 use Rattle.instants_edges.specs.Text.{iso_text, mail_text}
 use Rattle.instants_prefixes.specs.Given.{Given, moment_of}
 pub use Rattle.instants_prefixes.specs.Has.{has, any_has}
@@ -22,37 +19,26 @@ window = 256
 
 -- what a source is given of the bytes from a place on
 unfoldable pub text_for : Grammar → List ℕ → List ℕ
-text_for (Items items) bytes = take window bytes
-text_for (V3 tree) bytes = take window bytes
 text_for Rfc2822 bytes = mail_text 0 (take window bytes)
-text_for Rfc3339 bytes = take window bytes
 text_for Iso8601 bytes = iso_text (take window bytes)
-
--- what a source reads into a record
-abbrev pub reading_of : Grammar → Meaning
-reading_of (Items items) = meaning (reads_in_turn items)
-reading_of (V3 tree) = meaning (reads reads_component_v3 tree)
-reading_of Rfc2822 = reads_rfc2822
-reading_of Rfc3339 = reads_rfc3339
-reading_of Iso8601 = reads_iso8601
+text_for _ bytes = take window bytes
 
 -- a date of RFC 2822 begins with its weekday or its day, and not with the white space or the comments that may stand before it
 abbrev pub may_begin : Grammar → List ℕ → Bool
-may_begin (Items items) text = true
-may_begin (V3 tree) text = true
 may_begin Rfc2822 text = is_ascii_alphanumeric (get_or text 0 0)
-may_begin Rfc3339 text = true
-may_begin Iso8601 text = true
+may_begin _ text = true
 
 -- ---- which components stand in a source
 
--- one stands in a description; the well-known formats have none
+-- one stands in a description
+abbrev pub written_has : (Component → Bool) → Written → Bool
+written_has kind (Items items) = any_has kind (listed items)
+written_has kind (V3 tree) = has kind tree
+
+-- one stands in a source; the well-known formats have none
 abbrev pub stands_in : (Component → Bool) → Grammar → Bool
-stands_in kind (Items items) = any_has kind (listed items)
-stands_in kind (V3 tree) = has kind tree
-stands_in kind Rfc2822 = false
-stands_in kind Rfc3339 = false
-stands_in kind Iso8601 = false
+stands_in kind (Described written) = written_has kind written
+stands_in kind _ = false
 
 abbrev pub is_unix_time : Component → Bool
 is_unix_time (component.UnixTimestampSecond m) = true

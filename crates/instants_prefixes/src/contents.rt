@@ -1,12 +1,13 @@
 //! Which kinds of components stand in a source.
 ghost use Rattle.std.specs.Prelude.{◌≡◌, map};
 ghost use Rattle.description_items.specs.Tree.{listed};
-ghost use Rattle.instants_sources.specs.Grammar.{grammar_of};
+ghost use Rattle.instants_sources.specs.Grammar.{grammar_of, written};
 ghost use Rattle.instants_prefixes.specs.Contents.{is_of, AreContents};
 ghost use Rattle.instants_prefixes.specs.Has.{has, any_has};
-ghost use Rattle.instants_prefixes.specs.Reading.{stands_in};
+ghost use Rattle.instants_prefixes.specs.Reading.{stands_in, written_has};
 
 use crate::kind::{Kind, is_of};
+use description::Description;
 use instants_sources::Source;
 use parsing_record::{Node, NodeStep};
 
@@ -35,9 +36,9 @@ pub(crate) fn stands_in_node<N: Node>(node: &N, kind: Kind) -> bool
     }
 }
 
-/// Whether one stands in one of the nodes.
+// Whether one stands in one of the nodes.
 #[cycle(stands)]
-pub(crate) fn stands_in_any<N: Node>(nodes: &[N], kind: Kind) -> bool
+fn stands_in_any<N: Node>(nodes: &[N], kind: Kind) -> bool
     ensures stands { result ≡ any_has (is_of kind) (listed (map N.tree nodes.now)) }
 {
     for node in nodes {
@@ -48,13 +49,22 @@ pub(crate) fn stands_in_any<N: Node>(nodes: &[N], kind: Kind) -> bool
     false
 }
 
+/// Whether one stands in a description.
+pub(crate) fn stands_in_description(description: &Description<'_>, kind: Kind) -> bool
+    ensures { result ≡ written_has (is_of kind) (written description.now) }
+{
+    match description {
+        Description::Items(items) => stands_in_any(items.as_slice(), kind),
+        Description::V3(tree) => stands_in_node(tree.inner(), kind),
+    }
+}
+
 // Whether one stands in a source.
 fn stands_in_source(source: &Source<'_>, kind: Kind) -> bool
     ensures { result ≡ stands_in (is_of kind) (grammar_of source.now) }
 {
     match source {
-        Source::Items(described) => stands_in_any(described.items(), kind),
-        Source::V3(described) => stands_in_node(described.tree().inner(), kind),
+        Source::Described(described) => stands_in_description(described.description(), kind),
         _ => false,
     }
 }

@@ -73,7 +73,7 @@ impl<'a> DateSource<'a> {
         }
     }
 
-    // The same where a plan reads a description's items, and texts alone stand around what they say: `None` says nothing of the
+    // The same where a plan reads a description, and texts alone stand around what they say: `None` says nothing of the
     // bytes. The compiler inlines a large function where it is called once alone, so each caller has one of its own.
     #[inline]
     fn planned<const AT_ONCE: bool>(&self, bytes: &[u8], given: &Given) -> Option<Prefix>
@@ -81,7 +81,7 @@ impl<'a> DateSource<'a> {
             (λ prefix. Some prefix ≡ prefix_at given.now (grammar_in self.now) bytes.now) }
         ensures within { IfSome result (IsWithin bytes.now) }
     {
-        let Source::Items(described) = &self.source else {
+        let Source::Described(described) = &self.source else {
             return None;
         };
         if self.contents.has_unix_time || !has_offset(self.contents, given) {
@@ -92,13 +92,14 @@ impl<'a> DateSource<'a> {
             return None;
         };
         let moment = Named::of_fields(fields);
-        let Some(prefix) = prefix_by_texts(described.items(), &self.ends, text, moment, rest) else {
+        let description = described.description();
+        let Some(prefix) = prefix_by_texts(description, &self.ends, text, moment, rest) else {
             return None;
         };
         Some(prefix)
     }
 
-    /// The same where a plan reads a description's items, and texts alone stand around what they say: `None` says nothing of
+    /// The same where a plan reads a description, and texts alone stand around what they say: `None` says nothing of
     /// the bytes. The fields that were read stay where they are, since the caller gets no memory for a prefix that it asks for.
     #[inline(always)]
     pub fn read_planned(&self, bytes: &[u8], given: &Given) -> Option<Prefix>

@@ -9,6 +9,7 @@ ghost use Rattle.instants_sources.specs.Grammar.{grammar_of};
 
 use crate::contents::stands_in_node;
 use crate::kind::Kind;
+use description::Description;
 use description_tree::FormatDescriptionV3;
 use instants_sources::Source;
 use parsing_record::{Node, NodeStep};
@@ -113,8 +114,10 @@ impl Ends {
         ensures { AreEnds (items_in (grammar_of source.now)) result }
     {
         match source {
-            Source::Items(described) => Ends::of_all(described.items()),
-            Source::V3(described) => ends_of_tree(described.tree()),
+            Source::Described(described) => match described.description() {
+                Description::Items(items) => Ends::of_all(items.as_slice()),
+                Description::V3(tree) => ends_of_tree(tree),
+            },
             _ => Ends {
                 first: 0,
                 last: 0,

@@ -1,13 +1,17 @@
 //! How much of a text the items of a source read.
-ghost use Rattle.std.specs.Prelude.{◌≡◌, ◌-◌, map, IfSome, Ok};
-ghost use Rattle.description_items.specs.Tree.{listed};
-ghost use Rattle.parsing_record.specs.Reads.{reading_of_all};
-ghost use Rattle.parsing_record.specs.Record.{Record, empty};
-ghost use Rattle.instants_prefixes.specs.Ends.{AreEnds, IsExtent, IsByTexts, LeavesAfter};
+ghost use Rattle.std.specs.Prelude.{map, IfSome};
+ghost use Rattle.description_tree.specs.Description.{v3_tree};
+ghost use Rattle.parsing_components.specs.Component.{reads_component_v3};
+ghost use Rattle.instants_sources.specs.Grammar.{Described, written};
+ghost use Rattle.instants_prefixes.specs.Ends.{AreEnds, IsExtent, IsExtentOf, IsByTexts, LeavesRest};
+ghost use Rattle.instants_prefixes.specs.Lengths.{items_of, items_written};
 
 use crate::ends::Ends;
 use crate::nodes::length_read;
-use parsing_record::ReadsNode;
+use description::Description;
+use description_tree::FormatDescriptionV3;
+use parsing_record::{Node, NodeStep, ReadsNode};
+use std::slice;
 
 /// How many bytes of a text are read by the items before the first that says something, by those up to the last that does,
 /// and by those and the texts after them.
@@ -44,17 +48,30 @@ fn by_reading<N: ReadsNode>(nodes: &[N], ends: &Ends, text: &[u8]) -> Extent
     }
 }
 
-/// The extent of nodes in a text that they read up to the rest, by the lengths of the texts: `None` where these don't tell it.
+// By reading the text again by a tree.
+fn by_reading_tree(tree: &FormatDescriptionV3<'_>, ends: &Ends, text: &[u8]) -> Extent
+    requires { AreEnds (items_of (v3_tree tree.now)) ends.now }
+    ensures { IsExtent reads_component_v3 (items_of (v3_tree tree.now)) text.now result }
+{
+    let node = tree.inner();
+    match node.step() {
+        NodeStep::Compound(nodes) => by_reading(nodes, ends, text),
+        _ => by_reading(slice::from_ref(node), ends, text),
+    }
+}
+
+/// The extent of a description in a text that it reads up to the rest, by the lengths of the texts around what it says: `None`
+/// where these don't tell it.
 #[inline(always)]
-pub(crate) fn extent_by_texts<N: ReadsNode>(
-    _nodes: &[N],
+pub(crate) fn extent_by_texts(
+    _description: &Description<'_>,
     ends: &Ends,
     text: &[u8],
     rest: &[u8],
 ) -> Option<Extent>
-    requires ends { AreEnds (map N.tree _nodes.now) ends.now }
-    requires read { LeavesAfter N.language (map N.tree _nodes.now) text.now rest.now }
-    ensures { IfSome result (IsExtent N.language (map N.tree _nodes.now) text.now) }
+    requires ends { AreEnds (items_written (written _description.now)) ends.now }
+    requires read { LeavesRest (Described (written _description.now)) text.now rest.now }
+    ensures { IfSome result (IsExtentOf (written _description.now) text.now) }
 {
     let Some(extent) = by_texts(ends, text.len().saturating_sub(rest.len())) else {
         return None;
@@ -62,15 +79,23 @@ pub(crate) fn extent_by_texts<N: ReadsNode>(
     Some(extent)
 }
 
-/// The extent of nodes in a text that they read up to the rest.
+/// The extent of a description in a text that it reads up to the rest.
 #[inline(always)]
-pub(crate) fn extent_of<N: ReadsNode>(nodes: &[N], ends: &Ends, text: &[u8], rest: &[u8]) -> Extent
-    requires ends { AreEnds (map N.tree nodes.now) ends.now }
-    requires read { LeavesAfter N.language (map N.tree nodes.now) text.now rest.now }
-    ensures { IsExtent N.language (map N.tree nodes.now) text.now result }
+pub(crate) fn extent_of(
+    description: &Description<'_>,
+    ends: &Ends,
+    text: &[u8],
+    rest: &[u8],
+) -> Extent
+    requires ends { AreEnds (items_written (written description.now)) ends.now }
+    requires read { LeavesRest (Described (written description.now)) text.now rest.now }
+    ensures { IsExtentOf (written description.now) text.now result }
 {
-    match extent_by_texts(nodes, ends, text, rest) {
-        Some(extent) => extent,
-        None => by_reading(nodes, ends, text),
+    if let Some(extent) = extent_by_texts(description, ends, text, rest) {
+        return extent;
+    }
+    match description {
+        Description::Items(items) => by_reading(items.as_slice(), ends, text),
+        Description::V3(tree) => by_reading_tree(tree, ends, text),
     }
 }

@@ -6,7 +6,6 @@ ghost use Rattle.parsing_record.specs.Prefix.{NamesPrefix};
 ghost use Rattle.parsing_record.specs.Record.{empty};
 
 use instants_edges::byte_at;
-use instants_sources::fast_rfc3339;
 use parsing_fields::Fields;
 use parsing_parsable::laws::two_roads_of_rfc3339;
 
@@ -60,6 +59,6 @@ pub(crate) fn fast_prefix(bytes: &[u8]) -> Option<(Fields, &[u8])>
 {
     two_roads_of_rfc3339();
     let count = length_of_date(bytes)?;
-    let fields = fast_rfc3339(&bytes[..count])?;
+    let fields = parsing_rfc3339::read_fields(&bytes[..count])?;
     Some((fields, &bytes[count..]))
 }

@@ -4,7 +4,7 @@ ghost use Rattle.instants_sources.specs.Grammar.{grammar_of};
 ghost use Rattle.instants_prefixes.specs.Contents.{stands_of};
 ghost use Rattle.instants_prefixes.specs.Lacks as Lacks;
 
-use crate::contents::{stands_in_any, stands_in_node};
+use crate::contents::stands_in_description;
 use crate::given::{Given, Years};
 use crate::kind::Kind;
 use instants_sources::Source;
@@ -29,8 +29,7 @@ fn stands(source: &Source<'_>, kind: Kind) -> bool
     ensures { result ≡ stands_of kind (grammar_of source.now) }
 {
     match source {
-        Source::Items(described) => stands_in_any(described.items(), kind),
-        Source::V3(described) => stands_in_node(described.tree().inner(), kind),
+        Source::Described(described) => stands_in_description(described.description(), kind),
         _ => true,
     }
 }

@@ -1,11 +1,9 @@
 //! The moment that a prefix of a text names by a source, and what stands after that prefix.
 ghost use Rattle.std.specs.Prelude.{◌≡◌, ◌||◌, option_map, is_some, if◌then◌else◌, Some, None};
 ghost use Rattle.datetime_wall.specs.Wall.{Shown};
-ghost use Rattle.description_items.specs.Tree.{trees};
-ghost use Rattle.description_tree.specs.Description.{v3_tree};
 ghost use Rattle.parsing_record.specs.Meaning.{meaning};
 ghost use Rattle.parsing_record.specs.Record.{empty};
-ghost use Rattle.instants_sources.specs.Grammar.{grammar_of};
+ghost use Rattle.instants_sources.specs.Grammar.{grammar_of, written};
 ghost use Rattle.instants_sources.specs.Grammar as grammar;
 ghost use Rattle.instants_prefixes.specs.Contents.{AreContents};
 ghost use Rattle.instants_prefixes.specs.Named.{is_likely_if, kept_if, prefix_by};
@@ -16,9 +14,10 @@ use crate::contents::Contents;
 use crate::fast_prefix::fast_prefix;
 use crate::given::Given;
 use calendar::UtcOffset;
+use description::Description;
 use description_items::{Iso8601, Rfc2822, Rfc3339};
 use instants_edges::byte_at;
-use instants_sources::{DescribedItems, DescribedTree, Named, Source};
+use instants_sources::{Described, Named, Source};
 use parsing_parsable::{Items, Parsable};
 use parsing_record::Parsed;
 
@@ -90,16 +89,16 @@ pub(crate) fn has_offset(contents: Contents, given: &Given) -> bool
     contents.is_placed || given.offset.is_some()
 }
 
-// By a description's items: by the plan, and else exactly, where the first bytes don't show that they read none.
-fn named_by_items<'b>(
-    described: &DescribedItems<'_>,
+// By a description: by the plan, and else exactly, where the first bytes don't show that it reads none.
+fn named_by_description<'b>(
+    described: &Described<'_>,
     contents: Contents,
     text: &'b [u8],
     given: &Given,
 ) -> Option<(Named, &'b [u8])>
-    requires { AreContents (grammar.Items (trees described.now.items.items)) contents }
+    requires { AreContents (grammar.Described (written described.now.description)) contents }
     ensures { option_map (λ x. (x.0, x.1.now)) result
-        ≡ prefix_named given.now (grammar.Items (trees described.now.items.items)) text.now }
+        ≡ prefix_named given.now (grammar.Described (written described.now.description)) text.now }
 {
     if !has_offset(contents, given) {
         return None;
@@ -110,35 +109,11 @@ fn named_by_items<'b>(
     if described.cannot_match(text) {
         return None;
     }
-    named_by_record(
-        &Items(described.items()),
-        contents.has_unix_time,
-        text,
-        given,
-    )
-}
-
-// By a description's tree.
-fn named_by_tree<'b>(
-    described: &DescribedTree<'_>,
-    contents: Contents,
-    text: &'b [u8],
-    given: &Given,
-) -> Option<(Named, &'b [u8])>
-    requires { AreContents (grammar.V3 (v3_tree described.now.tree)) contents }
-    ensures { option_map (λ x. (x.0, x.1.now)) result
-        ≡ prefix_named given.now (grammar.V3 (v3_tree described.now.tree)) text.now }
-{
-    if !has_offset(contents, given) {
-        return None;
+    let has_unix_time = contents.has_unix_time;
+    match described.description() {
+        Description::Items(items) => named_by_record(&Items(items), has_unix_time, text, given),
+        Description::V3(tree) => named_by_record(tree, has_unix_time, text, given),
     }
-    if let Some((fields, rest)) = described.read_prefix(text, assumed(contents, given)) {
-        return kept(contents.has_unix_time, Named::of_fields(fields), rest);
-    }
-    if described.cannot_match(text) {
-        return None;
-    }
-    named_by_record(described.tree(), contents.has_unix_time, text, given)
 }
 
 // By RFC 2822, where the text begins with a weekday or a day.
@@ -183,8 +158,7 @@ pub(crate) fn prefix_named<'b>(
         ≡ prefix_named given.now (grammar_of source.now) text.now }
 {
     match source {
-        Source::Items(described) => named_by_items(described, contents, text, given),
-        Source::V3(described) => named_by_tree(described, contents, text, given),
+        Source::Described(described) => named_by_description(described, contents, text, given),
         Source::Rfc2822 => named_by_rfc2822(text, given),
         Source::Rfc3339 => named_by_rfc3339(text, given),
         Source::Iso8601 => named_by_record(&Iso8601, false, text, given),

@@ -39,8 +39,7 @@ pub fn rules_out(source: &Source<'_>, bytes: &[u8]) -> bool
     ensures { result ≡ true → HasNoPrefix bytes.now (grammar_of source.now) }
 {
     match source {
-        Source::Items(described) => described.cannot_match(text_for(source, bytes)),
-        Source::V3(described) => described.cannot_match(text_for(source, bytes)),
+        Source::Described(described) => described.cannot_match(text_for(source, bytes)),
         _ => lacks_byte(source, bytes),
     }
 }

@@ -3,3 +3,4 @@ pub mod Planned
 pub mod Refused
 pub mod Roads
 pub mod RuledOut
+mod Spelled

@@ -1,12 +1,12 @@
 //! The moment of a line, by the fast way or the exact one.
-ghost use Rattle.std.specs.Prelude.{◌≡◌, true, codes, Ok, Err, IfSome};
+ghost use Rattle.std.specs.Prelude.{◌≡◌, ℕ, List, true, codes, Ok, Err, IfSome};
 ghost use Rattle.std.specs.Result.{result_ok};
+ghost use Rattle.datetime_wall.specs.Wall.{Shown};
 ghost use Rattle.parsing_combinator.specs.Fault.{component};
 ghost use Rattle.parsing_fields.specs.Moment.{moment_of};
-ghost use Rattle.parsing_plan.specs.declared.plan.Plan.TheVariants as plan;
 ghost use Rattle.instants_sources.specs.Grammar.{Grammar, grammar_of};
 ghost use Rattle.instants_sources.specs.Grammar as grammar;
-ghost use Rattle.instants_sources.specs.Named.{named, IsNamedBy, NamesNothing};
+ghost use Rattle.instants_sources.specs.Named.{named, IsDirect, IsNamedBy, NamesNothing};
 ghost use Rattle.instants_sources.specs.Planned.{IsPlanned};
 
 use crate::ruled_out::{begins_no_day, begins_no_part, has_no_hyphen, has_no_space};
@@ -15,105 +15,17 @@ use calendar::UtcOffset;
 use datetime_types::OffsetDateTime;
 use parsing_fields::Fields;
 use parsing_parsable::laws::{one_road_of_iso8601, two_roads_of_rfc2822, two_roads_of_rfc3339};
-use parsing_plan::{Places, Plan, UnixTime};
+use parsing_plan::Plan;
 
-/// The fields of the moment of a line of RFC 2822, where the fast way finds them, whatever offset is assumed: `None` says
-/// nothing of the line.
+/// A well-known format names the moment that it reads from a line by itself, whatever offset is assumed.
 #[inline(always)]
-pub fn fast_rfc2822(line: &[u8]) -> Option<Fields>
-    ensures { IfSome result (λ fields. IsNamedBy grammar.Rfc2822 line.now (moment_of fields)) }
+pub fn directly_named()
+    ensures { (grammar : Grammar) (line : List ℕ) (moment : Shown) → IsDirect grammar line moment
+        → IsNamedBy grammar line moment }
 {
     two_roads_of_rfc2822();
-    parsing_rfc2822::read_fields(line)
-}
-
-/// The fields of the moment of a line of RFC 3339, where the fast way finds them, whatever offset is assumed: `None` says
-/// nothing of the line.
-#[inline(always)]
-pub fn fast_rfc3339(line: &[u8]) -> Option<Fields>
-    ensures { IfSome result (λ fields. IsNamedBy grammar.Rfc3339 line.now (moment_of fields)) }
-{
     two_roads_of_rfc3339();
-    parsing_rfc3339::read_fields(line)
-}
-
-/// The fields of the moment of a line of ISO 8601, where the fast way finds them, whatever offset is assumed: `None` says
-/// nothing of the line.
-#[inline(always)]
-pub fn fast_iso8601(line: &[u8]) -> Option<Fields>
-    ensures { IfSome result (λ fields. IsNamedBy grammar.Iso8601 line.now (moment_of fields)) }
-{
     one_road_of_iso8601();
-    parsing_iso8601::read_fields(line)
-}
-
-/// The fields of the moment of a line of RFC 2822 of the shape that nearly all have, whatever offset is assumed: `None` says
-/// nothing of the line.
-#[inline(always)]
-pub fn usual_rfc2822(line: &[u8]) -> Option<Fields>
-    ensures { IfSome result (λ fields. IsNamedBy grammar.Rfc2822 line.now (moment_of fields)) }
-{
-    two_roads_of_rfc2822();
-    parsing_rfc2822::read_usual_fields(line)
-}
-
-/// The fields of the moment of a line of RFC 2822 of another shape, whatever offset is assumed: `None` says nothing of the
-/// line.
-#[inline(always)]
-pub fn other_rfc2822(line: &[u8]) -> Option<Fields>
-    ensures { IfSome result (λ fields. IsNamedBy grammar.Rfc2822 line.now (moment_of fields)) }
-{
-    two_roads_of_rfc2822();
-    parsing_rfc2822::read_other_fields(line)
-}
-
-/// The fields of the moment of a line of RFC 3339 of the shape that nearly all have, whatever offset is assumed: `None` says
-/// nothing of the line.
-#[inline(always)]
-pub fn usual_rfc3339(line: &[u8]) -> Option<Fields>
-    ensures { IfSome result (λ fields. IsNamedBy grammar.Rfc3339 line.now (moment_of fields)) }
-{
-    two_roads_of_rfc3339();
-    parsing_rfc3339::read_usual_fields(line)
-}
-
-/// The fields of the moment of a line of RFC 3339 with many digits of a fraction or a small `z`, whatever offset is assumed:
-/// `None` says nothing of the line.
-#[inline(always)]
-pub fn rare_rfc3339(line: &[u8]) -> Option<Fields>
-    ensures { IfSome result (λ fields. IsNamedBy grammar.Rfc3339 line.now (moment_of fields)) }
-{
-    two_roads_of_rfc3339();
-    parsing_rfc3339::read_rare_fields(line)
-}
-
-/// The fields of the moment of a line of ISO 8601 with a second, whatever offset is assumed: `None` says nothing of the line.
-#[inline(always)]
-pub fn usual_iso8601(line: &[u8]) -> Option<Fields>
-    ensures { IfSome result (λ fields. IsNamedBy grammar.Iso8601 line.now (moment_of fields)) }
-{
-    one_road_of_iso8601();
-    parsing_iso8601::read_usual_fields(line)
-}
-
-/// The fields of the moment of a line of ISO 8601 without a second, whatever offset is assumed: `None` says nothing of the
-/// line.
-#[inline(always)]
-pub fn iso8601_to_minute(line: &[u8]) -> Option<Fields>
-    ensures { IfSome result (λ fields. IsNamedBy grammar.Iso8601 line.now (moment_of fields)) }
-{
-    one_road_of_iso8601();
-    parsing_iso8601::read_fields_to_minute(line)
-}
-
-/// The fields of the moment of a line of ISO 8601 with many digits of a fraction, whatever offset is assumed: `None` says
-/// nothing of the line.
-#[inline(always)]
-pub fn rare_iso8601(line: &[u8]) -> Option<Fields>
-    ensures { IfSome result (λ fields. IsNamedBy grammar.Iso8601 line.now (moment_of fields)) }
-{
-    one_road_of_iso8601();
-    parsing_iso8601::read_rare_fields(line)
 }
 
 // Whether the first bytes of a line show that RFC 2822 names no moment for it.
@@ -134,51 +46,6 @@ pub fn is_no_rfc3339(line: &[u8]) -> bool
     has_no_hyphen(line)
 }
 
-/// The fields of the moment of a line, where a plan with a place for each component finds them, with an offset assumed or none:
-/// `None` says nothing of the line.
-#[inline(always)]
-pub fn read_by_places(places: &Places, line: &[u8], assumed: Option<UtcOffset>) -> Option<Fields>
-    ensures { (grammar : Grammar) → IsPlanned grammar (plan.Places places.now) → IfSome result
-        (λ fields. named assumed grammar line.now ≡ Ok (moment_of fields)) }
-{
-    places.read(line, assumed)
-}
-
-/// The same where the plan is plain: `None` for each line of a plan that is not.
-#[inline(always)]
-pub fn read_by_plain_places(
-    places: &Places,
-    line: &[u8],
-    assumed: Option<UtcOffset>,
-) -> Option<Fields>
-    ensures { (grammar : Grammar) → IsPlanned grammar (plan.Places places.now) → IfSome result
-        (λ fields. named assumed grammar line.now ≡ Ok (moment_of fields)) }
-{
-    places.read_plain(line, assumed)
-}
-
-/// The fields of the moment of a line of Unix time, where a plan finds them, whatever offset is assumed: `None` says nothing of the
-/// line.
-#[inline(always)]
-pub fn read_by_unix(unix: &UnixTime, line: &[u8], assumed: Option<UtcOffset>) -> Option<Fields>
-    ensures { (grammar : Grammar) → IsPlanned grammar (plan.Unix unix.now) → IfSome result
-        (λ fields. named assumed grammar line.now ≡ Ok (moment_of fields)) }
-{
-    // (it says when the moment is, and no offset counts)
-    let _ = assumed;
-    unix.read_within(line)
-}
-
-/// The fields of the moment of a line, where the plan of a description finds them, with an offset assumed or none: `None` says
-/// nothing of the line.
-#[inline(always)]
-pub fn read_by_plan(plan: &Plan, line: &[u8], assumed: Option<UtcOffset>) -> Option<Fields>
-    ensures { (grammar : Grammar) → IsPlanned grammar plan.now → IfSome result
-        (λ fields. named assumed grammar line.now ≡ Ok (moment_of fields)) }
-{
-    plan.read(line, assumed)
-}
-
 impl<'a> Source<'a> {
     /// Whether the first bytes of a line, or its length, show that this source names no moment for it, whatever offset is assumed:
     /// `false` says nothing of the line.
@@ -187,8 +54,7 @@ impl<'a> Source<'a> {
         ensures { result ≡ true → NamesNothing (grammar_of self.now) line.now }
     {
         match self {
-            Source::Items(described) => described.cannot_match_whole(line),
-            Source::V3(described) => described.cannot_match_whole(line),
+            Source::Described(described) => described.cannot_match_whole(line),
             Source::Rfc2822 => is_no_rfc2822(line),
             Source::Rfc3339 => is_no_rfc3339(line),
             Source::Iso8601 => begins_no_part(line),
@@ -214,8 +80,7 @@ impl<'a> Source<'a> {
         ensures { IfSome result (λ plan. IsPlanned (grammar_of self.now) plan.now) }
     {
         match self {
-            Source::Items(described) => described.plan(),
-            Source::V3(described) => described.plan(),
+            Source::Described(described) => described.plan(),
             _ => None,
         }
     }
@@ -228,7 +93,7 @@ impl<'a> Source<'a> {
             (λ fields. named assumed (grammar_of self.now) line.now ≡ Ok (moment_of fields)) }
     {
         let plan = self.plan()?;
-        read_by_plan(plan, line, assumed)
+        plan.read(line, assumed)
     }
 
     /// The fields of the moment of a line, where the fast way finds them, with an offset assumed or none: `None` says nothing
@@ -238,11 +103,12 @@ impl<'a> Source<'a> {
         ensures { IfSome result
             (λ fields. named assumed (grammar_of self.now) line.now ≡ Ok (moment_of fields)) }
     {
+        directly_named();
         match self {
-            Source::Rfc2822 => fast_rfc2822(line),
-            Source::Rfc3339 => fast_rfc3339(line),
-            Source::Iso8601 => fast_iso8601(line),
-            Source::Items(_) | Source::V3(_) => self.read_planned(line, assumed),
+            Source::Rfc2822 => parsing_rfc2822::read_fields(line),
+            Source::Rfc3339 => parsing_rfc3339::read_fields(line),
+            Source::Iso8601 => parsing_iso8601::read_fields(line),
+            Source::Described(_) => self.read_planned(line, assumed),
         }
     }
 

@@ -1,15 +1,16 @@
 //! What a line may be written in.
 ghost use Rattle.std.specs.Prelude.{◌≡◌, ◌≤◌, ◌^◌, IfOk, IfErr};
 ghost use Rattle.instants_words.specs.Sources.{said_by};
-ghost use Rattle.instants_sources.specs.Grammar.{grammar_of, Means, SpellsIn, IsRefused, IsRefusedIn};
+ghost use Rattle.instants_sources.specs.Grammar.{grammar_of, written, Means, SpellsIn, IsRefused, IsRefusedIn};
 ghost use Rattle.instants_sources.specs.Named.{defaults_of, named};
+ghost use Rattle.instants_sources.specs.Written.{reads_written};
 ghost use Rattle.instants_sources.specs.Tried.{nodes_in};
 ghost use Rattle.parsing_combinator.specs.FaultOf.{fault_of, Gives};
 ghost use Rattle.parsing_combinator.specs.ShortName.{HasShortName};
 ghost use Rattle.parsing_record.specs.Meaning.{meaning};
 ghost use Rattle.parsing_record.specs.Whole.{whole, names, moment_named, starting};
 
-use crate::described::{DescribedItems, DescribedTree};
+use crate::described::Described;
 use calendar::UtcOffset;
 use datetime_types::OffsetDateTime;
 use description::{
@@ -25,10 +26,8 @@ use std::alloc::Global;
 /// One way to write a date-time.
 #[derive(Drop)]
 pub enum Source<'a> {
-    /// A description of version 1, version 2 or strftime: items, one after the other.
-    Items(DescribedItems<'a>),
-    /// A description of version 3.
-    V3(DescribedTree<'a>),
+    /// A description: items of version 1, version 2 or strftime, one after the other, or a tree of version 3.
+    Described(Described<'a>),
     /// RFC 2822, section 3.3, with the obsolete forms of section 4.3.
     Rfc2822,
     /// RFC 3339, section 5.6, with any byte between date and time.
@@ -53,7 +52,7 @@ impl<'a> Source<'a> {
             SourceText::V3(text) => described(alloc, DescriptionVersion::Three, text),
             SourceText::Strftime(text) => {
                 let items = parse_strftime_borrowed(alloc, text)?;
-                Ok(Source::Items(DescribedItems::new(items)))
+                Ok(Source::Described(Described::new(Description::Items(items))))
             }
             SourceText::Rfc2822 => Ok(Source::Rfc2822),
             SourceText::Rfc3339 => Ok(Source::Rfc3339),
@@ -75,8 +74,9 @@ impl<'a> Source<'a> {
         ensures short { IfErr result (λ fault. HasShortName (fault_of fault)) }
     {
         match self {
-            Source::Items(described) => read_staged(&Items(described.items()), line, assumed),
-            Source::V3(described) => read_staged(described.tree(), line, assumed),
+            Source::Described(described) => {
+                read_described(described.description(), line, assumed)
+            }
             Source::Rfc2822 => match assumed {
                 None => parsing_rfc2822::read_exact(line),
                 Some(_) => read_staged(&Rfc2822, line, assumed),
@@ -87,6 +87,24 @@ impl<'a> Source<'a> {
             },
             Source::Iso8601 => read_staged(&Iso8601, line, assumed),
         }
+    }
+}
+
+// The moment that the whole line names by a description, with an offset assumed or none.
+#[inline(always)]
+fn read_described(
+    description: &Description<'_>,
+    line: &[u8],
+    assumed: Option<UtcOffset>,
+) -> Result<OffsetDateTime, Parse>
+    ensures gives { Gives (λ m. m) fault_of result
+        (names moment_named
+        (whole (reads_written (written description.now)) (defaults_of assumed) line.now)) }
+    ensures short { IfErr result (λ fault. HasShortName (fault_of fault)) }
+{
+    match description {
+        Description::Items(items) => read_staged(&Items(items), line, assumed),
+        Description::V3(tree) => read_staged(tree, line, assumed),
     }
 }
 
@@ -121,10 +139,8 @@ fn described<'a>(
     ensures few { IfOk result (λ source. nodes_in (grammar_of source) ≤ 2 ^ 64) }
     ensures refused { IfErr result (IsRefusedIn version text.now) }
 {
-    match parse_borrowed(alloc, version, text)? {
-        Description::Items(items) => Ok(Source::Items(DescribedItems::new(items))),
-        Description::V3(tree) => Ok(Source::V3(DescribedTree::new(tree))),
-    }
+    let description = parse_borrowed(alloc, version, text)?;
+    Ok(Source::Described(Described::new(description)))
 }
 
 /// The record that a reading begins with: it holds the hour and the minute of the assumed offset, or nothing.

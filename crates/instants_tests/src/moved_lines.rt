@@ -2,7 +2,7 @@
 
 use calendar::UtcOffset;
 use instants_answers::{Answer, Target, fill_fields, is_target, write_fields};
-use instants_sources::{Named, fast_rfc3339};
+use instants_sources::Named;
 use instants_timeline::answer_named;
 use parsing_fields::Fields;
 
@@ -46,7 +46,7 @@ fn is_filled(fields: &Fields, target: Target, line: &[u8]) -> bool {
 fn lines(rt: HostRuntime) {
     for row in &CASES {
         let (line, target, wanted) = *row;
-        let fields = fast_rfc3339(line).expect(&rt, "fields");
+        let fields = parsing_rfc3339::read_fields(line).expect(&rt, "fields");
         let target = UtcOffset::from_whole_seconds(target).expect(&rt, "an offset");
         assert!(rt; is_written(&fields, target, wanted));
     }
@@ -64,7 +64,7 @@ fn told(named: &Named, line: &[u8]) -> (i64, bool, bool) {
 
 #[test]
 fn named_moments(rt: HostRuntime) {
-    let fields = fast_rfc3339(b"1970-01-01T01:00:07+01:00").expect(&rt, "fields");
+    let fields = parsing_rfc3339::read_fields(b"1970-01-01T01:00:07+01:00").expect(&rt, "fields");
     let line = b"1970-01-01T00:00:07.000000000Z";
     let kept = Named::of_fields(fields);
     let counted = Named::of_moment(fields.moment());

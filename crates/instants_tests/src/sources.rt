@@ -3,11 +3,7 @@
 use calendar::UtcOffset;
 use datetime::OffsetDateTime;
 use instants::SourceText;
-use instants_sources::{
-    Source, fast_iso8601, fast_rfc2822, fast_rfc3339, is_no_rfc3339, iso8601_to_minute,
-    other_rfc2822, rare_iso8601, rare_rfc3339, read_by_places, read_by_plan, read_by_unix,
-    starting, usual_iso8601, usual_rfc2822, usual_rfc3339,
-};
+use instants_sources::{Source, directly_named, is_no_rfc3339, starting};
 use parsing_fields::Fields;
 use parsing_plan::Plan;
 use std::alloc::Global;
@@ -94,35 +90,25 @@ fn moments(rt: HostRuntime) {
     assert!(rt; starting(Some(hour)).offset_hour() == Some(1));
 }
 
-fn seconds() -> [Option<i64>; 4] {
+fn seconds() -> [Option<i64>; 3] {
     [
-        second_of(fast_iso8601(b"1970-01-01T01:00:01.123456789+01:00")),
-        second_of(fast_iso8601(b"19700101T000001.123456789Z")),
-        second_of(fast_rfc3339(b"1970-01-01T00:00:01Z")),
-        second_of(fast_rfc2822(b"Thu, 01 Jan 1970 00:00:01 +0000")),
+        fast_second(Source::Iso8601, b"19700101T000001.123456789Z"),
+        fast_second(Source::Rfc3339, b"1970-01-01T00:00:01Z"),
+        fast_second(Source::Rfc2822, b"Thu, 01 Jan 1970 00:00:01 +0000"),
     ]
 }
 
-// The same by the shape that nearly all lines of a format have, and by its others.
-fn seconds_by_shape() -> [Option<i64>; 7] {
-    [
-        second_of(usual_rfc3339(b"1970-01-01T00:00:01Z")),
-        second_of(rare_rfc3339(b"1970-01-01T00:00:01.0000000000Z")),
-        second_of(usual_rfc2822(b"Thu, 01 Jan 1970 00:00:01 +0000")),
-        second_of(other_rfc2822(b"Thu, 01 Jan 1970 00:00:01 GMT")),
-        second_of(usual_iso8601(b"19700101T000001Z")),
-        second_of(iso8601_to_minute(b"1970-01-01T00:01Z")),
-        second_of(rare_iso8601(b"19700101T000001.0000000000Z")),
-    ]
+fn fast_second(source: Source, line: &[u8]) -> Option<i64> {
+    second_of(source.read_fast(line, None))
 }
 
 // The second that a line says by the plan of a description.
 fn second_by_plan(source: &Source, line: &[u8]) -> Option<(Option<i64>, Option<i64>)> {
     let plan = source.plan()?;
-    let by_plan = second_of(read_by_plan(plan, line, None));
+    let by_plan = second_of(source.read_planned(line, None));
     match plan {
-        Plan::Places(places) => Some((by_plan, second_of(read_by_places(places, line, None)))),
-        Plan::Unix(unix) => Some((by_plan, second_of(read_by_unix(unix, line, None)))),
+        Plan::Places(places) => Some((by_plan, second_of(places.read(line, None)))),
+        Plan::Unix(unix) => Some((by_plan, second_of(unix.read_within(line)))),
         Plan::Steps(_) => Some((by_plan, None)),
     }
 }
@@ -146,9 +132,8 @@ fn plans(rt: HostRuntime) {
 
 #[test]
 fn fast_ways(rt: HostRuntime) {
+    directly_named();
     let source = Source::Rfc3339;
-    assert!(rt; seconds() == [Some(1); 4]);
-    let ones = Some(1);
-    assert!(rt; seconds_by_shape() == [ones, ones, ones, ones, ones, Some(60), ones]);
+    assert!(rt; seconds() == [Some(1); 3]);
     assert!(rt; is_no_rfc3339(b"1970") && source.has_no_year(b"yesterday", None));
 }

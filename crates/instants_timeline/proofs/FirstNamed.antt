@@ -10,7 +10,8 @@ use Rattle.parsing_combinator.specs.Fault.{Fault}
 use Rattle.instants_answers.specs.Line.{HoldsLine}
 use Rattle.instants_sources.specs.Grammar.{Grammar, grammar_of}
 use Rattle.instants_sources.specs.declared.source.Source.{Source}
-use Rattle.instants_sources.specs.Named.{named, IsNamedBy}
+use Rattle.instants_sources.proofs.Roads.{found_named}
+use Rattle.instants_sources.specs.Named.{named, IsDirect, IsNamedBy}
 use Rattle.instants_timeline.specs.Place.{Setting, or_named, first_named, place_of, place_text, shown_or_refused, answer_to}
 use Rattle.instants_timeline.specs.Refusal.{refusal_of, refusal_text}
 use Rattle.instants_timeline.specs.FirstNamed.{HoldsAnswer, IsLedBy, NamesFrom}
@@ -82,11 +83,14 @@ pub led_found : (setting : Setting) (found : Option Fields) (grammar : Grammar) 
     → HoldsAnswer setting (option_map moment_of found) len room → HoldsLine (answer_to setting line) len room
 led_found setting found grammar line room len led is a = held_at setting line room len 0 grammar (drop 1 setting.sources) refl led (held_found setting found grammar line room len is a)
 
--- the same where it is named whatever offset is assumed
-pub led_named : (setting : Setting) (found : Option Fields) (grammar : Grammar) (line room : List ℕ) (len : ℕ) → IsLedBy setting grammar → IfSome found (λ fields. IsNamedBy grammar line (moment_of fields))
-    → HoldsAnswer setting (option_map moment_of found) len room → HoldsLine (answer_to setting line) len room
-led_named setting None grammar line room len led is a = led_found setting None grammar line room len led tt a
-led_named setting (Some fields) grammar line room len led is a = led_found setting (Some fields) grammar line room len led (is setting.assumed) a
+-- the same of what a well-known format reads directly
+module _ (law : (grammar : Grammar) (line : List ℕ) (moment : Shown) → IsDirect grammar line moment → IsNamedBy grammar line moment) (setting : Setting) (found : Option Fields) (grammar : Grammar) (line room : List ℕ) where
+  pub held_direct : (filled : Option ℕ) → IfSome found (λ fields. IsDirect grammar line (moment_of fields))
+      → IfSome filled (λ len. HoldsAnswer setting (option_map moment_of found) len room) → IfSome filled (λ len. HoldsAnswer setting (result_ok (named setting.assumed grammar line)) len room)
+  held_direct filled is a = held_if setting found grammar line room filled (found_named law grammar line setting.assumed found is) a
+
+  pub led_direct : (len : ℕ) → IsLedBy setting grammar → IfSome found (λ fields. IsDirect grammar line (moment_of fields)) → HoldsAnswer setting (option_map moment_of found) len room → HoldsLine (answer_to setting line) len room
+  led_direct len led is a = led_found setting found grammar line room len led (found_named law grammar line setting.assumed found is) a
 
 after : (setting : Setting) (line : List ℕ) (place : ℕ) (grammar : Grammar) (others : List Grammar) → NamesFrom setting line place → drop place setting.sources ≡ grammar ∷ others
     → result_ok (named setting.assumed grammar line) ≡ None → result_ok (first_named setting.assumed setting.sources line) ≡ result_ok (first_named setting.assumed others line)

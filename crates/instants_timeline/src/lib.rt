@@ -14,7 +14,7 @@ mod timeline;
 pub use instants_answers::{
     Answer, fits_line, fits_utc_line, rfc3339_line, utc_line_by_timestamp, utc_line_by_utc,
 };
-pub use instants_sources::{DescribedItems, DescribedTree, Source};
+pub use instants_sources::{Described, Source};
 pub use instants_stream::{
     BlockWriter, ByteReader, ByteWriter, CutReader, CutWriter, DeviceFailed, RunFault, StdReader,
     StdWriter, TooLittleRoom,

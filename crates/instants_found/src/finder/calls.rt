@@ -20,7 +20,7 @@ use crate::found::{Finding, Found};
 use crate::keys::{KeyedLine, REACH};
 use crate::lanes::LANES;
 use crate::marks::Marks;
-use crate::starts::starts;
+use crate::starts::marked_at;
 use instants_edges::is_edge;
 use instants_prefixes::{DateSource, Given};
 use instants_sources::Source;
@@ -38,7 +38,7 @@ impl<'a> Finder<'a> {
             (λ finder. sources_of finder ≡ map grammar_of sources.entry.items) }
         ensures limit { IfOk result (λ finder. limit_of finder ≡ limit) }
     {
-        let starts = starts(&sources);
+        let starts = marked_at(&sources, 0);
         let marks = Marks::of(&sources, &starts);
         Ok(Finder {
             sources: date_sources(alloc, sources)?,

@@ -20,10 +20,7 @@ use crate::timeline::Timeline;
 use crate::timeline::search::none_kept;
 use datetime_types::OffsetDateTime;
 use instants_answers::{Answer, fill_fields, write_line};
-use instants_sources::{
-    Named, Source, fast_iso8601, iso8601_to_minute, other_rfc2822, rare_iso8601, rare_rfc3339,
-    read_by_places, usual_iso8601, usual_rfc2822, usual_rfc3339,
-};
+use instants_sources::{Named, Source, directly_named};
 use parsing_combinator::Parse;
 use parsing_fields::Fields;
 use parsing_plan::Plan;
@@ -94,13 +91,14 @@ impl Timeline<'_> {
             (named (setting_of self.now).assumed (grammar_of source.now) line.now)) len room.new) }
         ensures size { length room.new ≡ length room.old }
     {
+        directly_named();
         match source {
-            Source::Rfc2822 => self.fill_found(usual_rfc2822(line), room),
-            Source::Rfc3339 => self.fill_found(usual_rfc3339(line), room),
-            Source::Iso8601 => self.fill_found(usual_iso8601(line), room),
-            Source::Items(_) | Source::V3(_) => match source.plan() {
+            Source::Rfc2822 => self.fill_found(parsing_rfc2822::read_usual_fields(line), room),
+            Source::Rfc3339 => self.fill_found(parsing_rfc3339::read_usual_fields(line), room),
+            Source::Iso8601 => self.fill_found(parsing_iso8601::read_usual_fields(line), room),
+            Source::Described(_) => match source.plan() {
                 Some(Plan::Places(places)) => {
-                    self.fill_found(read_by_places(places, line, self.assumed), room)
+                    self.fill_found(places.read(line, self.assumed), room)
                 }
                 _ => None,
             },
@@ -115,11 +113,12 @@ impl Timeline<'_> {
             (named (setting_of self.now).assumed (grammar_of source.now) line.now)) len room.new) }
         ensures size { length room.new ≡ length room.old }
     {
+        directly_named();
         match source {
-            Source::Rfc2822 => self.fill_found(other_rfc2822(line), room),
-            Source::Rfc3339 => self.fill_found(rare_rfc3339(line), room),
-            Source::Iso8601 => self.fill_found(fast_iso8601(line), room),
-            Source::Items(_) | Source::V3(_) => {
+            Source::Rfc2822 => self.fill_found(parsing_rfc2822::read_other_fields(line), room),
+            Source::Rfc3339 => self.fill_found(parsing_rfc3339::read_rare_fields(line), room),
+            Source::Iso8601 => self.fill_found(parsing_iso8601::read_fields(line), room),
+            Source::Described(_) => {
                 self.fill_found(source.read_planned(line, self.assumed), room)
             }
         }
@@ -293,7 +292,8 @@ impl Timeline<'_> {
         ensures line { HoldsLine (answer_to (setting_of self.now) line.now) result room.new }
         ensures size { length room.new ≡ length room.old }
     {
-        if let Some(len) = self.fill_found(rare_rfc3339(line), room) {
+        directly_named();
+        if let Some(len) = self.fill_found(parsing_rfc3339::read_rare_fields(line), room) {
             return len;
         }
         if self.assumed.is_some() {
@@ -314,7 +314,8 @@ impl Timeline<'_> {
         ensures line { HoldsLine (answer_to (setting_of self.now) line.now) result room.new }
         ensures size { length room.new ≡ length room.old }
     {
-        match self.fill_found(other_rfc2822(line), room) {
+        directly_named();
+        match self.fill_found(parsing_rfc2822::read_other_fields(line), room) {
             Some(len) => len,
             None => self.fill_rest(line, room),
         }
@@ -329,7 +330,8 @@ impl Timeline<'_> {
         ensures line { HoldsLine (answer_to (setting_of self.now) line.now) result room.new }
         ensures size { length room.new ≡ length room.old }
     {
-        match self.fill_found(iso8601_to_minute(line), room) {
+        directly_named();
+        match self.fill_found(parsing_iso8601::read_fields_to_minute(line), room) {
             Some(len) => len,
             None => self.fill_rare_iso8601(line, room),
         }
@@ -344,7 +346,8 @@ impl Timeline<'_> {
         ensures line { HoldsLine (answer_to (setting_of self.now) line.now) result room.new }
         ensures size { length room.new ≡ length room.old }
     {
-        match self.fill_found(rare_iso8601(line), room) {
+        directly_named();
+        match self.fill_found(parsing_iso8601::read_rare_fields(line), room) {
             Some(len) => len,
             None => self.fill_rest(line, room),
         }

@@ -12,10 +12,7 @@ ghost use Rattle.instants_timeline.specs.Settings.{setting_of};
 use crate::timeline::Timeline;
 use calendar::UtcOffset;
 use instants_answers::Answer;
-use instants_sources::{
-    is_no_rfc3339, read_by_places, read_by_plain_places, read_by_plan, read_by_unix, usual_iso8601,
-    usual_rfc2822, usual_rfc3339,
-};
+use instants_sources::{directly_named, is_no_rfc3339};
 use instants_stream::AnswersLines;
 use parsing_fields::Fields;
 use parsing_plan::{Places, Plan, UnixTime};
@@ -50,7 +47,8 @@ impl AnswerWay for Rfc3339Way {
         if is_no_rfc3339(line) {
             return timeline.fill_after(line, room);
         }
-        match timeline.fill_found(usual_rfc3339(line), room) {
+        directly_named();
+        match timeline.fill_found(parsing_rfc3339::read_usual_fields(line), room) {
             Some(len) => len,
             None => timeline.fill_rest_rfc3339(line, room),
         }
@@ -69,7 +67,8 @@ impl AnswerWay for Rfc2822Way {
 
     #[inline(always)]
     fn fill_answer(&self, timeline: &Timeline, line: &[u8], room: &mut [u8]) -> usize {
-        match timeline.fill_found(usual_rfc2822(line), room) {
+        directly_named();
+        match timeline.fill_found(parsing_rfc2822::read_usual_fields(line), room) {
             Some(len) => len,
             None => timeline.fill_rest_rfc2822(line, room),
         }
@@ -88,7 +87,8 @@ impl AnswerWay for Iso8601Way {
 
     #[inline(always)]
     fn fill_answer(&self, timeline: &Timeline, line: &[u8], room: &mut [u8]) -> usize {
-        match timeline.fill_found(usual_iso8601(line), room) {
+        directly_named();
+        match timeline.fill_found(parsing_iso8601::read_usual_fields(line), room) {
             Some(len) => len,
             None => timeline.fill_rest_iso8601(line, room),
         }
@@ -115,7 +115,7 @@ impl ReadsPlanned for &Places {
 
     #[inline(always)]
     fn read_planned(&self, line: &[u8], assumed: Option<UtcOffset>) -> Option<Fields> {
-        read_by_places(self, line, assumed)
+        self.read(line, assumed)
     }
 }
 
@@ -132,7 +132,7 @@ impl ReadsPlanned for PlainPlaces<'_> {
 
     #[inline(always)]
     fn read_planned(&self, line: &[u8], assumed: Option<UtcOffset>) -> Option<Fields> {
-        read_by_plain_places(self.places, line, assumed)
+        self.places.read_plain(line, assumed)
     }
 }
 
@@ -143,7 +143,9 @@ impl ReadsPlanned for &UnixTime {
 
     #[inline(always)]
     fn read_planned(&self, line: &[u8], assumed: Option<UtcOffset>) -> Option<Fields> {
-        read_by_unix(self, line, assumed)
+        // (it says when the moment is, and no offset counts)
+        let _ = assumed;
+        self.read_within(line)
     }
 }
 
@@ -153,7 +155,7 @@ impl ReadsPlanned for &Plan {
 
     #[inline(always)]
     fn read_planned(&self, line: &[u8], assumed: Option<UtcOffset>) -> Option<Fields> {
-        read_by_plan(self, line, assumed)
+        self.read(line, assumed)
     }
 }
 

@@ -8,6 +8,6 @@ pub invariant_of-result : goal.invariant_of-result
 invariant_of-result c =
     let same = c.in_ok-date_sources.ensures in
     record {
-      starts_are = rw same (rw c.deref.ensures.value at c.starts-starts.ensures);
-      marks_are = rw same (for_some (AreMarks (map grammar_of c.args.sources.items) c.starts-starts.result) c.of-marks.result (rw c.deref-2.ensures.value at c.of-marks.ensures));
+      starts_are = rw same (rw c.deref.ensures.value at c.marked_at-starts.ensures);
+      marks_are = rw same (for_some (AreMarks (map grammar_of c.args.sources.items) c.marked_at-starts.result) c.of-marks.result (rw c.deref-2.ensures.value at c.of-marks.ensures));
     }

@@ -2,7 +2,7 @@ use Rattle.instants_sources.proofs.source.Source.read_exact.Goals as goal
 
 pub returns-in-Some-clause-gives : goal.returns-in-Some-clause-gives
 returns-in-Some-clause-gives c =
-    rw (c.in-Rfc2822.is, c.in-Some.is) (rw c.in-Some.is at c.read_staged-in-Some.ensures.gives)
+    rw (c.in-Rfc2822.is, c.in-Some.is) (rw c.in-Some.is at c.read_staged.ensures.gives)
 
 pub returns-in-Some-assumed-clause-gives : goal.returns-in-Some-assumed-clause-gives
 returns-in-Some-assumed-clause-gives c =

@@ -1,7 +1,7 @@
 use Rattle.instants_sources.specs.Grammar as grammar
 use Rattle.instants_timeline.specs.Settings.{setting_of}
-use Rattle.instants_timeline.proofs.FirstNamed.{led_named}
+use Rattle.instants_timeline.proofs.FirstNamed.{led_direct}
 use Rattle.instants_timeline.proofs.timeline.Timeline.fill_rest_iso8601.Goals as goal
 
 pub returns-in-Some-clause-line : goal.returns-in-Some-clause-line
-returns-in-Some-clause-line c = led_named (setting_of c.args.self.now) c.iso8601_to_minute.result grammar.Iso8601 c.args.line.now c.fill_found.new.room c.in-Some.len c.requires.led c.iso8601_to_minute.ensures c.in-Some.ensures.line
+returns-in-Some-clause-line c = led_direct c.directly_named.ensures (setting_of c.args.self.now) c.read_fields_to_minute.result grammar.Iso8601 c.args.line.now c.fill_found.new.room c.in-Some.len c.requires.led c.read_fields_to_minute.ensures c.in-Some.ensures.line

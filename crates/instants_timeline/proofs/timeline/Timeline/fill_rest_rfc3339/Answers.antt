@@ -5,7 +5,7 @@ use Rattle.parsing_rfc3339.specs.Direct.{direct}
 use Rattle.instants_sources.specs.Grammar as grammar
 use Rattle.instants_sources.specs.Named.{named}
 use Rattle.instants_timeline.specs.Settings.{setting_of}
-use Rattle.instants_timeline.proofs.FirstNamed.{answer_is_at, led_named, names_from_next}
+use Rattle.instants_timeline.proofs.FirstNamed.{answer_is_at, led_direct}
 use Rattle.instants_timeline.proofs.timeline.Timeline.fill_rest_rfc3339.Goals as goal
 
 -- with no offset assumed the moment is read directly
@@ -14,7 +14,7 @@ directly None line e = refl
 directly (Some offset) line e = absurd cc
 
 pub returns-in-Some-clause-line : goal.returns-in-Some-clause-line
-returns-in-Some-clause-line c = led_named (setting_of c.args.self.now) c.rare_rfc3339.result grammar.Rfc3339 c.args.line.now c.fill_found.new.room c.in-Some.len c.requires.led c.rare_rfc3339.ensures c.in-Some.ensures.line
+returns-in-Some-clause-line c = led_direct c.directly_named.ensures (setting_of c.args.self.now) c.read_rare_fields.result grammar.Rfc3339 c.args.line.now c.fill_found.new.room c.in-Some.len c.requires.led c.read_rare_fields.ensures c.in-Some.ensures.line
 
 pub returns-in-Ok-clause-line : goal.returns-in-Ok-clause-line
 returns-in-Ok-clause-line c =
