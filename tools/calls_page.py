@@ -40,6 +40,7 @@ BELOW = {
     "parsing_components": {"read_component", "read_component_v3", "read_usual"},
     "parsing_first_bytes": {"FirstBounds", "FirstBytes"},
     "parsing_steps": {"Steps"},
+    "parsing_layouts": {"Places", "UnixTime"},
     "parsing_plan": {"Plan"},
     "parsing_rfc3339": {"parse_prefix", "read_exact", "begins_with_year", "read_fields", "read_usual_fields", "read_rare_fields", "read_fast"},
     "parsing_rfc2822": {"parse_prefix", "read_exact", "read_fields", "read_usual_fields", "read_other_fields", "read_fast", "comments_and_white_space", "folding_white_space"},

@@ -10,8 +10,8 @@ use std::alloc::Global;
 use std::env;
 use std::process::ExitCode;
 
-// Bytes that are written at once.
-const BLOCK: usize = 65_536;
+// Bytes that are written at once, which the answers to a block of input seldom fill.
+const BLOCK: usize = 131_072;
 
 fn main(rt: HostRuntime) -> ExitCode {
     match words(&rt) {

@@ -18,8 +18,8 @@ use crate::places::{Back, OffsetPlaces, Prefix};
 use crate::sums::{Sums, split_sums_of, sums_of};
 use calendar::{Month, UtcOffset};
 use parsing_fields::{Fields, Fraction, Year, has_day};
-use parsing_places::{LANES, signed};
 use parsing_nodes::assumed_minutes;
+use parsing_places::{LANES, signed};
 use std::simd::prelude::*;
 
 // `Oct`, `Feb`, `Dec`, `Jul`, `Nov`, `Jan`, `Jun`, `May`, `Sep`, `Aug`, `Mar`, `Apr`, in one number each, the first letter

@@ -11,8 +11,8 @@ ghost use Rattle.parsing_layouts.specs.Windows.{SpareOffset};
 ghost use Rattle.parsing_nodes.specs.Prefix.{NamesPrefix, beginning};
 ghost use Rattle.parsing_layouts.specs.Places.{ArePlacesOf, IsSplitOf};
 
-use crate::plain::{plain_date, plain_fraction, plain_offset};
 use crate::places::{Back, NEVER, Places, Prefix};
+use crate::plain::{plain_date, plain_fraction, plain_offset};
 use crate::read::{clock, date, fraction, layout_fields, offset, split_fields};
 use crate::sums::sums_of;
 use calendar::UtcOffset;

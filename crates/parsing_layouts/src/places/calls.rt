@@ -12,8 +12,8 @@ use crate::items::{is_fraction, lead};
 use crate::layout::{LENGTH, Layout};
 use crate::places::{Back, NEVER, OffsetPlaces, Places, Prefix};
 use crate::windows::{last_window_of, windows_of};
-use parsing_places::{LANES, LastBytes, Window, Windows};
 use parsing_nodes::Node;
+use parsing_places::{LANES, LastBytes, Window, Windows};
 
 // The places of an offset, or that there is none: `None` where it has hours or minutes alone, or the windows don't take it.
 fn offset_of(layout: &Layout, windows: &Windows) -> Option<Option<OffsetPlaces>>

@@ -34,7 +34,7 @@ loop-place-preserved c =
     let within : c.loop-place.place < length sources = rw c.as_slice-sources.ensures.value at c.loop-place-test.true in
     let is : item ≡ get_or sources c.loop-place.place item = rw c.as_slice-sources.ensures.value at c.index-sources-place.is in
     names_from_next (setting_of c.args.self.now) c.args.line.now c.loop-place.place (grammar_of item) c.loop-place.invariant (source_at sources c.loop-place.place item within is)
-        (c.cannot_match.ensures c.if-not-cannot_match.false c.args.self.now.assumed)
+    (c.cannot_match.ensures c.if-not-cannot_match.false c.args.self.now.assumed)
 
 pub fill_first_fault-requires-clause-none : goal.fill_first_fault-requires-clause-none
 fill_first_fault-requires-clause-none c =
