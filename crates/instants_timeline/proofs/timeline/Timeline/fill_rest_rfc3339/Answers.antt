@@ -5,7 +5,7 @@ use Rattle.parsing_rfc3339.specs.Direct.{direct}
 use Rattle.instants_sources.specs.Grammar as grammar
 use Rattle.instants_sources.specs.Named.{named}
 use Rattle.instants_timeline.specs.Settings.{setting_of}
-use Rattle.instants_timeline.proofs.FirstNamed.{answer_is_at, led_direct}
+use Rattle.instants_timeline.proofs.FirstNamed.{answer_is_at, led_direct, names_from_next}
 use Rattle.instants_timeline.proofs.timeline.Timeline.fill_rest_rfc3339.Goals as goal
 
 -- with no offset assumed the moment is read directly

@@ -1,0 +1,5 @@
+use Rattle.instants_sources.proofs.Planned.{planned_named}
+use Rattle.instants_timeline.proofs.timeline.fast_ways.RefPlanReadsPlanned.read_planned.Goals as goal
+
+pub returns : goal.returns
+returns c = λ grammar planned. planned_named grammar c.args.self.now.now c.args.line.now c.args.assumed c.read.result planned c.read.ensures
