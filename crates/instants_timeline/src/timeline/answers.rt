@@ -245,8 +245,8 @@ impl Timeline<'_> {
         }
     }
 
-    // Writes the answer to a line that the first source's first bytes rule out. Each source after it tries its usual shapes
-    // before its first bytes are asked whether they rule it out, since most lines are of a usual shape.
+    // Writes the answer to a line that the first source's first bytes rule out: the likely source is the first after it that
+    // they do not.
     #[inline(never)]
     pub(super) fn fill_after(&self, line: &[u8], room: &mut [u8]) -> usize
         requires room { 64 ≤ length room.old }
@@ -254,19 +254,13 @@ impl Timeline<'_> {
         ensures line { HoldsLine (answer_to (setting_of self.now) line.now) result room.new }
         ensures size { length room.new ≡ length room.old }
     {
-        let sources = self.sources.as_slice();
-        let mut place = 1;
-        while place < sources.len() {
-            let source = &sources[place];
-            if let Some(len) = self.fill_usual(source, line, room) {
-                return len;
-            }
-            if !source.cannot_match(line) {
-                return self.fill_unusual(place, source, line, room);
-            }
-            place += 1;
+        let Some((place, source)) = self.likely(1, line) else {
+            return self.fill_first_fault(line, room);
+        };
+        match self.fill_usual(source, line, room) {
+            Some(len) => len,
+            None => self.fill_unusual(place, source, line, room),
         }
-        self.fill_first_fault(line, room)
     }
 
     // Writes the answer to a line of which the first source's fast way says nothing.
