@@ -1,15 +1,12 @@
 -- What the parts of a line say of a date, a time of day and an offset.
-use Rattle.std.proofs.Common.{◌≡◌, ◌≤◌, ◌+◌, ◌*◌, ℕ, zero, suc, Bool, true, false, List, drop, Option, Some, None, Ok, refl, arith, pos, ℤ}
+use Rattle.std.proofs.Common.{◌≡◌, ◌≤◌, ◌+◌, ◌*◌, ℕ, Bool, true, false, List, drop, Option, Some, None, Ok, refl, arith, pos, ℤ}
 use Rattle.std.specs.Option.{ForSome}
-use Rattle.std.specs.Prelude.{◌&&◌, not, is_none, IfSome, IsSome, ◌<◌, ◌*ℤ◌, ◌+ℤ◌, ◌<ℤ◌, ◌≤ℤ◌, negsuc, nat_lt, unsigned_abs, int_div, int_rem}
+use Rattle.std.specs.Prelude.{◌&&◌, not, is_none, IfSome, IsSome, ◌<◌, ◌*ℤ◌}
 use Rattle.std.proofs.lemmas.Bool.Decides.{nat_tests}
-use Rattle.std.proofs.lemmas.Int.{ints}
 use Rattle.calendar_count.specs.Calendar.{days_in_month}
 use Rattle.calendar_count.specs.declared.month.Month.TheVariants as month
 use Rattle.calendar_count.specs.declared.weekday.Weekday.TheVariants as weekday
 use Rattle.parsing_combinator.specs.Pieces.{digits}
-use Rattle.parsing_values.specs.Resolution.{signed_offset_of}
-use Rattle.parsing_components.specs.Ranged.{under}
 use Rattle.parsing_components.specs.Read as read
 use Rattle.parsing_nodes.specs.Whole.{offset_named}
 use Rattle.parsing_nodes.proofs.Offsets.{sign_named, no_second}

@@ -5,8 +5,7 @@ use Rattle.description_items.specs.Tree.{Tree, Compound, listed}
 use Rattle.parsing_nodes.specs.Meaning.{Meaning}
 use Rattle.parsing_nodes.specs.Reads.{Language, reading, reading_of_all, reads, each_reads}
 use Rattle.parsing_layouts.specs.declared.places.Places.{Places}
-use Rattle.parsing_layouts.specs.declared.unix.UnixTime.{UnixTime}
-use Rattle.parsing_layouts.specs.Places.{ArePlacesOf, IsUnixTimeOf}
+use Rattle.parsing_layouts.specs.Places.{ArePlacesOf}
 use Rattle.parsing_steps.specs.declared.steps.Steps.{Steps}
 use Rattle.parsing_steps.specs.Steps.{AreStepsOf}
 use Rattle.parsing_plan.specs.declared.plan.Plan.{Plan}

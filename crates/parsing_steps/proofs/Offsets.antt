@@ -1,5 +1,5 @@
 -- The offset of what was found.
-use Rattle.std.proofs.Common.{◌≡◌, ◌≢◌, ℕ, Bool, false, ◌==◌, Option, Some, Ok, refl, arith, pos, ℤ}
+use Rattle.std.proofs.Common.{◌≡◌, ◌≢◌, ℕ, false, ◌==◌, Option, Some, Ok, refl, arith, pos, ℤ}
 use Rattle.std.specs.Prelude.{◌*ℤ◌}
 use Rattle.std.proofs.lemmas.Bool.Decides.{nat_tests}
 use Rattle.parsing_components.specs.Ranged.{under}

@@ -1,4 +1,4 @@
-use Rattle.std.proofs.Common.{◌≡◌, ◌+◌, ◌*◌, ℕ, get_or, take, drop, ap, lit<, arith, ◌∙◌}
+use Rattle.std.proofs.Common.{◌≡◌, ◌+◌, ℕ, get_or, take, drop, ap, lit<, arith, ◌∙◌}
 use Rattle.std.proofs.lemmas.List.{get_or-take, get_or-drop}
 use Rattle.parsing_layouts.proofs.read.letters_at.Goals as goal
 

@@ -1,4 +1,4 @@
-use Rattle.std.proofs.Common.{◌≡◌, ℕ, ◌+◌, ◌-◌, ◌*◌, ◌/◌, ◌%◌, ◌^◌, get_or, sym, ap, arith}
+use Rattle.std.proofs.Common.{ℕ, ◌+◌, ◌-◌, ◌*◌, ◌/◌, ◌%◌, ◌^◌, get_or, sym, ap, arith}
 use Rattle.parsing_layouts.proofs.MonthNames.{months, month_in}
 use Rattle.parsing_layouts.proofs.read.month_number.Goals as goal
 

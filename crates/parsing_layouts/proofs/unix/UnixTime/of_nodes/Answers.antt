@@ -1,7 +1,5 @@
 use Rattle.std.proofs.Common.{◌≡◌, ◌+◌, ◌∷◌, ◌∙◌, [], drop, get_or, map, ap, arith}
 use Rattle.std.proofs.lemmas.List.{drop_all, drop_more}
-use Rattle.description_items.specs.Tree.{listed}
-use Rattle.parsing_nodes.specs.Reads.{reading_of_all}
 use Rattle.parsing_layouts.proofs.Walk.{of_unix}
 use Rattle.parsing_layouts.proofs.unix.UnixTime.of_nodes.Goals as goal
 
