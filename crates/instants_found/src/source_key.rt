@@ -14,7 +14,9 @@ pub(crate) fn key_of(source: &Source<'_>) -> Option<Key>
     ensures long { IfSome result (λ _. NeedsFour (grammar_of source.now)) }
 {
     match source {
-        Source::Described(described) => key_of_first_bytes(described.first_bytes()),
+        Source::Items(described) | Source::V3(described) => key_of_first_bytes(
+            described.first_bytes(),
+        ),
         Source::Rfc3339 => Some(Key {
             place: 4,
             byte: b'-',

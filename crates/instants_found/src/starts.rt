@@ -36,7 +36,7 @@ fn can_begin(source: &Source<'_>, byte: u8) -> bool
     ensures { result ≡ false → CannotStand 0 byte (grammar_of source.now) }
 {
     match source {
-        Source::Described(described) => described.can_begin(byte),
+        Source::Items(described) | Source::V3(described) => described.can_begin(byte),
         Source::Rfc2822 => begins_day(byte),
         Source::Rfc3339 => byte.is_ascii_digit(),
         Source::Iso8601 => begins_part(byte),
@@ -48,7 +48,9 @@ fn can_be_fourth(source: &Source<'_>, byte: u8) -> bool
     ensures { result ≡ false → CannotStand 3 byte (grammar_of source.now) }
 {
     match source {
-        Source::Described(described) => described.first_bytes().can_stand(FOURTH, byte),
+        Source::Items(described) | Source::V3(described) => described
+            .first_bytes()
+            .can_stand(FOURTH, byte),
         Source::Rfc3339 => byte.is_ascii_digit(),
         _ => true,
     }

@@ -64,7 +64,10 @@ fn stands_in_source(source: &Source<'_>, kind: Kind) -> bool
     ensures { result ≡ stands_in (is_of kind) (grammar_of source.now) }
 {
     match source {
-        Source::Described(described) => stands_in_description(described.description(), kind),
+        Source::Items(described) | Source::V3(described) => stands_in_description(
+            described.description(),
+            kind,
+        ),
         _ => false,
     }
 }

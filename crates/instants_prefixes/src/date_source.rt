@@ -1,6 +1,7 @@
 //! Sources of dates inside lines.
-ghost use Rattle.std.specs.Prelude.{◌≡◌};
-ghost use Rattle.instants_sources.specs.Grammar.{grammar_of};
+ghost use Rattle.std.specs.Prelude.{◌≡◌, IfSome};
+ghost use Rattle.instants_sources.specs.Grammar as grammar;
+ghost use Rattle.instants_sources.specs.Grammar.{grammar_of, written};
 ghost use Rattle.instants_prefixes.specs.Contents.{AreContents};
 ghost use Rattle.instants_prefixes.specs.Ends.{AreEnds, items_in};
 
@@ -13,7 +14,7 @@ use crate::named::{assumed, has_offset, prefix_named};
 use crate::prefix::Prefix;
 use crate::ruled_out::rules_out;
 use crate::window::{near, text_for};
-use instants_sources::{Named, Source};
+use instants_sources::{Described, Named, Source};
 
 /// A source that reads dates inside lines, with what is found of it once.
 #[derive(Drop)]
@@ -23,6 +24,18 @@ pub struct DateSource<'a> {
     ends: Ends,
     ghost has: { AreContents (grammar_of source) contents },
     ghost begins: { AreEnds (items_in (grammar_of source)) ends },
+}
+
+// The description that a source reads by, where it has one.
+#[inline(always)]
+fn described<'s, 'a>(source: &'s Source<'a>) -> Option<&'s Described<'a>>
+    ensures { IfSome result (λ described.
+        grammar_of source.now ≡ grammar.Described (written described.now.description)) }
+{
+    match source {
+        Source::Items(described) | Source::V3(described) => Some(described),
+        _ => None,
+    }
 }
 
 impl<'a> DateSource<'a> {
@@ -81,9 +94,7 @@ impl<'a> DateSource<'a> {
             (λ prefix. Some prefix ≡ prefix_at given.now (grammar_in self.now) bytes.now) }
         ensures within { IfSome result (IsWithin bytes.now) }
     {
-        let Source::Described(described) = &self.source else {
-            return None;
-        };
+        let described = described(&self.source)?;
         if self.contents.has_unix_time || !has_offset(self.contents, given) {
             return None;
         }

@@ -114,7 +114,7 @@ impl Ends {
         ensures { AreEnds (items_in (grammar_of source.now)) result }
     {
         match source {
-            Source::Described(described) => match described.description() {
+            Source::Items(described) | Source::V3(described) => match described.description() {
                 Description::Items(items) => Ends::of_all(items.as_slice()),
                 Description::V3(tree) => ends_of_tree(tree),
             },

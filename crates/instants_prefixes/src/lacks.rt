@@ -29,7 +29,10 @@ fn stands(source: &Source<'_>, kind: Kind) -> bool
     ensures { result ≡ stands_of kind (grammar_of source.now) }
 {
     match source {
-        Source::Described(described) => stands_in_description(described.description(), kind),
+        Source::Items(described) | Source::V3(described) => stands_in_description(
+            described.description(),
+            kind,
+        ),
         _ => true,
     }
 }

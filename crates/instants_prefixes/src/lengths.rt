@@ -84,7 +84,7 @@ pub(crate) fn prefix_of(
         ≡ with_lengths text.now moment rest.now (lengths (grammar_of source.now) text.now rest.now) }
 {
     match source {
-        Source::Described(described) => {
+        Source::Items(described) | Source::V3(described) => {
             prefix_of_description(described.description(), ends, text, moment, rest)
         }
         _ => Prefix::whole(text, moment, rest),

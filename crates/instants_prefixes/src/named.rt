@@ -158,7 +158,9 @@ pub(crate) fn prefix_named<'b>(
         ≡ prefix_named given.now (grammar_of source.now) text.now }
 {
     match source {
-        Source::Described(described) => named_by_description(described, contents, text, given),
+        Source::Items(described) | Source::V3(described) => named_by_description(
+            described, contents, text, given,
+        ),
         Source::Rfc2822 => named_by_rfc2822(text, given),
         Source::Rfc3339 => named_by_rfc3339(text, given),
         Source::Iso8601 => named_by_record(&Iso8601, false, text, given),

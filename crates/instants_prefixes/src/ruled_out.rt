@@ -39,7 +39,9 @@ pub fn rules_out(source: &Source<'_>, bytes: &[u8]) -> bool
     ensures { result ≡ true → HasNoPrefix bytes.now (grammar_of source.now) }
 {
     match source {
-        Source::Described(described) => described.cannot_match(text_for(source, bytes)),
+        Source::Items(described) | Source::V3(described) => described.cannot_match(text_for(
+            source, bytes,
+        )),
         _ => lacks_byte(source, bytes),
     }
 }

@@ -1,4 +1,5 @@
 pub mod FewNodes
+pub mod Form
 pub mod Planned
 pub mod Refused
 pub mod Roads

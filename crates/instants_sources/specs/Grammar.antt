@@ -1,5 +1,6 @@
 -- What the sources of lines read by.
-use Rattle.std.specs.Prelude.{◌≡◌, ℕ, List, ⊤}
+use Rattle.std.specs.Prelude.{◌≡◌, ℕ, List, ⊤, true, false}
+use Rattle.description.specs.Described.{has_tree}
 use Rattle.description_lexer.specs.Fault.{Fault, fault_of}
 use Rattle.description_lexer.specs.declared.description_fault.DescriptionFault.{DescriptionFault}
 use Rattle.description_lexer.specs.declared.description_fault.DescriptionFault.TheVariants as refused
@@ -24,10 +25,19 @@ pub data Grammar : Type 0 where
 
 -- the grammar of a source
 abbrev pub grammar_of : Source → Grammar
-grammar_of (source.Described described) = Described (written described.description)
+grammar_of (source.Items described) = Described (written described.description)
+grammar_of (source.V3 described) = Described (written described.description)
 grammar_of source.Rfc2822 = Rfc2822
 grammar_of source.Rfc3339 = Rfc3339
 grammar_of source.Iso8601 = Iso8601
+
+-- a source of items holds items, and one of version 3 a tree
+abbrev pub HasItsForm : Source → Type 0
+HasItsForm (source.Items described) = has_tree described.description ≡ false
+HasItsForm (source.V3 described) = has_tree described.description ≡ true
+HasItsForm source.Rfc2822 = ⊤
+HasItsForm source.Rfc3339 = ⊤
+HasItsForm source.Iso8601 = ⊤
 
 -- a text of this version means this grammar: the items, or the tree, that it spells
 abbrev pub SpellsIn : DescriptionVersion → List ℕ → Grammar → Type 0

@@ -54,7 +54,7 @@ impl<'a> Source<'a> {
         ensures { result ≡ true → NamesNothing (grammar_of self.now) line.now }
     {
         match self {
-            Source::Described(described) => described.cannot_match_whole(line),
+            Source::Items(described) | Source::V3(described) => described.cannot_match_whole(line),
             Source::Rfc2822 => is_no_rfc2822(line),
             Source::Rfc3339 => is_no_rfc3339(line),
             Source::Iso8601 => begins_no_part(line),
@@ -80,7 +80,7 @@ impl<'a> Source<'a> {
         ensures { IfSome result (λ plan. IsPlanned (grammar_of self.now) plan.now) }
     {
         match self {
-            Source::Described(described) => described.plan(),
+            Source::Items(described) | Source::V3(described) => described.plan(),
             _ => None,
         }
     }
@@ -108,7 +108,7 @@ impl<'a> Source<'a> {
             Source::Rfc2822 => parsing_rfc2822::read_fields(line),
             Source::Rfc3339 => parsing_rfc3339::read_fields(line),
             Source::Iso8601 => parsing_iso8601::read_fields(line),
-            Source::Described(_) => self.read_planned(line, assumed),
+            Source::Items(_) | Source::V3(_) => self.read_planned(line, assumed),
         }
     }
 

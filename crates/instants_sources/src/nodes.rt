@@ -18,7 +18,9 @@ impl Source<'_> {
         ensures { result ≡ min (nodes_in (grammar_of self.now)) greatest_count }
     {
         match self {
-            Source::Described(described) => nodes_written(described.description()),
+            Source::Items(described) | Source::V3(described) => nodes_written(
+                described.description(),
+            ),
             Source::Rfc2822 | Source::Rfc3339 | Source::Iso8601 => 1,
         }
     }
@@ -30,7 +32,7 @@ impl Source<'_> {
             ≡ min (tried_by assumed.now (grammar_of self.now) line.now) greatest_count }
     {
         match self {
-            Source::Described(described) => {
+            Source::Items(described) | Source::V3(described) => {
                 tried_written(described.description(), line, &mut starting(*assumed))
             }
             Source::Rfc2822 | Source::Rfc3339 | Source::Iso8601 => 1,

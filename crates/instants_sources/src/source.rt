@@ -1,7 +1,8 @@
 //! What a line may be written in.
 ghost use Rattle.std.specs.Prelude.{◌≡◌, ◌≤◌, ◌^◌, IfOk, IfErr};
 ghost use Rattle.instants_words.specs.Sources.{said_by};
-ghost use Rattle.instants_sources.specs.Grammar.{grammar_of, written, Means, SpellsIn, IsRefused, IsRefusedIn};
+ghost use Rattle.instants_sources.specs.Grammar as grammar;
+ghost use Rattle.instants_sources.specs.Grammar.{grammar_of, written, HasItsForm, Means, SpellsIn, IsRefused, IsRefusedIn};
 ghost use Rattle.instants_sources.specs.Named.{defaults_of, named};
 ghost use Rattle.instants_sources.specs.Written.{reads_written};
 ghost use Rattle.instants_sources.specs.Tried.{nodes_in};
@@ -26,8 +27,10 @@ use std::alloc::Global;
 /// One way to write a date-time.
 #[derive(Drop)]
 pub enum Source<'a> {
-    /// A description: items of version 1, version 2 or strftime, one after the other, or a tree of version 3.
-    Described(Described<'a>),
+    /// A description of version 1, version 2 or strftime: items, one after the other.
+    Items(Described<'a>),
+    /// A description of version 3: a tree.
+    V3(Described<'a>),
     /// RFC 2822, section 3.3, with the obsolete forms of section 4.3.
     Rfc2822,
     /// RFC 3339, section 5.6, with any byte between date and time.
@@ -43,6 +46,7 @@ impl<'a> Source<'a> {
     /// memory ran out.
     pub fn new(alloc: Global, text: SourceText<'a>) -> Result<Source<'a>, DescriptionFault<'a>>
         ensures means { IfOk result (λ source. Means (said_by text.entry) (grammar_of source)) }
+        ensures form { IfOk result HasItsForm }
         ensures few { IfOk result (λ source. nodes_in (grammar_of source) ≤ 2 ^ 64) }
         ensures refused { IfErr result (IsRefused (said_by text.entry)) }
     {
@@ -52,7 +56,7 @@ impl<'a> Source<'a> {
             SourceText::V3(text) => described(alloc, DescriptionVersion::Three, text),
             SourceText::Strftime(text) => {
                 let items = parse_strftime_borrowed(alloc, text)?;
-                Ok(Source::Described(Described::new(Description::Items(items))))
+                Ok(reading_by(Description::Items(items)))
             }
             SourceText::Rfc2822 => Ok(Source::Rfc2822),
             SourceText::Rfc3339 => Ok(Source::Rfc3339),
@@ -74,7 +78,7 @@ impl<'a> Source<'a> {
         ensures short { IfErr result (λ fault. HasShortName (fault_of fault)) }
     {
         match self {
-            Source::Described(described) => {
+            Source::Items(described) | Source::V3(described) => {
                 read_described(described.description(), line, assumed)
             }
             Source::Rfc2822 => match assumed {
@@ -136,11 +140,23 @@ fn described<'a>(
     text: &'a str,
 ) -> Result<Source<'a>, DescriptionFault<'a>>
     ensures means { IfOk result (λ source. SpellsIn version text.now (grammar_of source)) }
+    ensures form { IfOk result HasItsForm }
     ensures few { IfOk result (λ source. nodes_in (grammar_of source) ≤ 2 ^ 64) }
     ensures refused { IfErr result (IsRefusedIn version text.now) }
 {
     let description = parse_borrowed(alloc, version, text)?;
-    Ok(Source::Described(Described::new(description)))
+    Ok(reading_by(description))
+}
+
+// The source that reads by a description.
+fn reading_by(description: Description<'_>) -> Source<'_>
+    ensures grammar { grammar_of result ≡ grammar.Described (written description.entry) }
+    ensures form { HasItsForm result }
+{
+    match &description {
+        Description::Items(_) => Source::Items(Described::new(description)),
+        Description::V3(_) => Source::V3(Described::new(description)),
+    }
 }
 
 /// The record that a reading begins with: it holds the hour and the minute of the assumed offset, or nothing.

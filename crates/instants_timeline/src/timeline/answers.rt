@@ -96,7 +96,7 @@ impl Timeline<'_> {
             Source::Rfc2822 => self.fill_found(parsing_rfc2822::read_usual_fields(line), room),
             Source::Rfc3339 => self.fill_found(parsing_rfc3339::read_usual_fields(line), room),
             Source::Iso8601 => self.fill_found(parsing_iso8601::read_usual_fields(line), room),
-            Source::Described(_) => match source.plan() {
+            Source::Items(_) | Source::V3(_) => match source.plan() {
                 Some(Plan::Places(places)) => {
                     self.fill_found(places.read(line, self.assumed), room)
                 }
@@ -118,7 +118,7 @@ impl Timeline<'_> {
             Source::Rfc2822 => self.fill_found(parsing_rfc2822::read_other_fields(line), room),
             Source::Rfc3339 => self.fill_found(parsing_rfc3339::read_rare_fields(line), room),
             Source::Iso8601 => self.fill_found(parsing_iso8601::read_fields(line), room),
-            Source::Described(_) => {
+            Source::Items(_) | Source::V3(_) => {
                 self.fill_found(source.read_planned(line, self.assumed), room)
             }
         }

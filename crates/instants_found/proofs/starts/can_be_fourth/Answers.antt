@@ -1,12 +1,13 @@
 use Rattle.std.proofs.Common.{◌∙◌, sym}
 use Rattle.instants_sources.specs.Grammar.{written}
+use Rattle.instants_sources.proofs.Form.{by_description}
 use Rattle.instants_prefixes.proofs.RuledOut.{year_due}
 use Rattle.instants_found.proofs.SourceKeys.{described_fourth}
 use Rattle.instants_found.proofs.starts.can_be_fourth.Goals as goal
 
-pub returns-in-Described : goal.returns-in-Described
-returns-in-Described c = λ e.
-    rw c.in-Described.is (described_fourth (written c.in-Described.described.description) c.first_bytes.result.now c.first_bytes.ensures c.args.byte (c.can_stand.ensures.ruled_out e))
+pub returns-in-Items : goal.returns-in-Items
+returns-in-Items c = λ e.
+    rw (by_description _ _ c.in-Items.is) (described_fourth (written c.in-Items.described.description) c.first_bytes.result.now c.first_bytes.ensures c.args.byte (c.can_stand.ensures.ruled_out e))
 
 pub returns-in-Rfc3339 : goal.returns-in-Rfc3339
 returns-in-Rfc3339 c = λ e bytes there. rw c.in-Rfc3339.is (year_due bytes (rw there (sym c.is_ascii_digit.ensures.value ∙ e)))

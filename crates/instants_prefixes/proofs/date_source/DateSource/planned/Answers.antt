@@ -1,7 +1,7 @@
 use Rattle.std.proofs.Common.{◌≡◌, Some, sym, ap, subst, ◌∙◌}
 use Rattle.description.specs.declared.described.Description.{Description}
 use Rattle.parsing_fields.specs.Moment.{moment_of}
-use Rattle.instants_sources.specs.Grammar.{Grammar, Described, grammar_of, written}
+use Rattle.instants_sources.specs.Grammar.{Grammar, Described, written}
 use Rattle.instants_prefixes.specs.Contents.{AreContents}
 use Rattle.instants_prefixes.specs.DateSource.{grammar_in, IsWithin}
 use Rattle.instants_prefixes.specs.Ends.{AreEnds, items_in}
@@ -16,16 +16,16 @@ prefix_by_texts-requires-clause-ends g c =
     let ends = c.args.self.now.ends in
     let P : Grammar → Type 0 = λ g. AreEnds (items_in g) ends in
     let Q : Description → Type 0 = λ d. AreEnds (items_written (written d)) ends in
-    subst Q (sym c.description-description.ensures) (subst P (ap grammar_of c.in-Described.is) c.args.self.now.begins)
+    subst Q (sym c.description-description.ensures) (subst P (c.in_ok-described.ensures) c.args.self.now.begins)
 
 pub prefix_by_texts-requires-clause-read : goal.prefix_by_texts-requires-clause-read
 prefix_by_texts-requires-clause-read g c =
     let given = c.args.given.now in
     let contents = c.args.self.now.contents in
     let text = c.near-text.result.now in
-    let written = written c.in-Described.described.description in
+    let written = written c.in_ok-described.described.now.description in
     let P : Grammar → Type 0 = λ g. AreContents g contents in
-    let are : AreContents (Described written) contents = subst P (ap grammar_of c.in-Described.is) c.args.self.now.has in
+    let are : AreContents (Described written) contents = subst P (c.in_ok-described.ensures) c.args.self.now.has in
     let named = planned_named given written c.args.bytes.now text c.near-text.ensures contents c.assumed.result c.in-Some.rest.now (moment_of c.in-Some.fields) are c.if-self.false c.assumed.ensures c.in-Some.ensures.prefix in
     rw c.description-description.ensures (planned_leaves given written c.args.bytes.now text c.near-text.ensures c.in-Some.rest.now (moment_of c.in-Some.fields) named)
 
@@ -35,8 +35,8 @@ returns-clause-prefix g c =
     let contents = c.args.self.now.contents in
     let text = c.near-text.result.now in
     let rest = c.in-Some.rest.now in
-    let written = written c.in-Described.described.description in
-    let is : grammar_in c.args.self.now ≡ Described written = ap grammar_of c.in-Described.is in
+    let written = written c.in_ok-described.described.now.description in
+    let is : grammar_in c.args.self.now ≡ Described written = c.in_ok-described.ensures in
     let P : Grammar → Type 0 = λ g. AreContents g contents in
     let are : AreContents (Described written) contents = subst P is c.args.self.now.has in
     let named = planned_named given written c.args.bytes.now text c.near-text.ensures contents c.assumed.result rest (moment_of c.in-Some.fields) are c.if-self.false c.assumed.ensures c.in-Some.ensures.prefix in

@@ -8,4 +8,4 @@ pub returns-in_ok-items-in-Strftime-clause-few : goal.returns-in_ok-items-in-Str
 returns-in_ok-items-in-Strftime-clause-few c =
     let ok = c.in_ok-items-in-Strftime in
     let items = ok.items in
-    rw c.new.ensures (omega (arith, letters_single c.in-Strftime.text.now (trees items.items) ok.ensures.outcome, length-map items.items tree_of, items.ok, items.small))
+    rw c.reading_by.ensures.grammar (omega (arith, letters_single c.in-Strftime.text.now (trees items.items) ok.ensures.outcome, length-map items.items tree_of, items.ok, items.small))
