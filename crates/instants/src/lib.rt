@@ -1,14 +1,26 @@
 //! Lines with dates onto one timeline: each is answered by a date-time of fixed width, or by why it has none.
 //!
 //! ```
-//! let sources = [SourceText::Rfc3339, SourceText::Strftime("%d/%m/%Y %R %z")];
-//! let timeline = Timeline::new(alloc, &sources, UtcOffset::UTC, None)?;
-//! let answer = timeline.answer_line(b"01/01/2021 22:04 -0500");
-//! assert!(rt; answer.as_bytes() == b"2021-01-02T03:04:00.000000000Z".as_slice());
-//! assert!(rt; timeline.place(b"yesterday") == Err(LineFault::Component("year")));
+//! fn answers(timeline: &Timeline) -> [bool; 3] {
+//!     let answer = timeline.answer_line(b"01/01/2021 22:04 -0500");
+//!     let refused = timeline.answer_line(b"yesterday");
+//!     [
+//!         answer.as_bytes() == b"2021-01-02T03:04:00.000000000Z".as_slice(),
+//!         timeline.place(b"yesterday") == Err(LineFault::Component("year")),
+//!         refused.as_bytes() == b"! component year".as_slice(),
+//!     ]
+//! }
+//!
+//! fn lines(alloc: Global) -> Option<[bool; 3]> {
+//!     let sources = [SourceText::Rfc3339, SourceText::Strftime("%d/%m/%Y %R %z")];
+//!     match Timeline::new(alloc, &sources, UtcOffset::UTC, None) {
+//!         Ok(timeline) => Some(answers(&timeline)),
+//!         Err(_) => None,
+//!     }
+//! }
 //! ```
 //!
-//! Here `rt` is the runtime that `main` or a test is handed, and `alloc` its allocator. `UtcOffset` is that of the
+//! All three are true. `alloc` is the allocator of the runtime that `main` or a test is handed. `UtcOffset` is that of the
 //! crate `calendar`; a target, and an offset that is assumed, has whole minutes, within 23:59.
 //!
 //! - `Timeline` holds sources, which are tried in order, the target offset, and the offset to assume for lines

@@ -2,8 +2,8 @@
 ghost use Rattle.std.specs.Prelude.{◌≡◌, ◌⊎◌, ◌+◌, ◌≤◌, ◌++◌, length, take, drop, IfOk, IfErr};
 ghost use Rattle.std.specs.Fmt.{decimal};
 ghost use Rattle.instants_words.specs.declared.fault.WordsFault.{WordsFault};
-ghost use Rattle.instants_timeline.specs.ProgramText.{sentence, status_of};
-ghost use Rattle.instants_timeline.specs.declared.program_fault.ProgramFault.{ProgramFault};
+ghost use Rattle.instants_faults.specs.ProgramText.{sentence, status_of};
+ghost use Rattle.instants_faults.specs.declared.program_fault.ProgramFault.{ProgramFault};
 ghost use Rattle.instants_c.specs.Refused.{IsPut};
 
 use instants_timeline::ProgramFault;

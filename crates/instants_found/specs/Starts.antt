@@ -5,6 +5,13 @@ use Rattle.instants_sources.specs.Grammar.{Grammar}
 use Rattle.instants_prefixes.specs.declared.given.Given.{Given}
 use Rattle.instants_prefixes.specs.NoPrefix.{HasNoPrefix}
 use Rattle.instants_found.specs.Found.{at_place}
+use Rattle.instants_found.specs.declared.starts.Place.{Place}
+use Rattle.instants_found.specs.declared.starts.Place.TheVariants.{First, Fourth}
+
+-- a place's index in the bytes of a date
+abbrev pub index_of : Place → ℕ
+index_of First = 0
+index_of Fourth = 3
 
 -- no prefix that a source reads has this byte at this place
 abbrev pub CannotStand : ℕ → ℕ → Grammar → Type 0

@@ -33,7 +33,7 @@ pub(crate) fn found_at(start: usize, number: usize, prefix: Prefix) -> Found
     }
 }
 
-/// The same with how far it reaches, and whether it stands whole.
+/// The date of a prefix that the source of this number reads at a place, with how far it reaches, and whether it stands whole.
 #[inline(always)]
 pub(crate) fn candidate_with(
     line: &[u8],

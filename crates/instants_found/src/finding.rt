@@ -75,7 +75,7 @@ fn some_may_read(sources: &[DateSource<'_>], bytes: &[u8]) -> bool
     may_read(sources, bytes)
 }
 
-// The same of the sources from a number on.
+// Whether the bytes may have a prefix that one of the sources from a number on reads.
 #[inline(always)]
 fn others_may_read(sources: &[DateSource<'_>], number: usize, bytes: &[u8]) -> bool
     requires { number ≤ length sources.now }

@@ -4,7 +4,7 @@ ghost use Rattle.std.specs.Prelude.{◌≡◌, ◌<◌, ◌≤◌, ◌+◌, ℕ,
 use crate::keys::{KeyedLine, Keys, REACH};
 use crate::lanes::{LANES, bits_within, load};
 use crate::range::Range;
-use crate::starts::{FOURTH, are_within, marked_at, range_of};
+use crate::starts::{FOURTH, Place, are_within, marked_at, range_of};
 use instants_sources::Source;
 
 /// What each date of some sources has: one of their keys, and a first and a fourth byte from a range.
@@ -30,7 +30,7 @@ impl Marks {
         if !are_within(starts, &first) {
             return None;
         }
-        let fourths = marked_at(sources, FOURTH);
+        let fourths = marked_at(sources, Place::Fourth);
         let fourth = range_of(&fourths);
         if !are_within(&fourths, &fourth) {
             return None;

@@ -3,13 +3,20 @@ ghost use Rattle.std.specs.Prelude.{◌≡◌, true, false, map, get_or};
 ghost use Rattle.instants_sources.specs.Grammar.{grammar_of};
 ghost use Rattle.instants_prefixes.specs.NoPrefix.{begins_day, begins_part};
 ghost use Rattle.instants_found.specs.Ranges.{AreWithin, is_within};
-ghost use Rattle.instants_found.specs.Starts.{AreMarked, CannotStand, NoneHas};
+ghost use Rattle.instants_found.specs.Starts.{AreMarked, CannotStand, NoneHas, index_of};
 
 use crate::range::Range;
 use instants_sources::Source;
 
-/// The fourth place, counted from 0.
+/// How far a date's fourth byte is from its first.
 pub(crate) const FOURTH: usize = 3;
+
+/// A place of a date whose byte says whether a date can be there.
+#[derive(Clone, Copy)]
+pub(crate) enum Place {
+    First,
+    Fourth,
+}
 
 // Whether a date of RFC 2822 can begin with a byte: its weekday, or its day.
 fn begins_day(byte: u8) -> bool
@@ -57,19 +64,18 @@ fn can_be_fourth(source: &Source<'_>, byte: u8) -> bool
 }
 
 // Whether a byte can stand at a place of a date of a source: `true` says nothing of it.
-fn can_stand(source: &Source<'_>, place: usize, byte: u8) -> bool
-    ensures { result ≡ false → CannotStand place byte (grammar_of source.now) }
+fn can_stand(source: &Source<'_>, place: Place, byte: u8) -> bool
+    ensures { result ≡ false → CannotStand (index_of place) byte (grammar_of source.now) }
 {
     match place {
-        0 => can_begin(source, byte),
-        3 => can_be_fourth(source, byte),
-        _ => true,
+        Place::First => can_begin(source, byte),
+        Place::Fourth => can_be_fourth(source, byte),
     }
 }
 
 // Whether a byte can stand at a place of a date of some source.
-fn some_has(sources: &[Source<'_>], place: usize, byte: u8) -> bool
-    ensures { result ≡ false → NoneHas place (map grammar_of sources.now) byte }
+fn some_has(sources: &[Source<'_>], place: Place, byte: u8) -> bool
+    ensures { result ≡ false → NoneHas (index_of place) (map grammar_of sources.now) byte }
 {
     for number in 0..sources.len() {
         if can_stand(&sources[number], place, byte) {
@@ -80,8 +86,8 @@ fn some_has(sources: &[Source<'_>], place: usize, byte: u8) -> bool
 }
 
 /// For each byte whether it can stand at a place of a date of some source: `true` says nothing of it.
-pub(crate) fn marked_at(sources: &[Source<'_>], place: usize) -> [bool; 256]
-    ensures { AreMarked place (map grammar_of sources.now) result }
+pub(crate) fn marked_at(sources: &[Source<'_>], place: Place) -> [bool; 256]
+    ensures { AreMarked (index_of place) (map grammar_of sources.now) result }
 {
     let mut marked = [true; 256];
     for byte in 0..=255u8 {

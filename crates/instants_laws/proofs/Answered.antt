@@ -9,7 +9,7 @@ use Rattle.instants_answers.proofs.Compares.{Compares, same_when, int_cmp-equal}
 use Rattle.instants_answers.proofs.Lines.{line_field}
 use Rattle.instants_answers.proofs.Placed.{shown_at-is}
 use Rattle.instants_laws.specs.Answered.{IsAnswered}
-use Rattle.instants_timeline.specs.Refusal.{Refusal, year}
+use Rattle.instants_faults.specs.Refusal.{Refusal, year}
 use Rattle.instants_timeline.specs.Place.{Setting, in_written_years, place_of, place_text, answer_to}
 
 -- a moment at the target, of this instant, whose line is the text

@@ -8,7 +8,7 @@ use Rattle.calendar.specs.Duration.{least_duration, greatest_duration, IsDuratio
 use Rattle.parsing_combinator.specs.Fault.{Fault}
 use Rattle.instants_answers.specs.Text.{has_written_year, moment_text}
 use Rattle.instants_answers.proofs.Placed.{shown_at-is}
-use Rattle.instants_timeline.specs.Refusal.{Refusal, year}
+use Rattle.instants_faults.specs.Refusal.{Refusal, year}
 use Rattle.instants_timeline.specs.Place.{Setting, in_written_years, first_named, shown_or_refused, place_of, place_text, answer_to}
 
 kept : (b : Bool) (m a : Shown) (e : Refusal) → (if b then Ok m else Err e) ≡ Ok a → m ≡ a

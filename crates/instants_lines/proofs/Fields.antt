@@ -16,7 +16,7 @@ use Rattle.instants_found.specs.declared.found.Finding.{Finding}
 use Rattle.instants_found.specs.declared.found.Finding.TheVariants.{Doubtful, There}
 use Rattle.instants_stream.specs.Lines.{HasNoLineFeed}
 use Rattle.instants_timeline.specs.Place.{Setting, in_written_years, place_text}
-use Rattle.instants_timeline.specs.Refusal.{year}
+use Rattle.instants_faults.specs.Refusal.{year}
 use Rattle.instants_lines.specs.Dates.{date_in, key_or, place_of_date}
 use Rattle.instants_lines.specs.Fields.{IsLabel, is_field, without_fields, without_key}
 use Rattle.instants_lines.specs.Going.{Going, key_of_line, key_below, label_prefix}

@@ -13,7 +13,7 @@ use Rattle.instants_found.proofs.NearFound.{near_found, found_near}
 use Rattle.instants_stream.specs.Steps.{passed, state_within, opened, line_said, line_next}
 use Rattle.instants_stream.proofs.Written.{line_said-longer, line_next-longer, line_said-short, line_next-short}
 use Rattle.instants_timeline.specs.Place.{Setting}
-use Rattle.instants_timeline.specs.Refusal.{Refusal}
+use Rattle.instants_faults.specs.Refusal.{Refusal}
 use Rattle.instants_lines.specs.Dates.{date_in, key_or, place_of_date, with_date_time, with_date, replaced}
 use Rattle.instants_lines.specs.Going.{Going, below, given_below, search_below, key_of_line, key_below, keyed, label_prefix, text_in, next_in, near, begun_in, hands_on, end_in, lines_steps}
 use Rattle.instants_lines_words.specs.declared.mode.Mode.{Mode}

@@ -5,7 +5,7 @@ use Rattle.datetime_wall.specs.Wall.{Shown, instant, shown_at}
 use Rattle.instants_answers.specs.Text.{moment_text}
 use Rattle.instants_found.specs.declared.found.Found.{Found}
 use Rattle.instants_found.specs.declared.found.Finding.TheVariants.{Doubtful, There}
-use Rattle.instants_timeline.specs.Refusal.{Refusal}
+use Rattle.instants_faults.specs.Refusal.{Refusal}
 use Rattle.instants_timeline.specs.Place.{Setting, in_written_years}
 use Rattle.instants_lines.specs.Dates.{Search, date_in, place_of_date, with_date, with_date_time, replaced}
 

@@ -9,9 +9,10 @@ use Rattle.instants_words.specs.Words.{words_said}
 use Rattle.instants_words.specs.declared.words.Words.{Words}
 use Rattle.instants_timeline.specs.Place.{Setting}
 use Rattle.instants_timeline.specs.Program as instants
-use Rattle.instants_timeline.specs.Program.{ended_of, of_runs}
-use Rattle.instants_timeline.specs.declared.runs_fault.RunsFault.{RunsFault}
-use Rattle.instants_timeline.specs.declared.runs_fault.RunsFault.TheVariants.{Memory, Run}
+use Rattle.instants_timeline.specs.Program.{ended_of}
+use Rattle.instants_faults.specs.Runs.{of_runs}
+use Rattle.instants_faults.specs.declared.runs_fault.RunsFault.{RunsFault}
+use Rattle.instants_faults.specs.declared.runs_fault.RunsFault.TheVariants.{Memory, Run}
 use Rattle.instants_lines_words.specs.Asked.{Asking}
 use Rattle.instants_lines_words.specs.Words.{mode_words_said}
 use Rattle.instants_lines.specs.Asked.{begins_by, given_by}

@@ -7,7 +7,7 @@ use Rattle.instants_found.specs.Found.{found}
 use Rattle.instants_found.specs.declared.found.Found.{Found}
 use Rattle.instants_found.specs.declared.found.Finding.{Finding}
 use Rattle.instants_found.specs.declared.found.Finding.TheVariants.{Doubtful, There}
-use Rattle.instants_timeline.specs.Refusal.{Refusal}
+use Rattle.instants_faults.specs.Refusal.{Refusal}
 use Rattle.instants_timeline.specs.Place.{Setting, shown_or_refused, place_text}
 
 -- what a search goes by: the sources and the target, the number of places of a line at which a date may begin, and what is given for dates that lack it

@@ -8,7 +8,7 @@ use Rattle.instants_words.specs.declared.words.Words.{Words}
 use Rattle.instants_timeline.specs.Place.{Setting}
 use Rattle.instants_timeline.specs.Program.{Asks}
 use Rattle.instants_timeline.specs.Program as instants
-use Rattle.instants_timeline.specs.declared.program_fault.ProgramFault.TheVariants as program
+use Rattle.instants_faults.specs.declared.program_fault.ProgramFault.TheVariants as program
 use Rattle.instants_lines.specs.Going.{Going, lines_steps, near}
 use Rattle.instants_lines.specs.Asked.{begins_by}
 use Rattle.instants_lines_words.specs.Words.{mode_words_said}

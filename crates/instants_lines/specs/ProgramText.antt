@@ -1,8 +1,8 @@
 -- What the program says on standard error, and the status that it ends with: of a fault that `instants` has too, what that says.
 use Rattle.std.specs.Prelude.{ℕ, List, ◌++◌, codes}
 use Rattle.std.specs.Fmt.{decimal}
-use Rattle.instants_timeline.specs.ProgramText.{text_of}
-use Rattle.instants_timeline.specs.ProgramText as instants
+use Rattle.instants_faults.specs.ProgramText.{text_of}
+use Rattle.instants_faults.specs.ProgramText as instants
 use Rattle.instants_lines_words.specs.Wrong.{wrong_of}
 use Rattle.instants_lines_words.specs.WrongText.{wrong_text}
 use Rattle.instants_prefixes.specs.declared.lacks.Lack.{Lack}

@@ -16,7 +16,7 @@ ghost use Rattle.instants_sources.specs.Named.{named};
 ghost use Rattle.instants_stream.specs.Lines.{whole_lines, lines};
 ghost use Rattle.instants_stream.specs.Steps.{line_said, line_next, after, output};
 ghost use Rattle.instants_timeline.specs.Place.{Setting, first_named, answer_to};
-ghost use Rattle.instants_timeline.specs.Refusal.{Refusal};
+ghost use Rattle.instants_faults.specs.Refusal.{Refusal};
 ghost use Rattle.instants_lines.specs.Dates.{Search, date_in, place_of_date, key_of_date, replaced};
 ghost use Rattle.instants_lines.specs.Explained.{IsFirstToName, explained};
 ghost use Rattle.instants_lines.specs.Fields.{IsLabel, is_field, without_fields};

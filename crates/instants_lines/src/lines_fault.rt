@@ -84,7 +84,7 @@ impl<'a> From<ModeWordsFault<'a>> for LinesFault<'a> {
 
 impl From<RunsFault> for LinesFault<'_> {
     ghost use Rattle.std.specs.Prelude.{◌≡◌};
-    ghost use Rattle.instants_timeline.specs.Program.{of_runs};
+    ghost use Rattle.instants_faults.specs.Runs.{of_runs};
     ghost use Rattle.instants_lines.specs.declared.lines_fault.LinesFault.TheVariants as lines;
 
     ghost from_gives = { λ fault e. e ≡ lines.Program (of_runs fault) };
@@ -96,7 +96,7 @@ impl From<RunsFault> for LinesFault<'_> {
 
 impl From<AllocError> for LinesFault<'_> {
     ghost use Rattle.std.specs.Prelude.{◌≡◌};
-    ghost use Rattle.instants_timeline.specs.declared.program_fault.ProgramFault.TheVariants as program;
+    ghost use Rattle.instants_faults.specs.declared.program_fault.ProgramFault.TheVariants as program;
     ghost use Rattle.instants_lines.specs.declared.lines_fault.LinesFault.TheVariants as lines;
 
     ghost from_gives = { λ _ e. e ≡ lines.Program program.Memory };

@@ -4,7 +4,7 @@ use Rattle.std.specs.Int.{int_div_euclid, int_rem_euclid}
 use Rattle.std.specs.Str.{bytes_eq}
 use Rattle.datetime_wall.specs.Wall.{Shown, instant, second_nanos}
 use Rattle.instants_timeline.specs.Place.{Setting, place_of}
-use Rattle.instants_timeline.specs.Refusal.{Refusal, literal, component, trailing, insufficient, range, year, long}
+use Rattle.instants_faults.specs.Refusal.{Refusal, literal, component, trailing, insufficient, range, year, long}
 use Rattle.instants_memory.specs.declared.moments.Moment.{Moment}
 
 -- the names of components, by their numbers from 1 on

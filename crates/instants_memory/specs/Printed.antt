@@ -3,7 +3,7 @@ use Rattle.std.specs.Prelude.{◌≢◌, ℕ, ◌-◌, ◌==◌, List, [], ◌�
 use Rattle.base.specs.Bytes.{line_feed}
 use Rattle.datetime_wall.specs.Wall.{Shown, second_nanos, wall_at}
 use Rattle.instants_answers.specs.Text.{moment_text}
-use Rattle.instants_timeline.specs.Refusal.{Refusal, component, range}
+use Rattle.instants_faults.specs.Refusal.{Refusal, component, range}
 use Rattle.instants_memory.specs.Numbers.{name_number, names}
 use Rattle.instants_memory.specs.declared.moments.Moment.{Moment}
 

@@ -2,7 +2,7 @@
 ghost use Rattle.std.specs.Prelude.{◌≡◌, ◌<◌, ◌++◌, ◌∷◌, length, map, take, drop, slice_index, Ok, Err, IfSome, IfNone, IfOk, OnErr};
 ghost use Rattle.base.specs.Bytes.{line_feed};
 ghost use Rattle.instants_stream.specs.Lines.{HasNoLineFeed, lines};
-ghost use Rattle.instants_timeline.specs.Refusal.{refusal_said};
+ghost use Rattle.instants_faults.specs.Refusal.{refusal_said};
 ghost use Rattle.instants_timeline.specs.Settings.{setting_of};
 ghost use Rattle.instants_memory.specs.Numbers.{entry_of, numbers_of};
 

@@ -1,6 +1,6 @@
 //! The numbers of faults, which never change.
 ghost use Rattle.std.specs.Prelude.{◌≡◌, ◌≤◌, drop};
-ghost use Rattle.instants_timeline.specs.Refusal.{refusal_said};
+ghost use Rattle.instants_faults.specs.Refusal.{refusal_said};
 ghost use Rattle.instants_memory.specs.Numbers.{fault_number, name_number, names, number_in};
 
 use instants_timeline::LineFault;

@@ -3,10 +3,9 @@ use Rattle.std.proofs.Common.{◌≡◌, ◌≤◌, ℕ, ℤ, false, List, lengt
 use Rattle.std.specs.Prelude.{if◌then◌else◌}
 use Rattle.std.proofs.lemmas.List.{length-take}
 use Rattle.datetime_wall.specs.Wall.{Shown}
-use Rattle.parsing_record.specs.Prefix.{NamesPrefix}
+use Rattle.parsing_record.specs.Prefix.{NamesPrefix, beginning}
 use Rattle.instants_sources.specs.Grammar.{Described, Written}
 use Rattle.instants_sources.specs.Written.{reads_written}
-use Rattle.instants_sources.specs.Tried.{beginning}
 use Rattle.instants_prefixes.specs.Contents.{AreContents}
 use Rattle.instants_prefixes.specs.declared.contents.Contents.{Contents}
 use Rattle.instants_prefixes.specs.DateSource.{IsWithin}

@@ -86,18 +86,18 @@ impl<'a> DateSource<'a> {
         }
     }
 
-    // The same where a plan reads a description, and texts alone stand around what they say: `None` says nothing of the
-    // bytes. The compiler inlines a large function where it is called once alone, so each caller has one of its own.
+    // The prefix that a plan reads where texts alone stand around what it says: `None` says nothing of the bytes. The compiler
+    // inlines a large function where it is called once alone, so each caller has one of its own.
     #[inline]
     fn planned<const AT_ONCE: bool>(&self, bytes: &[u8], given: &Given) -> Option<Prefix>
         ensures prefix { IfSome result
             (λ prefix. Some prefix ≡ prefix_at given.now (grammar_in self.now) bytes.now) }
         ensures within { IfSome result (IsWithin bytes.now) }
     {
-        let described = described(&self.source)?;
         if self.contents.has_unix_time || !has_offset(self.contents, given) {
             return None;
         }
+        let described = described(&self.source)?;
         let text = near(bytes);
         let Some((fields, rest)) = described.read_prefix(text, assumed(self.contents, given)) else {
             return None;
@@ -110,8 +110,8 @@ impl<'a> DateSource<'a> {
         Some(prefix)
     }
 
-    /// The same where a plan reads a description, and texts alone stand around what they say: `None` says nothing of
-    /// the bytes. The fields that were read stay where they are, since the caller gets no memory for a prefix that it asks for.
+    /// The prefix of bytes that a plan reads as a date, where texts alone stand around what it says: `None` says nothing of the
+    /// bytes. The fields that were read stay where they are, since the caller gets no memory for a prefix that it asks for.
     #[inline(always)]
     pub fn read_planned(&self, bytes: &[u8], given: &Given) -> Option<Prefix>
         ensures prefix { IfSome result

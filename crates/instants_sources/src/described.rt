@@ -60,7 +60,7 @@ fn plan_of(description: &Description<'_>) -> Option<Plan>
 }
 
 impl<'a> Described<'a> {
-    ghost use Rattle.instants_sources.specs.Tried.{beginning};
+    ghost use Rattle.parsing_record.specs.Prefix.{beginning};
 
     pub(crate) fn new(description: Description<'a>) -> Described<'a>
         ensures { result.description ≡ description.entry }

@@ -105,9 +105,9 @@ impl<'a> Source<'a> {
     {
         directly_named();
         match self {
-            Source::Rfc2822 => parsing_rfc2822::read_fields(line),
+            Source::Rfc2822 => parsing_rfc2822_shapes::read_fields(line),
             Source::Rfc3339 => parsing_rfc3339::read_fields(line),
-            Source::Iso8601 => parsing_iso8601::read_fields(line),
+            Source::Iso8601 => parsing_iso8601_shapes::read_fields(line),
             Source::Items(_) | Source::V3(_) => self.read_planned(line, assumed),
         }
     }

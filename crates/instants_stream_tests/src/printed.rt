@@ -1,7 +1,7 @@
-//! How faults are printed, by `{:?}` and under a width, which sentences ignore.
+//! How faults are printed, by `{:?}` and under a width, which sentences ignore, and how they stand for a line.
 
-use description::InvalidFormatDescription;
-use instants::{LineFault, NewFault, ProgramFault, RunFault, WordsFault};
+use description::{DescriptionFault, InvalidFormatDescription};
+use instants::{Answer, LineFault, NewFault, ProgramFault, RunFault, WordsFault};
 use std::alloc::{AllocError, Global};
 use std::test::Fail;
 
@@ -34,6 +34,23 @@ fn told(alloc: Global) -> Result<String, AllocError> {
 fn faults(rt: HostRuntime) -> Result<(), Fail> {
     assert!(rt; told(rt.alloc())?.as_str() == PRINTED);
     Ok(())
+}
+
+fn written() -> [bool; 3] {
+    let mut answer = Answer::new();
+    LineFault::Year.put(&mut answer);
+    let mut room = [b'.'; 64];
+    let len = LineFault::Component("month").fill(&mut room);
+    [
+        answer.as_bytes() == b"! year".as_slice(),
+        len == 18 && room.starts_with(b"! component month\n."),
+        NewFault::refused(2, DescriptionFault::Memory) == NewFault::Memory,
+    ]
+}
+
+#[test]
+fn faults_in_place_of_a_date(rt: HostRuntime) {
+    assert!(rt; written() == [true; 3]);
 }
 
 const PRINTED: &str = r#"instants: source 3: missing component name at byte index 4

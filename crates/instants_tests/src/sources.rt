@@ -2,6 +2,7 @@
 
 use calendar::UtcOffset;
 use datetime::OffsetDateTime;
+use description::Description;
 use instants::SourceText;
 use instants_sources::{Source, directly_named, is_no_rfc3339, starting};
 use parsing_fields::Fields;
@@ -120,10 +121,29 @@ fn planned(alloc: Global, text: &str, line: &[u8]) -> Option<(Option<i64>, Optio
     }
 }
 
+// Whether the source is a list of items, and whether its lines may begin with a letter.
+fn look(source: &Source) -> Option<[bool; 2]> {
+    match source {
+        Source::Items(described) => Some([
+            matches!(described.description(), Description::Items(_)),
+            described.first_bytes().can_stand(0, b'x'),
+        ]),
+        _ => None,
+    }
+}
+
+fn described(alloc: Global, text: &str) -> Option<[bool; 2]> {
+    match Source::new(alloc, SourceText::Strftime(text)) {
+        Ok(source) => look(&source),
+        Err(_) => None,
+    }
+}
+
 const WEB_SERVER: &str = "%d/%b/%Y:%H:%M:%S %z";
 
 #[test]
 fn plans(rt: HostRuntime) {
+    assert!(rt; described(rt.alloc(), WEB_SERVER) == Some([true, false]));
     let log = planned(rt.alloc(), WEB_SERVER, b"01/Jan/1970:00:00:01 +0000");
     assert!(rt; log == Some((Some(1), Some(1))));
     let unix = planned(rt.alloc(), "%s", b"1000000000");

@@ -15,7 +15,7 @@ use Rattle.instants_sources.specs.Named.{named, IsDirect, IsNamedBy}
 use Rattle.instants_sources.specs.Planned.{IsPlanned}
 use Rattle.parsing_plan.specs.declared.plan.Plan.{Plan}
 use Rattle.instants_timeline.specs.Place.{Setting, or_named, first_named, place_of, place_text, shown_or_refused, answer_to}
-use Rattle.instants_timeline.specs.Refusal.{refusal_of, refusal_text}
+use Rattle.instants_faults.specs.Refusal.{refusal_of, refusal_text}
 use Rattle.instants_timeline.specs.FirstNamed.{HoldsAnswer, IsLedBy, IsLedByPlan, NamesFrom}
 
 here : (o : Result Shown Fault) (others : Option Shown) (moment : Shown) → result_ok o ≡ Some moment → result_ok (or_named o others) ≡ Some moment

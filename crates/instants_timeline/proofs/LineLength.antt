@@ -11,7 +11,7 @@ use Rattle.parsing_fields.proofs.lemmas.Decimals.{decimal_length}
 use Rattle.instants_answers.specs.Line.{HoldsLine}
 use Rattle.instants_answers.specs.Text.{date_text, moment_text, has_written_year}
 use Rattle.instants_timeline.specs.Place.{Setting, first_named, place_of, place_text, shown_or_refused, in_written_years, answer_to}
-use Rattle.instants_timeline.specs.Refusal.{refusal_of, refusal_text, year}
+use Rattle.instants_faults.specs.Refusal.{refusal_of, refusal_text, year}
 
 -- all but the line feed is the text
 pub text_of_line : (text room : List ℕ) (len : ℕ) → 64 ≤ length room → HoldsLine text len room → (take (len - 1) room ≡ text) × (length text + 1 ≡ len)

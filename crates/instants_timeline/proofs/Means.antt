@@ -6,7 +6,7 @@ use Rattle.description_lexer.specs.declared.description_fault.DescriptionFault.T
 use Rattle.instants_words.specs.Sources.{SourceSaid, said_by}
 use Rattle.instants_words.specs.declared.sources.SourceText.{SourceText}
 use Rattle.instants_sources.specs.Grammar.{Grammar, Means, IsRefused}
-use Rattle.instants_timeline.specs.Refusals.{refused_at}
+use Rattle.instants_faults.specs.Refusals.{refused_at}
 use Rattle.instants_timeline.specs.Sources.{AllMean, IsRefusal}
 
 -- one source more, and what it means

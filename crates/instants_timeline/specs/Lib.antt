@@ -1,9 +1,6 @@
-pub mod Refusal
-pub mod Refusals
 pub mod Sources
 pub mod FirstNamed
 pub mod Place
 pub mod Settings
 pub mod Tried
-pub mod ProgramText
 pub mod Program

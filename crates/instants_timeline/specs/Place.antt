@@ -7,8 +7,8 @@ use Rattle.parsing_combinator.specs.Fault.{Fault, insufficient}
 use Rattle.instants_sources.specs.Grammar.{Grammar}
 use Rattle.instants_sources.specs.Named.{named}
 use Rattle.instants_answers.specs.Text.{moment_text, has_written_year}
-use Rattle.instants_timeline.specs.Refusal.{Refusal, year, refusal_of, refusal_said, refusal_text}
-use Rattle.instants_timeline.specs.declared.line_fault.LineFault.{LineFault}
+use Rattle.instants_faults.specs.Refusal.{Refusal, year, refusal_of, refusal_said, refusal_text}
+use Rattle.instants_faults.specs.declared.line_fault.LineFault.{LineFault}
 
 -- what a timeline is made of: its sources in order, the offset in which moments are shown, and the one that is assumed for lines without one
 pub record Setting : Type 0 where

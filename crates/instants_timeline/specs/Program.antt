@@ -6,11 +6,11 @@ use Rattle.instants_words.specs.declared.words.Words.{Words}
 use Rattle.instants_words.specs.Words.{words_said}
 use Rattle.instants_timeline.specs.Place.{Setting}
 use Rattle.instants_timeline.specs.Sources.{AllMean, IsRefusal}
-use Rattle.instants_timeline.specs.declared.new_fault.NewFault.TheVariants as new
-use Rattle.instants_timeline.specs.declared.program_fault.ProgramFault.{ProgramFault}
-use Rattle.instants_timeline.specs.declared.program_fault.ProgramFault.TheVariants as program
-use Rattle.instants_timeline.specs.declared.runs_fault.RunsFault.{RunsFault}
-use Rattle.instants_timeline.specs.declared.runs_fault.RunsFault.TheVariants as runs
+use Rattle.instants_faults.specs.declared.new_fault.NewFault.TheVariants as new
+use Rattle.instants_faults.specs.declared.program_fault.ProgramFault.{ProgramFault}
+use Rattle.instants_faults.specs.declared.program_fault.ProgramFault.TheVariants as program
+use Rattle.instants_faults.specs.declared.runs_fault.RunsFault.{RunsFault}
+use Rattle.instants_faults.specs.declared.runs_fault.RunsFault.TheVariants as runs
 
 -- how many bytes a program reads at once where they are there, beside those of a line
 abbrev pub block : ℕ
@@ -42,11 +42,6 @@ abbrev pub ended_of : Result (Unit {0}) RunsFault → Option (Result (Unit {0}) 
 ended_of (Ok done) = Some (Ok done)
 ended_of (Err (runs.Run fault)) = Some (Err fault)
 ended_of (Err runs.Memory) = None
-
--- the same fault as one of the program
-abbrev pub of_runs : RunsFault → ProgramFault
-of_runs runs.Memory = program.Memory
-of_runs (runs.Run fault) = program.Run fault
 
 -- a fault that comes before anything is read or written
 abbrev pub IsBeforeRun : ProgramFault → Type 0

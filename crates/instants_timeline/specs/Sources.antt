@@ -3,8 +3,8 @@ use Rattle.std.specs.Prelude.{◌≡◌, ℕ, ◌+◌, List, [], ◌∷◌, ◌+
 use Rattle.description_lexer.specs.Fault.{Fault, fault_of}
 use Rattle.instants_words.specs.Sources.{SourceSaid}
 use Rattle.instants_sources.specs.Grammar.{Grammar, Means, IsFaulty}
-use Rattle.instants_timeline.specs.declared.new_fault.NewFault.{NewFault}
-use Rattle.instants_timeline.specs.declared.new_fault.NewFault.TheVariants as new
+use Rattle.instants_faults.specs.declared.new_fault.NewFault.{NewFault}
+use Rattle.instants_faults.specs.declared.new_fault.NewFault.TheVariants as new
 
 -- the sources that are said mean these grammars, one by one
 abbrev pub AllMean : List SourceSaid → List Grammar → Type 0

@@ -9,10 +9,9 @@ ghost use Rattle.instants_timeline.specs.Place.{Setting, answer_to};
 ghost use Rattle.instants_timeline.specs.Program.{AsksFor, block, ended_of, IsBeforeRun, IsMemory, IsRefusedAs, run_of};
 ghost use Rattle.instants_timeline.specs.Settings.{setting_of};
 
-use crate::program_fault::ProgramFault;
 use crate::runs::answer_lines;
-use crate::runs_fault::RunsFault;
 use crate::timeline::Timeline;
+use instants_faults::{ProgramFault, RunsFault};
 use instants_stream::{ByteReader, ByteWriter, RunFault};
 use instants_words::read_words;
 use std::alloc::Global;

@@ -5,12 +5,12 @@ ghost use Rattle.instants_answers.specs.Text.{FitsLine};
 ghost use Rattle.instants_sources.specs.Grammar.{grammar_of};
 ghost use Rattle.instants_sources.specs.Named.{named};
 ghost use Rattle.instants_timeline.specs.Place.{place_text, shown_or_refused};
-ghost use Rattle.instants_timeline.specs.Refusal.{year};
+ghost use Rattle.instants_faults.specs.Refusal.{year};
 
-use crate::line_fault::LineFault;
 use calendar::UtcOffset;
 use datetime_types::OffsetDateTime;
 use instants_answers::{Answer, Target, has_written_year, rfc3339_line, write_fields};
+use instants_faults::LineFault;
 use instants_sources::{Named, Source};
 
 /// A moment as it is shown at the target, if its year there is 0 to 9999.

@@ -1,15 +1,16 @@
 //! Dates, times of day, offsets and moments, read from bytes by a description or a well-known format.
 //!
 //! ```
-//! let items = parse(alloc, "[day].[month].[year], [hour]:[minute] [offset_hour]")?;
-//! let moment = Items(&items).parse_offset_date_time(b"01.07.2003, 10:52 +02", None);
-//! let same = Rfc2822.parse_offset_date_time(b"Tue, 1 Jul 2003 10:52 +0200", None);
-//! assert!(rt; moment.is_ok() && moment == same);
-//! assert!(rt; Rfc3339.parse_offset_date_time(b"2003-07-01", None).is_err());
+//! fn readings(items: &[BorrowedFormatItem<'_>]) -> [bool; 3] {
+//!     let moment = Items(items).parse_offset_date_time(b"01.07.2003, 10:52 +02", None);
+//!     let same = Rfc2822.parse_offset_date_time(b"Tue, 1 Jul 2003 10:52 +0200", None);
+//!     let refused = Rfc3339.parse_offset_date_time(b"2003-07-01", None);
+//!     [moment.is_ok(), moment == same, refused.is_err()]
+//! }
 //! ```
 //!
-//! Here `rt` is the runtime that `main` or a test is handed, and `alloc` its allocator. `parse` is that of the crate
-//! `description`; it takes memory, and nothing of this crate does.
+//! All three are true for the items of `"[day].[month].[year], [hour]:[minute] [offset_hour]"`, which `parse` of the crate
+//! `description` gives. It takes memory, and nothing of this crate does.
 //!
 //! - `Parsable` has the readings, of `Items`, which are a slice of items, of a tree of version 3, and of `Rfc2822`,
 //!   `Rfc3339` and `Iso8601`. `parse_date` to `parse_offset_date_time` read all of the bytes to one value;

@@ -1,15 +1,5 @@
 pub mod Carrying
-pub mod ClockLemmas
-pub mod DayLemmas
-pub mod EndLemmas
 pub mod Entries
-pub mod FastDates
-pub mod FastMoments
-pub mod FastOffsets
-pub mod FastTimes
-pub mod FormLemmas
 pub mod Pieces
-pub mod PlaceLemmas
-pub mod ReadLemmas
 pub mod Rounding
 pub mod TameLemmas

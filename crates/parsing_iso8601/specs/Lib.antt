@@ -1,8 +1,6 @@
 pub mod AllOrNothing
 pub mod Dates
-pub mod Days
 pub mod Designators
-pub mod Forms
 pub mod Fractions
 pub mod Kinds
 pub mod Moment

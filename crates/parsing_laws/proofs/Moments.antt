@@ -29,7 +29,7 @@ use Rattle.parsing_iso8601.specs.Parts.{all_three}
 use Rattle.parsing_iso8601.specs.Reading.{dated, iso8601, whole}
 use Rattle.parsing_iso8601.specs.ReadView.{day_named}
 use Rattle.parsing_iso8601.specs.Times.{time, time_of, subsecond_of}
-use Rattle.parsing_iso8601.proofs.FastMoments.{whole_of, moment_named}
+use Rattle.parsing_iso8601_shapes.proofs.FastMoments.{whole_of, moment_named}
 use Rattle.parsing_laws.specs.TwoFormats.{separator, last_byte, second_of, fraction_of, rounds_up, fills_second, is_of_both, rounded}
 use Rattle.parsing_laws.proofs.Places.{digits_place, byte_place, any_place, further, byte_at, last_of_rest}
 use Rattle.parsing_laws.proofs.RfcPieces.{date_pieces, clock_pieces, TextPieces, text_pieces, shown}

@@ -7,7 +7,7 @@ use Rattle.parsing_rfc3339.specs.Reading.{date}
 use Rattle.parsing_iso8601.specs.declared.kind.Kind.TheVariants.{Extended}
 use Rattle.parsing_iso8601.specs.declared.written.WrittenDate.TheVariants.{OfMonth}
 use Rattle.parsing_iso8601.specs.Reading.{dated}
-use Rattle.parsing_iso8601.proofs.FastDates.{date_of_pieces}
+use Rattle.parsing_iso8601_shapes.proofs.FastDates.{date_of_pieces}
 use Rattle.parsing_laws.proofs.RfcPieces.{date_pieces}
 
 -- the date that RFC 3339 reads is read by ISO 8601 too, and is of the extended kind

@@ -20,7 +20,7 @@ use Rattle.parsing_iso8601.specs.Kinds.{kind_of_time}
 use Rattle.parsing_iso8601.specs.Numbers.{decimal_mark, fraction_digits, due_digits}
 use Rattle.parsing_iso8601.specs.Times.{time_of, subsecond_of, time, designator, from_hour, minutes, from_minute, seconds, extended_seconds, due_second, to_second}
 use Rattle.parsing_iso8601.proofs.Pieces.{same, passed, not_passed, fraction_run}
-use Rattle.parsing_iso8601.proofs.FastTimes.{time_of_pieces, number_of, before_colon}
+use Rattle.parsing_iso8601_shapes.proofs.FastTimes.{time_of_pieces, number_of, before_colon}
 use Rattle.parsing_iso8601.proofs.Rounding.{rounded}
 use Rattle.parsing_laws.specs.TwoFormats.{digits_after, rounds_up}
 use Rattle.parsing_laws.proofs.Inversion.{due_piece, same_end}

@@ -89,7 +89,7 @@ impl Parsable for Rfc2822 {
 impl TwoRoads for Rfc2822 {
     #[inline(always)]
     fn read_direct(&self, input: &[u8]) -> Result<OffsetDateTime, Parse> {
-        match parsing_rfc2822::read_fast(input) {
+        match parsing_rfc2822_shapes::read_fast(input) {
             Some(moment) => Ok(moment),
             None => parsing_rfc2822::read_exact(input),
         }

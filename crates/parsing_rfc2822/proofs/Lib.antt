@@ -1,7 +1,4 @@
-mod CommentLemmas
-pub mod LetterLemmas
-pub mod PlaceLemmas
-mod ShapeLemmas
+pub mod CommentLemmas
 pub mod StrictLemmas
 pub mod TameLemmas
 pub mod WordLemmas

@@ -2,8 +2,6 @@ pub mod Direct
 pub mod Names
 pub mod Range
 pub mod Reading
-pub mod Shape
 pub mod Words
-pub mod Places
 pub mod Skips
 pub mod WhiteSpace

@@ -278,7 +278,7 @@ fn is_plain(text: &[u8]) -> bool
 
 /// Whether all bytes are one space and one comment of plain text, as ` (UTC)`: `false` says nothing of them.
 #[inline(always)]
-pub(crate) fn is_plain_comment(bytes: &[u8]) -> bool
+pub fn is_plain_comment(bytes: &[u8]) -> bool
     ensures { result ≡ true → White.comments_and_white_space bytes.now ≡ Some [] }
 {
     match bytes {

@@ -1,12 +1,11 @@
 //! The moment that a text names.
-ghost use Rattle.std.specs.Prelude.{◌≡◌, ◌<◌, IfErr, IfSome, Ok};
+ghost use Rattle.std.specs.Prelude.{◌≡◌, ◌<◌, IfErr};
 ghost use Rattle.parsing_combinator.specs.FaultOf.{Gives, fault_of};
 ghost use Rattle.parsing_combinator.specs.Readings.{value_read};
 ghost use Rattle.parsing_combinator.specs.ShortName.{HasShortName};
 ghost use Rattle.parsing_rfc2822.specs.Direct.{direct, moment_of};
 
 use crate::parts::Rfc2822Parts;
-use crate::places::read_fields;
 use crate::reading::parse_prefix;
 use parsing_combinator::{Parse, ParseFromDescription};
 use parsing_values::{OffsetDateTime, leap_checked, resolve};
@@ -32,15 +31,6 @@ fn resolved(parts: Rfc2822Parts, rest: &[u8]) -> Result<OffsetDateTime, Parse>
     Ok(leap_checked(second == 60, shown)?)
 }
 
-/// The moment that a text names, where the fast way finds one: `None` says nothing of the text.
-#[inline(always)]
-pub fn read_fast(input: &[u8]) -> Option<OffsetDateTime>
-    ensures { IfSome result (λ moment. direct input.now ≡ Ok moment) }
-{
-    let fields = read_fields(input)?;
-    Some(fields.moment())
-}
-
 // The moment that a text names, or its first fault.
 #[tactic(auto, unfolding(crate::specs::Direct::direct, crate::specs::Direct::moment))]
 #[cold]
@@ -55,8 +45,8 @@ fn read_pieces(input: &[u8]) -> Result<OffsetDateTime, Parse>
 /// The moment that a text of RFC 2822, section 3.3, names, with the obsolete years and zones of its section 4.3.
 ///
 /// The first fault counts: what can't be read, what follows, the ranges of date, time and offset, and last whether a
-/// second 60 can be a leap second. The weekday is read and has no effect. It reads piece by piece; `read_fast` finds
-/// most moments sooner.
+/// second 60 can be a leap second. The weekday is read and has no effect. It reads piece by piece; `read_fast` of
+/// `parsing_rfc2822_shapes` finds most moments sooner.
 #[inline(always)]
 pub fn read_exact(input: &[u8]) -> Result<OffsetDateTime, Parse>
     ensures gives { Gives (λ d. d) fault_of result (direct input.now) }

@@ -96,7 +96,7 @@ pub(crate) fn month(bytes: &[u8]) -> Option<(Month, &[u8])>
 /// The hours west of Greenwich that three letters name.
 #[tactic(auto, using(crate::proofs::WordLemmas::zone_by_word))]
 #[inline(always)]
-pub(crate) fn zone_of(text: &[u8]) -> Option<u8>
+pub fn zone_of(text: &[u8]) -> Option<u8>
     requires { length text.now ≡ 3 }
     ensures meaning { result ≡ Names.zone_of text.now }
     ensures bound { IfSome result (λ hours. hours ≤ 8) }

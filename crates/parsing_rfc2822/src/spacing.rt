@@ -8,7 +8,7 @@ use crate::comments_and_white_space;
 
 /// What follows comments and white space, where there are any.
 #[inline(always)]
-pub(crate) fn past_spacing(bytes: &[u8]) -> &[u8]
+pub fn past_spacing(bytes: &[u8]) -> &[u8]
     ensures { result.now ≡ Skips.optional White.comments_and_white_space bytes.now }
 {
     match comments_and_white_space(bytes) {

@@ -5,6 +5,7 @@ use datetime_types::WallClock;
 use description::{Description, DescriptionVersion, parse_borrowed, parse_strftime_borrowed};
 use parsing_combinator::digit_chunk;
 use parsing_fields::{Fields, Fraction, Year, digit_pair, minute_of_day, signed_minutes};
+use parsing_nodes::assumed_minutes;
 use parsing_places::{
     Moves, NamedShape, Number, Numbers, Shape, Window, Windows, read, read_long, read_numbers,
     read_stamp,
@@ -71,9 +72,9 @@ fn digits(rt: HostRuntime) {
 fn formats() -> [Option<(i64, u32)>; 4] {
     [
         instant(parsing_rfc3339::read_fields(b"2021-01-02T03:04:05.5+01:00")),
-        instant(parsing_rfc2822::read_fields(b"Sat, 02 Jan 2021 03:04:05 +0100")),
-        instant(parsing_iso8601::read_fields(b"2021-01-02T03:04:05.5+01:00")),
-        instant(parsing_iso8601::read_fields(b"20210102T030405.5+0100")),
+        instant(parsing_rfc2822_shapes::read_fields(b"Sat, 02 Jan 2021 03:04:05 +0100")),
+        instant(parsing_iso8601_shapes::read_fields(b"2021-01-02T03:04:05.5+01:00")),
+        instant(parsing_iso8601_shapes::read_fields(b"20210102T030405.5+0100")),
     ]
 }
 
@@ -82,11 +83,11 @@ fn shapes() -> [Option<(i64, u32)>; 7] {
     [
         instant(parsing_rfc3339::read_usual_fields(b"2021-01-02T03:04:05.5+01:00")),
         instant(parsing_rfc3339::read_rare_fields(b"2021-01-02T02:04:05.5z")),
-        instant(parsing_rfc2822::read_usual_fields(b"Sat, 02 Jan 2021 03:04:05 +0100")),
-        instant(parsing_rfc2822::read_other_fields(b"Sat, 02 Jan 2021 02:04:05 GMT")),
-        instant(parsing_iso8601::read_usual_fields(b"20210102T030405.5+0100")),
-        instant(parsing_iso8601::read_fields_to_minute(b"2021-01-02T03:04+01:00")),
-        instant(parsing_iso8601::read_rare_fields(b"2021002T030405.49999999950+0100")),
+        instant(parsing_rfc2822_shapes::read_usual_fields(b"Sat, 02 Jan 2021 03:04:05 +0100")),
+        instant(parsing_rfc2822_shapes::read_other_fields(b"Sat, 02 Jan 2021 02:04:05 GMT")),
+        instant(parsing_iso8601_shapes::read_usual_fields(b"20210102T030405.5+0100")),
+        instant(parsing_iso8601_shapes::read_fields_to_minute(b"2021-01-02T03:04+01:00")),
+        instant(parsing_iso8601_shapes::read_rare_fields(b"2021002T030405.49999999950+0100")),
     ]
 }
 
@@ -241,6 +242,7 @@ fn planned_by_items(alloc: Global, line: &[u8]) -> Option<(i64, u32)> {
 fn planned_alone(alloc: Global, text: &str, line: &[u8]) -> Option<(i64, u32)> {
     let items = parse_strftime_borrowed(alloc, text).ok()?;
     match Plan::of_items(&items)? {
+        Plan::Places(places) if places.is_plain() => instant(places.read_plain(line, None)),
         Plan::Places(places) => instant(places.read(line, None)),
         Plan::Unix(unix) => instant(unix.read_within(line)),
         Plan::Steps(_) => None,
@@ -266,7 +268,15 @@ fn plans(rt: HostRuntime) {
         b"02/Jan/2021:03:04:05 +0100",
     );
     assert!(rt; log == WHOLE);
+    let numbers = planned_alone(
+        rt.alloc(),
+        "%Y-%m-%d %H:%M:%S %z",
+        b"2021-01-02 03:04:05 +0100",
+    );
+    assert!(rt; numbers == WHOLE);
     assert!(rt; planned_alone(rt.alloc(), "%s", b"1609553045") == WHOLE);
+    let behind = UtcOffset::from_hms(-1, -30, 0).expect(&rt, "an offset");
+    assert!(rt; assumed_minutes(behind) == -90);
 }
 
 // The steps of a strftime description.
@@ -406,4 +416,17 @@ fn long_names(rt: HostRuntime) {
     assert!(rt; seconds(b"01 November 2021 12:00:00 AM") == Some((1_635_724_800, 0)));
     assert!(rt; seconds(b"01 December 2021 12:00:00 AM") == Some((1_638_316_800, 0)));
     assert!(rt; seconds(b"01 Mayday 2021 12:00:00 AM") == None);
+}
+
+fn pieces_of_rfc2822() -> [bool; 3] {
+    [
+        parsing_rfc2822::zone_of(b"EST") == Some(5),
+        parsing_rfc2822::past_spacing(b" (UTC) Tue") == b"Tue".as_slice(),
+        parsing_rfc2822::is_plain_comment(b" (UTC)"),
+    ]
+}
+
+#[test]
+fn pieces(rt: HostRuntime) {
+    assert!(rt; pieces_of_rfc2822() == [true; 3]);
 }

@@ -47,8 +47,8 @@ fn is_all_alike(input: &[u8]) -> bool {
     is_read_alike(&Rfc3339, input)
         && is_read_alike(&Rfc2822, input)
         && is_found(parsing_rfc3339::read_fast(input), &rfc3339)
-        && is_found(parsing_rfc2822::read_fast(input), &rfc2822)
-        && is_found(parsing_iso8601::read_fast(input), &iso8601)
+        && is_found(parsing_rfc2822_shapes::read_fast(input), &rfc2822)
+        && is_found(parsing_iso8601_shapes::read_fast(input), &iso8601)
 }
 
 /// Tells how many they are.

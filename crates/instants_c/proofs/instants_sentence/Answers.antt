@@ -2,8 +2,8 @@ use Rattle.std.proofs.Common.{◌≡◌, ◌⊎◌, ◌*◌, ◌≤◌, ℕ, Lis
 use Rattle.instants_stream.specs.Lines.{lines}
 use Rattle.instants_stream.specs.declared.run.RunFault.TheVariants as run
 use Rattle.instants_timeline.specs.Program.{IsBeforeRun, IsRefusedAs}
-use Rattle.instants_timeline.specs.declared.program_fault.ProgramFault.{ProgramFault}
-use Rattle.instants_timeline.specs.declared.program_fault.ProgramFault.TheVariants as program
+use Rattle.instants_faults.specs.declared.program_fault.ProgramFault.{ProgramFault}
+use Rattle.instants_faults.specs.declared.program_fault.ProgramFault.TheVariants as program
 use Rattle.instants_memory.proofs.Room.{few_lines}
 use Rattle.instants_c.proofs.instants_sentence.Goals as goal
 

@@ -20,7 +20,7 @@ use crate::found::{Finding, Found};
 use crate::keys::{KeyedLine, REACH};
 use crate::lanes::LANES;
 use crate::marks::Marks;
-use crate::starts::marked_at;
+use crate::starts::{Place, marked_at};
 use instants_edges::is_edge;
 use instants_prefixes::{DateSource, Given};
 use instants_sources::Source;
@@ -38,7 +38,7 @@ impl<'a> Finder<'a> {
             (λ finder. sources_of finder ≡ map grammar_of sources.entry.items) }
         ensures limit { IfOk result (λ finder. limit_of finder ≡ limit) }
     {
-        let starts = marked_at(&sources, 0);
+        let starts = marked_at(&sources, Place::First);
         let marks = Marks::of(&sources, &starts);
         Ok(Finder {
             sources: date_sources(alloc, sources)?,
@@ -73,7 +73,7 @@ impl<'a> Finder<'a> {
         self.starts[usize::from(line[place])] && is_edge(line, place)
     }
 
-    // The same, where what stands there is looked at too.
+    // Whether a date can begin at a place, by the bytes that stand there too.
     #[inline(always)]
     fn has_start(&self, line: &[u8], start: usize) -> bool
         requires { start < length line.now }
@@ -104,7 +104,7 @@ impl<'a> Finder<'a> {
         None
     }
 
-    // The same up to another place, where the places have bits, of which only those are 0 at whose places no date begins.
+    // The first place from one up to another at which a date can begin. Each place has a bit, which is 0 only where none does.
     #[inline(always)]
     fn by_marks(&self, line: &[u8], from: usize, to: usize, marks: u64) -> Option<usize>
         requires ordered { from ≤ to }
@@ -133,7 +133,7 @@ impl<'a> Finder<'a> {
         None
     }
 
-    // The same of sixteen places from one on, of which the first ones do not count.
+    // The first of sixteen places at which a date can begin, not counting those before another place.
     #[inline(always)]
     fn in_block(
         &self,
@@ -179,8 +179,8 @@ impl<'a> Finder<'a> {
         None
     }
 
-    // The same where less than sixteen places are left that have room for keys: the last sixteen of these are looked at, and the
-    // place after them.
+    // The first place from one on at which a date can begin, where less than sixteen places are left that have room for keys:
+    // the last sixteen of these are looked at, and the place after them.
     #[inline(always)]
     fn by_rest(
         &self,

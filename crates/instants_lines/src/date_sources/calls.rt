@@ -9,7 +9,7 @@ ghost use Rattle.instants_prefixes.specs.DateSource.{grammar_in};
 ghost use Rattle.instants_prefixes.specs.declared.given.Given.{Given};
 ghost use Rattle.instants_sources.specs.Named.{named};
 ghost use Rattle.instants_timeline.specs.Place.{place_text, shown_or_refused};
-ghost use Rattle.instants_timeline.specs.Refusal.{year};
+ghost use Rattle.instants_faults.specs.Refusal.{year};
 ghost use Rattle.instants_timeline.specs.Settings.{setting_of};
 ghost use Rattle.instants_lines.specs.Dates.{date_in};
 ghost use Rattle.instants_lines.specs.Lacking.{first_lacking};

@@ -14,12 +14,12 @@ ghost use Rattle.instants_timeline.specs.FirstNamed.{HoldsAnswer, IsFirstFault, 
 ghost use Rattle.instants_timeline.specs.Place.{answer_to, first_named, place_text, shown_or_refused};
 ghost use Rattle.instants_timeline.specs.Settings.{setting_of};
 
-use crate::line_fault::{LineFault, fill_no_year};
-use crate::shown::shown_at;
+use crate::shown::answer_moment;
 use crate::timeline::Timeline;
 use crate::timeline::search::none_kept;
 use datetime_types::OffsetDateTime;
-use instants_answers::{Answer, fill_fields, write_line};
+use instants_answers::{Answer, fill_fields};
+use instants_faults::{LineFault, fill_no_year};
 use instants_sources::{Named, Source, directly_named};
 use parsing_combinator::Parse;
 use parsing_fields::Fields;
@@ -35,12 +35,7 @@ impl Timeline<'_> {
             (Ok named))) result room.new }
         ensures size { length room.new ≡ length room.old }
     {
-        let mut answer = Answer::new();
-        match shown_at(self.target, named) {
-            Some(moment) => write_line(moment, &mut answer),
-            None => LineFault::Year.put(&mut answer),
-        }
-        answer.fill_line(room)
+        answer_moment(self.target, named).fill_line(room)
     }
 
     // Writes a moment whose day was counted, as few are of those that fields name.
@@ -93,9 +88,15 @@ impl Timeline<'_> {
     {
         directly_named();
         match source {
-            Source::Rfc2822 => self.fill_found(parsing_rfc2822::read_usual_fields(line), room),
+            Source::Rfc2822 => self.fill_found(
+                parsing_rfc2822_shapes::read_usual_fields(line),
+                room,
+            ),
             Source::Rfc3339 => self.fill_found(parsing_rfc3339::read_usual_fields(line), room),
-            Source::Iso8601 => self.fill_found(parsing_iso8601::read_usual_fields(line), room),
+            Source::Iso8601 => self.fill_found(
+                parsing_iso8601_shapes::read_usual_fields(line),
+                room,
+            ),
             Source::Items(_) | Source::V3(_) => match source.plan() {
                 Some(Plan::Places(places)) => {
                     self.fill_found(places.read(line, self.assumed), room)
@@ -115,9 +116,12 @@ impl Timeline<'_> {
     {
         directly_named();
         match source {
-            Source::Rfc2822 => self.fill_found(parsing_rfc2822::read_other_fields(line), room),
+            Source::Rfc2822 => self.fill_found(
+                parsing_rfc2822_shapes::read_other_fields(line),
+                room,
+            ),
             Source::Rfc3339 => self.fill_found(parsing_rfc3339::read_rare_fields(line), room),
-            Source::Iso8601 => self.fill_found(parsing_iso8601::read_fields(line), room),
+            Source::Iso8601 => self.fill_found(parsing_iso8601_shapes::read_fields(line), room),
             Source::Items(_) | Source::V3(_) => {
                 self.fill_found(source.read_planned(line, self.assumed), room)
             }
@@ -309,7 +313,7 @@ impl Timeline<'_> {
         ensures size { length room.new ≡ length room.old }
     {
         directly_named();
-        match self.fill_found(parsing_rfc2822::read_other_fields(line), room) {
+        match self.fill_found(parsing_rfc2822_shapes::read_other_fields(line), room) {
             Some(len) => len,
             None => self.fill_rest(line, room),
         }
@@ -325,7 +329,7 @@ impl Timeline<'_> {
         ensures size { length room.new ≡ length room.old }
     {
         directly_named();
-        match self.fill_found(parsing_iso8601::read_fields_to_minute(line), room) {
+        match self.fill_found(parsing_iso8601_shapes::read_fields_to_minute(line), room) {
             Some(len) => len,
             None => self.fill_rare_iso8601(line, room),
         }
@@ -341,7 +345,7 @@ impl Timeline<'_> {
         ensures size { length room.new ≡ length room.old }
     {
         directly_named();
-        match self.fill_found(parsing_iso8601::read_rare_fields(line), room) {
+        match self.fill_found(parsing_iso8601_shapes::read_rare_fields(line), room) {
             Some(len) => len,
             None => self.fill_rest(line, room),
         }

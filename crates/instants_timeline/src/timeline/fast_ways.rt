@@ -68,7 +68,7 @@ impl AnswerWay for Rfc2822Way {
     #[inline(always)]
     fn fill_answer(&self, timeline: &Timeline, line: &[u8], room: &mut [u8]) -> usize {
         directly_named();
-        match timeline.fill_found(parsing_rfc2822::read_usual_fields(line), room) {
+        match timeline.fill_found(parsing_rfc2822_shapes::read_usual_fields(line), room) {
             Some(len) => len,
             None => timeline.fill_rest_rfc2822(line, room),
         }
@@ -88,7 +88,7 @@ impl AnswerWay for Iso8601Way {
     #[inline(always)]
     fn fill_answer(&self, timeline: &Timeline, line: &[u8], room: &mut [u8]) -> usize {
         directly_named();
-        match timeline.fill_found(parsing_iso8601::read_usual_fields(line), room) {
+        match timeline.fill_found(parsing_iso8601_shapes::read_usual_fields(line), room) {
             Some(len) => len,
             None => timeline.fill_rest_iso8601(line, room),
         }

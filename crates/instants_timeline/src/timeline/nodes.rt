@@ -2,13 +2,13 @@
 ghost use Rattle.std.specs.Prelude.{◌≡◌, ◌≢◌, ◌≤◌, IfOk, IfErr};
 ghost use Rattle.instants_answers.specs.Text.{FitsLine};
 ghost use Rattle.instants_timeline.specs.Place.{IsPlace, place_of};
-ghost use Rattle.instants_timeline.specs.Refusal.{IsShort, long, refusal_said};
+ghost use Rattle.instants_faults.specs.Refusal.{IsShort, long, refusal_said};
 ghost use Rattle.instants_timeline.specs.Settings.{setting_of};
 ghost use Rattle.instants_timeline.specs.Tried.{nodes_in_all, tried_on};
 
-use crate::line_fault::LineFault;
 use crate::timeline::Timeline;
 use datetime_types::OffsetDateTime;
+use instants_faults::LineFault;
 
 impl Timeline<'_> {
     /// The line's place, as `place` answers it, and how many items are tried for it: those whose reading begins, by each

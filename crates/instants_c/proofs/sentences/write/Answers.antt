@@ -1,5 +1,5 @@
 use Rattle.std.proofs.Common.{inl, sym}
-use Rattle.instants_timeline.specs.declared.program_fault.ProgramFault.TheVariants as program
+use Rattle.instants_faults.specs.declared.program_fault.ProgramFault.TheVariants as program
 use Rattle.instants_c.proofs.sentences.write.Goals as goal
 
 pub returns-in-Words-clause-told : goal.returns-in-Words-clause-told

@@ -1,5 +1,5 @@
 use Rattle.std.proofs.Common.{◌∙◌, Some, Err, ap}
-use Rattle.instants_timeline.specs.declared.program_fault.ProgramFault.TheVariants as program
+use Rattle.instants_faults.specs.declared.program_fault.ProgramFault.TheVariants as program
 use Rattle.instants_c.proofs.Words.{told, same_fault, no_fault, accepted}
 use Rattle.instants_c.proofs.texts.words_in.Goals as goal
 

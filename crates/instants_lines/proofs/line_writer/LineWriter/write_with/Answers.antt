@@ -1,7 +1,7 @@
 use Rattle.std.proofs.Common.{◌≡◌, ℕ, ◌-◌, List, ◌++◌, length, take, drop, sym, ap, ◌∙◌}
 use Rattle.std.proofs.lemmas.List.{take_rest}
 use Rattle.instants_answers.specs.Text.{moment_text}
-use Rattle.instants_timeline.specs.Refusal.{year}
+use Rattle.instants_faults.specs.Refusal.{year}
 use Rattle.instants_lines.specs.Showing.{search_in}
 use Rattle.instants_lines.specs.Dates.{place_of_date, replaced}
 use Rattle.instants_lines.proofs.Outside.{unwritten, written}

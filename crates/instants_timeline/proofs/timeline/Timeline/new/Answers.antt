@@ -5,7 +5,7 @@ use Rattle.std.proofs.lemmas.List.Sums.{sum_by_push}
 use Rattle.instants_sources.specs.Grammar.{grammar_of}
 use Rattle.instants_sources.specs.Tried.{nodes_in}
 use Rattle.instants_words.specs.Sources.{said_by}
-use Rattle.instants_timeline.specs.Refusals.{refused_at}
+use Rattle.instants_faults.specs.Refusals.{refused_at}
 use Rattle.instants_timeline.specs.Sources.{IsRefusal}
 use Rattle.instants_timeline.proofs.Means.{mean_index, refused_index}
 use Rattle.instants_timeline.proofs.timeline.Timeline.new.Goals as goal

@@ -1,0 +1,4 @@
+pub mod Refusal
+pub mod Refusals
+pub mod ProgramText
+pub mod Runs

@@ -1,0 +1,10 @@
+pub mod ClockLemmas
+pub mod DayLemmas
+pub mod EndLemmas
+pub mod FastDates
+pub mod FastMoments
+pub mod FastOffsets
+pub mod FastTimes
+pub mod FormLemmas
+pub mod PlaceLemmas
+pub mod ReadLemmas

@@ -1,0 +1,311 @@
+//! The forms of usual texts.
+ghost use Rattle.std.specs.Prelude.{◌≡◌, ◌<◌, ◌≤◌, length};
+ghost use Rattle.parsing_places.specs.End.{width_of};
+ghost use Rattle.parsing_iso8601_shapes.specs.Forms as Forms;
+
+use crate::form::{Dating, Form};
+use parsing_places::{LANES, Moves, Number, Shape, Window};
+
+// Where the parts of a text stand, with two windows of sixteen bytes: the first ones, and those from `back_at` on.
+struct Row {
+    // The lowest byte at each place of the first window.
+    low: [u8; LANES],
+    // How far a byte may lie above it.
+    above: [u8; LANES],
+    // The places that lanes take: two for each number, of the date, then hour and minute, and last the second.
+    lanes: [u8; LANES],
+    // The same of the second window.
+    back_low: [u8; LANES],
+    back_above: [u8; LANES],
+    back_lanes: [u8; LANES],
+    back_at: usize,
+    // How many bytes there are up to a fraction or an offset.
+    length: usize,
+    // Where the `T` stands.
+    clock: usize,
+    dating: Dating,
+    is_extended: bool,
+}
+
+/// For each way to name a day a basic form and an extended one.
+pub(crate) const FORMS: usize = 6;
+
+const ROWS: usize = 12;
+
+// The forms with a second, then the same without one.
+static TABLE: [Row; ROWS] = [
+    // `19850412T232050`
+    Row {
+        low: *b"00000000T000000\0",
+        above: *b"\x09\x09\x09\x09\x01\x09\x03\x09\x00\x02\x09\x05\x09\x05\x09\xff",
+        lanes: *b"\x04\x05\x06\x07\x09\x0a\x0b\x0c\x80\x80\x80\x80\x80\x80\x0d\x0e",
+        back_low: *b"\0\0\0\0\0\0\0\0\0\0\0\0\0\0\0\0",
+        back_above: *b"\xff\xff\xff\xff\xff\xff\xff\xff\xff\xff\xff\xff\xff\xff\xff\xff",
+        back_lanes: *b"\x80\x80\x80\x80\x80\x80\x80\x80\x80\x80\x80\x80\x80\x80\x80\x80",
+        back_at: 0,
+        length: 15,
+        clock: 8,
+        dating: Dating::Calendar,
+        is_extended: false,
+    },
+    // `1985-04-12T23:20:50`
+    Row {
+        low: *b"0000-00-00T00:00",
+        above: *b"\x09\x09\x09\x09\x00\x01\x09\x00\x03\x09\x00\x02\x09\x00\x05\x09",
+        lanes: *b"\x05\x06\x08\x09\x0b\x0c\x0e\x0f\x80\x80\x80\x80\x80\x80\x80\x80",
+        back_low: *b"0-00-00T00:00:00",
+        back_above: *b"\x09\x00\x01\x09\x00\x03\x09\x00\x02\x09\x00\x05\x09\x00\x05\x09",
+        back_lanes: *b"\x80\x80\x80\x80\x80\x80\x80\x80\x80\x80\x80\x80\x80\x80\x0e\x0f",
+        back_at: 3,
+        length: 19,
+        clock: 10,
+        dating: Dating::Calendar,
+        is_extended: true,
+    },
+    // `1985102T232050`
+    Row {
+        low: *b"0000000T000000\0\0",
+        above: *b"\x09\x09\x09\x09\x03\x09\x09\x00\x02\x09\x05\x09\x05\x09\xff\xff",
+        lanes: *b"\x04\x05\x80\x06\x08\x09\x0a\x0b\x80\x80\x80\x80\x80\x80\x0c\x0d",
+        back_low: *b"\0\0\0\0\0\0\0\0\0\0\0\0\0\0\0\0",
+        back_above: *b"\xff\xff\xff\xff\xff\xff\xff\xff\xff\xff\xff\xff\xff\xff\xff\xff",
+        back_lanes: *b"\x80\x80\x80\x80\x80\x80\x80\x80\x80\x80\x80\x80\x80\x80\x80\x80",
+        back_at: 0,
+        length: 14,
+        clock: 7,
+        dating: Dating::Ordinal,
+        is_extended: false,
+    },
+    // `1985-102T23:20:50`
+    Row {
+        low: *b"0000-000T00:00:0",
+        above: *b"\x09\x09\x09\x09\x00\x03\x09\x09\x00\x02\x09\x00\x05\x09\x00\x05",
+        lanes: *b"\x05\x06\x80\x07\x09\x0a\x0c\x0d\x80\x80\x80\x80\x80\x80\x0f\x80",
+        back_low: *b"000-000T00:00:00",
+        back_above: *b"\x09\x09\x09\x00\x03\x09\x09\x00\x02\x09\x00\x05\x09\x00\x05\x09",
+        back_lanes: *b"\x80\x80\x80\x80\x80\x80\x80\x80\x80\x80\x80\x80\x80\x80\x80\x0f",
+        back_at: 1,
+        length: 17,
+        clock: 8,
+        dating: Dating::Ordinal,
+        is_extended: true,
+    },
+    // `1985W155T232050`
+    Row {
+        low: *b"0000W000T000000\0",
+        above: *b"\x09\x09\x09\x09\x00\x05\x09\x07\x00\x02\x09\x05\x09\x05\x09\xff",
+        lanes: *b"\x05\x06\x80\x07\x09\x0a\x0b\x0c\x80\x80\x80\x80\x80\x80\x0d\x0e",
+        back_low: *b"\0\0\0\0\0\0\0\0\0\0\0\0\0\0\0\0",
+        back_above: *b"\xff\xff\xff\xff\xff\xff\xff\xff\xff\xff\xff\xff\xff\xff\xff\xff",
+        back_lanes: *b"\x80\x80\x80\x80\x80\x80\x80\x80\x80\x80\x80\x80\x80\x80\x80\x80",
+        back_at: 0,
+        length: 15,
+        clock: 8,
+        dating: Dating::Week,
+        is_extended: false,
+    },
+    // `1985-W15-5T23:20:50`
+    Row {
+        low: *b"0000-W00-0T00:00",
+        above: *b"\x09\x09\x09\x09\x00\x00\x05\x09\x00\x07\x00\x02\x09\x00\x05\x09",
+        lanes: *b"\x06\x07\x80\x09\x0b\x0c\x0e\x0f\x80\x80\x80\x80\x80\x80\x80\x80",
+        back_low: *b"0-W00-0T00:00:00",
+        back_above: *b"\x09\x00\x00\x05\x09\x00\x07\x00\x02\x09\x00\x05\x09\x00\x05\x09",
+        back_lanes: *b"\x80\x80\x80\x80\x80\x80\x80\x80\x80\x80\x80\x80\x80\x80\x0e\x0f",
+        back_at: 3,
+        length: 19,
+        clock: 10,
+        dating: Dating::Week,
+        is_extended: true,
+    },
+    // `19850412T2320`
+    Row {
+        low: *b"00000000T0000\0\0\0",
+        above: *b"\x09\x09\x09\x09\x01\x09\x03\x09\x00\x02\x09\x05\x09\xff\xff\xff",
+        lanes: *b"\x04\x05\x06\x07\x09\x0a\x0b\x0c\x80\x80\x80\x80\x80\x80\x80\x80",
+        back_low: *b"\0\0\0\0\0\0\0\0\0\0\0\0\0\0\0\0",
+        back_above: *b"\xff\xff\xff\xff\xff\xff\xff\xff\xff\xff\xff\xff\xff\xff\xff\xff",
+        back_lanes: *b"\x80\x80\x80\x80\x80\x80\x80\x80\x80\x80\x80\x80\x80\x80\x80\x80",
+        back_at: 0,
+        length: 13,
+        clock: 8,
+        dating: Dating::Calendar,
+        is_extended: false,
+    },
+    // `1985-04-12T23:20`
+    Row {
+        low: *b"0000-00-00T00:00",
+        above: *b"\x09\x09\x09\x09\x00\x01\x09\x00\x03\x09\x00\x02\x09\x00\x05\x09",
+        lanes: *b"\x05\x06\x08\x09\x0b\x0c\x0e\x0f\x80\x80\x80\x80\x80\x80\x80\x80",
+        back_low: *b"\0\0\0\0\0\0\0\0\0\0\0\0\0\0\0\0",
+        back_above: *b"\xff\xff\xff\xff\xff\xff\xff\xff\xff\xff\xff\xff\xff\xff\xff\xff",
+        back_lanes: *b"\x80\x80\x80\x80\x80\x80\x80\x80\x80\x80\x80\x80\x80\x80\x80\x80",
+        back_at: 0,
+        length: 16,
+        clock: 10,
+        dating: Dating::Calendar,
+        is_extended: true,
+    },
+    // `1985102T2320`
+    Row {
+        low: *b"0000000T0000\0\0\0\0",
+        above: *b"\x09\x09\x09\x09\x03\x09\x09\x00\x02\x09\x05\x09\xff\xff\xff\xff",
+        lanes: *b"\x04\x05\x80\x06\x08\x09\x0a\x0b\x80\x80\x80\x80\x80\x80\x80\x80",
+        back_low: *b"\0\0\0\0\0\0\0\0\0\0\0\0\0\0\0\0",
+        back_above: *b"\xff\xff\xff\xff\xff\xff\xff\xff\xff\xff\xff\xff\xff\xff\xff\xff",
+        back_lanes: *b"\x80\x80\x80\x80\x80\x80\x80\x80\x80\x80\x80\x80\x80\x80\x80\x80",
+        back_at: 0,
+        length: 12,
+        clock: 7,
+        dating: Dating::Ordinal,
+        is_extended: false,
+    },
+    // `1985-102T23:20`
+    Row {
+        low: *b"0000-000T00:00\0\0",
+        above: *b"\x09\x09\x09\x09\x00\x03\x09\x09\x00\x02\x09\x00\x05\x09\xff\xff",
+        lanes: *b"\x05\x06\x80\x07\x09\x0a\x0c\x0d\x80\x80\x80\x80\x80\x80\x80\x80",
+        back_low: *b"\0\0\0\0\0\0\0\0\0\0\0\0\0\0\0\0",
+        back_above: *b"\xff\xff\xff\xff\xff\xff\xff\xff\xff\xff\xff\xff\xff\xff\xff\xff",
+        back_lanes: *b"\x80\x80\x80\x80\x80\x80\x80\x80\x80\x80\x80\x80\x80\x80\x80\x80",
+        back_at: 0,
+        length: 14,
+        clock: 8,
+        dating: Dating::Ordinal,
+        is_extended: true,
+    },
+    // `1985W155T2320`
+    Row {
+        low: *b"0000W000T0000\0\0\0",
+        above: *b"\x09\x09\x09\x09\x00\x05\x09\x07\x00\x02\x09\x05\x09\xff\xff\xff",
+        lanes: *b"\x05\x06\x80\x07\x09\x0a\x0b\x0c\x80\x80\x80\x80\x80\x80\x80\x80",
+        back_low: *b"\0\0\0\0\0\0\0\0\0\0\0\0\0\0\0\0",
+        back_above: *b"\xff\xff\xff\xff\xff\xff\xff\xff\xff\xff\xff\xff\xff\xff\xff\xff",
+        back_lanes: *b"\x80\x80\x80\x80\x80\x80\x80\x80\x80\x80\x80\x80\x80\x80\x80\x80",
+        back_at: 0,
+        length: 13,
+        clock: 8,
+        dating: Dating::Week,
+        is_extended: false,
+    },
+    // `1985-W15-5T23:20`
+    Row {
+        low: *b"0000-W00-0T00:00",
+        above: *b"\x09\x09\x09\x09\x00\x00\x05\x09\x00\x07\x00\x02\x09\x00\x05\x09",
+        lanes: *b"\x06\x07\x80\x09\x0b\x0c\x0e\x0f\x80\x80\x80\x80\x80\x80\x80\x80",
+        back_low: *b"\0\0\0\0\0\0\0\0\0\0\0\0\0\0\0\0",
+        back_above: *b"\xff\xff\xff\xff\xff\xff\xff\xff\xff\xff\xff\xff\xff\xff\xff\xff",
+        back_lanes: *b"\x80\x80\x80\x80\x80\x80\x80\x80\x80\x80\x80\x80\x80\x80\x80\x80",
+        back_at: 0,
+        length: 16,
+        clock: 10,
+        dating: Dating::Week,
+        is_extended: true,
+    },
+];
+
+// Whether a date names a day of a month, in two digits.
+#[inline(always)]
+fn is_calendar(dating: Dating) -> bool
+    ensures { result ≡ Forms.is_calendar dating }
+{
+    matches!(dating, Dating::Calendar)
+}
+
+// How many bytes a hyphen or a colon takes, if there are such marks.
+#[inline(always)]
+fn mark_length(is_extended: bool) -> usize
+    ensures { result ≡ width_of is_extended }
+{
+    if is_extended { 1 } else { 0 }
+}
+
+// Where the last digit of the first number stands after a year.
+#[inline(always)]
+fn first_number_at(dating: Dating, mark: usize) -> usize
+    requires { mark ≤ 1 }
+    ensures { result ≡ Forms.first_number_at dating mark }
+{
+    match dating {
+        Dating::Calendar | Dating::Ordinal => 5 + mark,
+        Dating::Week => 6 + mark,
+    }
+}
+
+// Which row of the table has a form, with a second or without.
+#[inline(always)]
+fn row_of(form: usize, has_second: bool) -> usize
+    requires { form < FORMS }
+    ensures row { result ≡ Forms.row_of form has_second }
+    ensures bound { result < ROWS }
+{
+    if has_second { form } else { FORMS + form }
+}
+
+/// One of the forms, with a second or without.
+#[inline(always)]
+pub(crate) fn form_at(form: usize, has_second: bool) -> Form
+    requires { form < FORMS }
+{
+    let row = row_of(form, has_second);
+    let clock = TABLE[row].clock;
+    let mark = mark_length(TABLE[row].is_extended);
+    Form {
+        shape: Shape {
+            prefix: Window {
+                low: TABLE[row].low,
+                high: TABLE[row].above,
+                taken: Moves {
+                    lanes: TABLE[row].lanes,
+                },
+            },
+            back: Window {
+                low: TABLE[row].back_low,
+                high: TABLE[row].back_above,
+                taken: Moves {
+                    lanes: TABLE[row].back_lanes,
+                },
+            },
+            length: TABLE[row].length,
+            back_at: TABLE[row].back_at,
+            year: 0,
+            high: Number {
+                has_tens: true,
+                place: first_number_at(TABLE[row].dating, mark),
+            },
+            low: Number {
+                has_tens: is_calendar(TABLE[row].dating),
+                place: clock - 1,
+            },
+            hour: clock + 1,
+            minute: clock + 3 + mark,
+            has_second,
+            second: clock + 5 + 2 * mark,
+            has_colon: TABLE[row].is_extended,
+        },
+        dating: TABLE[row].dating,
+    }
+}
+
+// The form of a text, by a number that two bits of each of the four bytes after its year make.
+static FORM_BY_MARKS: [u8; 16] = [4, 3, 0, 0, 0, 0, 0, 0, 0, 0, 2, 0, 0, 1, 0, 5];
+
+// The number that tells the form: two bits of a byte say whether it is a hyphen, a letter or a digit, and a product adds those of
+// all four, each with its own weight, in the highest four bits.
+#[inline(always)]
+fn marks_of(text: &[u8]) -> usize
+    requires { LANES ≤ length text.now }
+    ensures { result < 16 }
+{
+    let kinds = u32::from_le_bytes([text[4], text[5], text[6], text[7]]) & 0x3030_3030;
+    (kinds.wrapping_mul(0x0101_0004) >> 28) as usize
+}
+
+/// Which form a text has, if one: the four bytes after its year tell.
+#[inline(always)]
+pub(crate) fn form_of(text: &[u8]) -> usize
+    requires { LANES ≤ length text.now }
+    ensures { result < FORMS }
+{
+    usize::from(FORM_BY_MARKS[marks_of(text)])
+}

@@ -1,0 +1,3 @@
+pub mod LetterLemmas
+pub mod PlaceLemmas
+pub mod ShapeLemmas
