@@ -106,7 +106,6 @@ fn one_signed(seconds: i64, nanoseconds: i32) -> SignedDuration
 impl SignedDuration {
     // The whole seconds, and the nanoseconds past them, which have the same sign.
     #[inline(always)]
-    #[tactic(auto, unfolding(crate::specs::DurationParts::duration_nanos))]
     pub(crate) fn parts(self) -> (i128, i64)
         ensures whole { self ≡ result.0 *ℤ pos second_nanos +ℤ result.1 }
         ensures parts { IsParts result.0 result.1 }

@@ -1,6 +1,6 @@
 //! Copies that lend nothing.
 
-ghost use Rattle.std.specs.Prelude.{◌≡◌, true, IfOk};
+ghost use Rattle.std.specs.Prelude.{◌≡◌, true, IsOkAnd, IfOk};
 ghost use Rattle.description_items.specs.Tree.{Literal, Compound, Optional, First, listed};
 ghost use Rattle.description_tree.specs.Forms.{is_owned, are_owned};
 ghost use Rattle.description_tree.specs.Inner.{inner_tree, inner_trees};
@@ -20,12 +20,12 @@ pub(crate) fn owned<'b>(alloc: Global, node: &Inner<'_>) -> Result<Inner<'b>, Al
     match node {
         Inner::BorrowedLiteral(text) => literal(alloc, text),
         Inner::OwnedLiteral(text) => literal(alloc, text),
-        Inner::BorrowedCompound(lent) => compound(alloc, lent.items),
-        Inner::OwnedCompound(items) => compound(alloc, items),
-        Inner::BorrowedOptional { format, item } => optional(alloc, *format, item),
-        Inner::OwnedOptional { format, item } => optional(alloc, *format, item),
-        Inner::BorrowedFirst(lent) => first(alloc, lent.items),
-        Inner::OwnedFirst(items) => first(alloc, items),
+        Inner::BorrowedCompound(lent) => compound(all_owned(alloc, lent.items)),
+        Inner::OwnedCompound(items) => compound(all_owned(alloc, items)),
+        Inner::BorrowedOptional { format, item } => optional(alloc, *format, owned(alloc, item)),
+        Inner::OwnedOptional { format, item } => optional(alloc, *format, owned(alloc, item)),
+        Inner::BorrowedFirst(lent) => first(all_owned(alloc, lent.items)),
+        Inner::OwnedFirst(items) => first(all_owned(alloc, items)),
         _ => unreachable!(),
     }
 }
@@ -38,32 +38,38 @@ fn literal<'b>(alloc: Global, text: &str) -> Result<Inner<'b>, AllocError>
     Ok(Inner::OwnedLiteral(String::from_str(alloc, text)?))
 }
 
-// A list of copies of the nodes.
-#[cycle(owned)]
-fn compound<'b>(alloc: Global, nodes: &[Inner<'_>]) -> Result<Inner<'b>, AllocError>
-    ensures tree { IfOk result (λ copy. inner_tree copy ≡ Compound (listed (inner_trees nodes.now))) }
-    ensures owned { IfOk result (λ copy. is_owned copy ≡ true) }
+// A list of these copies.
+fn compound<'b>(copies: Result<Vec<Inner<'b>>, AllocError>) -> Result<Inner<'b>, AllocError>
+    ensures tree { IfOk result (λ node. IsOkAnd copies.entry
+        (λ items. inner_tree node ≡ Compound (listed (inner_trees items.items)))) }
+    ensures owned { IfOk result (λ node. IsOkAnd copies.entry
+        (λ items. is_owned node ≡ are_owned items.items)) }
 {
-    Ok(Inner::OwnedCompound(all_owned(alloc, nodes)?))
+    Ok(Inner::OwnedCompound(copies?))
 }
 
-// Copies of the nodes of which the first that can be read is taken.
-#[cycle(owned)]
-fn first<'b>(alloc: Global, nodes: &[Inner<'_>]) -> Result<Inner<'b>, AllocError>
-    ensures tree { IfOk result (λ copy. inner_tree copy ≡ First (listed (inner_trees nodes.now))) }
-    ensures owned { IfOk result (λ copy. is_owned copy ≡ true) }
+// The first of these copies that can be read.
+fn first<'b>(copies: Result<Vec<Inner<'b>>, AllocError>) -> Result<Inner<'b>, AllocError>
+    ensures tree { IfOk result (λ node. IsOkAnd copies.entry
+        (λ items. inner_tree node ≡ First (listed (inner_trees items.items)))) }
+    ensures owned { IfOk result (λ node. IsOkAnd copies.entry
+        (λ items. is_owned node ≡ are_owned items.items)) }
 {
-    Ok(Inner::OwnedFirst(all_owned(alloc, nodes)?))
+    Ok(Inner::OwnedFirst(copies?))
 }
 
-// An optional node round a copy of this one.
-#[cycle(owned)]
-fn optional<'b>(alloc: Global, format: bool, node: &Inner<'_>) -> Result<Inner<'b>, AllocError>
-    ensures tree { IfOk result (λ copy. inner_tree copy ≡ Optional format (inner_tree node.now)) }
-    ensures owned { IfOk result (λ copy. is_owned copy ≡ true) }
+// An optional node round this copy.
+fn optional<'b>(
+    alloc: Global,
+    format: bool,
+    copy: Result<Inner<'b>, AllocError>,
+) -> Result<Inner<'b>, AllocError>
+    ensures tree { IfOk result (λ node. IsOkAnd copy.entry
+        (λ inside. inner_tree node ≡ Optional format (inner_tree inside))) }
+    ensures owned { IfOk result (λ node. IsOkAnd copy.entry
+        (λ inside. is_owned node ≡ is_owned inside)) }
 {
-    let copy = owned(alloc, node)?;
-    let item = Box::new(alloc, copy)?;
+    let item = Box::new(alloc, copy?)?;
     Ok(Inner::OwnedOptional { format, item })
 }
 
