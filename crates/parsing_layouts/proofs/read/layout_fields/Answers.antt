@@ -4,6 +4,18 @@ use Rattle.std.proofs.lemmas.Int.{ints}
 use Rattle.parsing_layouts.proofs.Moments.{line_read}
 use Rattle.parsing_layouts.proofs.read.layout_fields.Goals as goal
 
+pub of_numbers-requires : goal.of_numbers-requires
+of_numbers-requires c =
+    let few : unsigned_abs c.in_ok-offset.offset ≤ 1559 = c.in_ok-offset.ensures.bound in
+    let back : to_z w16 (of_z w16 c.in_ok-offset.offset) ≡ c.in_ok-offset.offset = omega (arith, ints) in
+    record {
+      day_is_there = c.in_ok-year.ensures.day;
+      four_digits = c.in_ok-year.ensures.year;
+      within_a_day = c.in_ok-minute.ensures.minute;
+      within_a_minute = c.in_ok-minute.ensures.second;
+      is_offset = rw back few;
+    }
+
 pub returns : goal.returns
 returns c = λ m is_layout.
     let prefix = c.args.prefix.now in
