@@ -2,7 +2,7 @@
 ghost use Rattle.std.specs.Prelude.{◌≡◌, ◌≤◌, ◌<◌, ◌+◌, None, IsSome};
 ghost use Rattle.std.specs.Option.{ForSome, ForNone};
 ghost use Rattle.parsing_places.specs.Windows.{SpareTwo};
-ghost use Rattle.parsing_layouts.specs.Layout.{HasPlaces, HasNoOffset, HasNoClock, IsPrefix, IsPlain, HasRoom};
+ghost use Rattle.parsing_layouts.specs.Layout.{HasDate, HasTime, HasNoOffset, HasNoClock, IsPrefix, IsPlain, HasRoom};
 ghost use Rattle.parsing_layouts.specs.Windows.{LetText, LetYear, TakesMonth, TakesDay, TakesClock, TakesOffset, SpareOffset, LetLastText, BeginsApart, SparesClock, SparesSign, TakesLastOffset};
 
 mod calls;
@@ -51,7 +51,8 @@ pub(crate) struct Prefix {
     ghost long: { 8 ≤ layout.length },
     ghost near: { 0 < windows.back_at → windows.back_at + 16 ≤ layout.length },
     ghost text: { LetText windows layout },
-    ghost places: { HasPlaces layout year month day hour minute second },
+    ghost date: { HasDate layout year month day },
+    ghost time: { HasTime layout hour minute second },
     ghost year_digits: { LetYear windows layout.length year },
     ghost month_digits: { TakesMonth windows layout month },
     ghost weekday_room: { ForSome layout.weekday (λ place. place + 4 ≤ layout.length) },

@@ -4,7 +4,7 @@ ghost use Rattle.std.specs.Option.{ForSome, ForNone};
 ghost use Rattle.description_items.specs.Tree.{listed};
 ghost use Rattle.parsing_nodes.specs.Reads.{reading_of_all};
 ghost use Rattle.parsing_places.specs.Windows.{SpareTwo};
-ghost use Rattle.parsing_layouts.specs.Layout.{HasNoOffset, HasNoClock, IsPrefix, IsPlain, HasRoom};
+ghost use Rattle.parsing_layouts.specs.Layout.{HasDate, HasTime, HasNoOffset, HasNoClock, IsPrefix, IsPlain, HasRoom};
 ghost use Rattle.parsing_layouts.specs.Windows.{LetText, LetYear, TakesMonth, TakesDay, TakesClock, TakesOffset, SpareOffset, LetLastText, BeginsApart, SparesClock, SparesSign, TakesLastOffset};
 ghost use Rattle.parsing_layouts.specs.Places.{ArePlacesOf};
 
@@ -249,6 +249,20 @@ fn has_no_clock(layout: &Layout) -> bool
     layout.second.is_none() && layout.subsecond.is_none()
 }
 
+// The places of a date, where a layout has all of them.
+fn date_of(layout: &Layout) -> Option<(usize, usize, usize)>
+    ensures { IfSome result (λ x. HasDate layout.now x.0 x.1 x.2) }
+{
+    Some((layout.year?, layout.month?, layout.day?))
+}
+
+// The places of a time of day, where a layout has all of them.
+fn time_of(layout: &Layout) -> Option<(usize, usize, usize)>
+    ensures { IfSome result (λ x. HasTime layout.now x.0 x.1 x.2) }
+{
+    Some((layout.hour?, layout.minute?, layout.second?))
+}
+
 // The layout after a fraction, where it has no place for a date and a time of day.
 fn back_of(layout: Layout) -> Option<Back>
     ensures { IfSome result (λ back. back.layout ≡ layout) }
@@ -340,8 +354,8 @@ impl Prefix {
     fn of_layout(layout: Layout) -> Option<Prefix>
         ensures { IfSome result (λ prefix. prefix.layout ≡ layout) }
     {
-        let (year, month, day) = (layout.year?, layout.month?, layout.day?);
-        let (hour, minute, second) = (layout.hour?, layout.minute?, layout.second?);
+        let (year, month, day) = date_of(&layout)?;
+        let (hour, minute, second) = time_of(&layout)?;
         let windows = windows_of(&layout)?;
         let length = layout.length;
         if length < 8 || !let_text(&windows, &layout) {

@@ -5,14 +5,8 @@ invariant_of-result c = record {
   long = c.if-length-lt8.false;
   near = c.in_ok-windows.ensures;
   text = c.let_text.ensures c.if-not-let_text.false;
-  places = record {
-    year_is = c.in_ok-year.was;
-    month_is = c.in_ok-month.was;
-    day_is = c.in_ok-day.was;
-    hour_is = c.in_ok-hour.was;
-    minute_is = c.in_ok-minute.was;
-    second_is = c.in_ok-second.was;
-  };
+  date = c.in_ok-year.ensures;
+  time = c.in_ok-hour.ensures;
   year_digits = c.is_year.ensures c.if-not-is_year.false;
   month_digits = c.is_month.ensures c.if-not-is_month.false;
   weekday_room = c.has_weekday_room.ensures c.if-not-has_weekday_room.false;
