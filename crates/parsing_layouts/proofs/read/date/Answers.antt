@@ -1,5 +1,33 @@
+use Rattle.std.proofs.Common.{◌≡◌, ◌/◌, ◌%◌, arith}
 use Rattle.parsing_layouts.proofs.Parts.{date_says}
 use Rattle.parsing_layouts.proofs.read.date.Goals as goal
+
+pub month_of-requires-clause-digits : goal.month_of-requires-clause-digits
+month_of-requires-clause-digits c = λ e.
+    let sums = c.requires.sums in
+    let month : c.args.sums.day % 64 ≡ sums.month = omega (arith, sums.days_are, sums.month_few) in
+    rw month (sums.month_is e)
+
+pub day_of-requires-clause-digits : goal.day_of-requires-clause-digits
+day_of-requires-clause-digits c = λ e.
+    let sums = c.requires.sums in
+    let day : c.args.sums.day / 64 ≡ sums.day = omega (arith, sums.days_are, sums.month_few) in
+    rw day (sums.day_is e)
+
+pub day_of-requires-clause-spaced : goal.day_of-requires-clause-spaced
+day_of-requires-clause-spaced c = c.requires.sums.spaced
+
+pub day_of-requires-clause-ones : goal.day_of-requires-clause-ones
+day_of-requires-clause-ones c = λ e.
+    let sums = c.requires.sums in
+    let day : c.args.sums.day / 64 ≡ sums.day = omega (arith, sums.days_are, sums.month_few) in
+    rw day (sums.ones_are e)
+
+pub of_digits-year-requires-clause-high : goal.of_digits-year-requires-clause-high
+of_digits-year-requires-clause-high c = c.requires.sums.century
+
+pub of_digits-year-requires-clause-low : goal.of_digits-year-requires-clause-low
+of_digits-year-requires-clause-low c = c.requires.sums.last_two
 
 pub returns-clause-says : goal.returns-clause-says
 returns-clause-says c =
