@@ -4,6 +4,21 @@ use Rattle.std.proofs.lemmas.Int.{ints}
 use Rattle.parsing_layouts.proofs.Moments.{line_read}
 use Rattle.parsing_layouts.proofs.read.layout_fields.Goals as goal
 
+pub date-requires-clause-long : goal.date-requires-clause-long
+date-requires-clause-long c = c.requires
+
+pub date-requires-clause-sums : goal.date-requires-clause-sums
+date-requires-clause-sums c = c.in_ok-sums.ensures.sums
+
+pub clock-requires : goal.clock-requires
+clock-requires c = c.in_ok-sums.ensures.sums
+
+pub offset-requires-clause-few : goal.offset-requires-clause-few
+offset-requires-clause-few c = c.in_ok-sums.ensures.few
+
+pub offset-requires-clause-sign : goal.offset-requires-clause-sign
+offset-requires-clause-sign c = c.in_ok-minute.ensures.sign
+
 pub of_numbers-requires : goal.of_numbers-requires
 of_numbers-requires c =
     let few : unsigned_abs c.in_ok-offset.offset ≤ 1559 = c.in_ok-offset.ensures.bound in

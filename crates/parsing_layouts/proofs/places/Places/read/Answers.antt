@@ -15,6 +15,18 @@ read_split-requires-clause-one_offset c = c.args.self.now.one_offset c.in-Some.b
 pub returns-in-Some : goal.returns-in-Some
 returns-in-Some c = λ m defaults plan start. c.read_split.ensures m defaults (plan.1 c.in-Some.back c.in-Some.is) start
 
+pub date-requires-clause-sums : goal.date-requires-clause-sums
+date-requires-clause-sums c = c.in_ok-sums.ensures.sums
+
+pub clock-requires : goal.clock-requires
+clock-requires c = c.in_ok-sums.ensures.sums
+
+pub offset-requires-clause-few : goal.offset-requires-clause-few
+offset-requires-clause-few c = c.in_ok-sums.ensures.few
+
+pub offset-requires-clause-sign : goal.offset-requires-clause-sign
+offset-requires-clause-sign c = c.in_ok-minute.ensures.sign
+
 pub of_numbers-requires : goal.of_numbers-requires
 of_numbers-requires c =
     let few : unsigned_abs c.in_ok-offset.offset ≤ 1559 = c.in_ok-offset.ensures.bound in

@@ -21,6 +21,18 @@ plain_offset-offset-requires-clause-there c =
     let below : c.args.self.now.plain_length < 18446744073709551615 = omega (arith, c) in
     (c.args.self.now.plain below).1
 
+pub plain_date-requires-clause-sums : goal.plain_date-requires-clause-sums
+plain_date-requires-clause-sums c = c.in_ok-sums.ensures.sums
+
+pub clock-requires : goal.clock-requires
+clock-requires c = c.in_ok-sums.ensures.sums
+
+pub plain_offset-offset-requires-clause-few : goal.plain_offset-offset-requires-clause-few
+plain_offset-offset-requires-clause-few c = c.in_ok-sums.ensures.few
+
+pub plain_offset-offset-requires-clause-sign : goal.plain_offset-offset-requires-clause-sign
+plain_offset-offset-requires-clause-sign c = c.in_ok-minute.ensures.sign
+
 pub of_numbers-requires : goal.of_numbers-requires
 of_numbers-requires c =
     let few : unsigned_abs c.plain_offset-offset.result ≤ 1559 = c.plain_offset-offset.ensures.bound in
