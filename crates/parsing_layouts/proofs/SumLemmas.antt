@@ -77,15 +77,15 @@ module _ (plan : Prefix) (line v n : List ℕ) (h : Taken plan.windows line v) (
   module _ (p0 : PairedAt v n 0) (p1 : PairedAt v n 1) (p2 : PairedAt v n 2) (p3 : PairedAt v n 3) (p7 : PairedAt v n 7) where
     spaced_there : plan.layout.day_is_spaced ≡ true → HasSpaced line plan.day
     spaced_there e =
-        let tens = byte_within plan.windows line v plan.day 32 25 h small (plan.day_tens e) (lit< tt) in
-        let ones = one_taken plan.windows line v n h 1 (plan.day + 1) (lit< tt) (plan.no_tens e) (plan.day_ones e) p1 in
+        let tens = byte_within plan.windows line v plan.day 32 25 h small (plan.day_digits.tens e) (lit< tt) in
+        let ones = one_taken plan.windows line v n h 1 (plan.day + 1) (lit< tt) (plan.day_digits.none e) (plan.day_digits.ones e) p1 in
         record { room = omega (arith, ones.room); first_low = tens.0; first_high = tens.1; second_low = ones.digit.low; second_high = ones.digit.high }
 
     pub sums_there : (s : Sums) → s.day ≡ get_or n 0 0 + 64 * get_or n 2 0 → s.minute ≡ 60 * get_or n 4 0 + get_or n 6 0 → s.second ≡ get_or n 12 0 + 64 * get_or n 14 0 → get_or n 12 0 ≤ 2 → HasSums plan line s
     sums_there s days minutes seconds few =
-        let hour = two_taken plan.windows line v n h 2 plan.hour 9 (lit< tt) (lit≤ tt) plan.hour_digits p2 in
-        let minute = two_taken plan.windows line v n h 3 plan.minute 5 (lit< tt) (lit≤ tt) plan.minute_digits p3 in
-        let second = two_taken plan.windows line v n h 7 plan.second 5 (lit< tt) (lit≤ tt) plan.second_digits p7 in
+        let hour = two_taken plan.windows line v n h 2 plan.hour 9 (lit< tt) (lit≤ tt) plan.clock_digits.hour_digits p2 in
+        let minute = two_taken plan.windows line v n h 3 plan.minute 5 (lit< tt) (lit≤ tt) plan.clock_digits.minute_digits p3 in
+        let second = two_taken plan.windows line v n h 7 plan.second 5 (lit< tt) (lit≤ tt) plan.clock_digits.second_digits p7 in
         record {
           month = get_or n 0 0;
           day = get_or n 2 0;
@@ -96,15 +96,15 @@ module _ (plan : Prefix) (line v n : List ℕ) (h : Taken plan.windows line v) (
           text = text_is;
           century = century;
           last_two = last_two;
-          month_is = λ e. (two_taken plan.windows line v n h 0 plan.month 5 (lit< tt) (lit≤ tt) (plan.month_digits e) p0).written;
-          day_is = λ e. (two_taken plan.windows line v n h 1 plan.day 9 (lit< tt) (lit≤ tt) (plan.day_digits e) p1).written;
+          month_is = λ e. (two_taken plan.windows line v n h 0 plan.month 5 (lit< tt) (lit≤ tt) (plan.month_digits.digits e) p0).written;
+          day_is = λ e. (two_taken plan.windows line v n h 1 plan.day 9 (lit< tt) (lit≤ tt) (plan.day_digits.digits e) p1).written;
           spaced = spaced_there;
-          ones_are = λ e. (one_taken plan.windows line v n h 1 (plan.day + 1) (lit< tt) (plan.no_tens e) (plan.day_ones e) p1).is;
+          ones_are = λ e. (one_taken plan.windows line v n h 1 (plan.day + 1) (lit< tt) (plan.day_digits.none e) (plan.day_digits.ones e) p1).is;
           hour_is = hour.written;
           minute_is = minute.written;
           second_is = second.written;
-          month_few = either_few plan.layout.month_is_named (get_or n 0 0) 59 (λ e. (omega (arith, nothing_taken plan.windows line v n h 0 (lit< tt) (plan.no_month e) p0))) (λ e. (two_taken plan.windows line v n h 0 plan.month 5 (lit< tt) (lit≤ tt) (plan.month_digits e) p0).few) (lit≤ tt);
-          day_few = either_few plan.layout.day_is_spaced (get_or n 2 0) 99 (λ e. let one = one_taken plan.windows line v n h 1 (plan.day + 1) (lit< tt) (plan.no_tens e) (plan.day_ones e) p1 in (omega (arith, one.is, one.digit.high))) (λ e. (two_taken plan.windows line v n h 1 plan.day 9 (lit< tt) (lit≤ tt) (plan.day_digits e) p1).few) (lit≤ tt);
+          month_few = either_few plan.layout.month_is_named (get_or n 0 0) 59 (λ e. (omega (arith, nothing_taken plan.windows line v n h 0 (lit< tt) (plan.month_digits.none e) p0))) (λ e. (two_taken plan.windows line v n h 0 plan.month 5 (lit< tt) (lit≤ tt) (plan.month_digits.digits e) p0).few) (lit≤ tt);
+          day_few = either_few plan.layout.day_is_spaced (get_or n 2 0) 99 (λ e. let one = one_taken plan.windows line v n h 1 (plan.day + 1) (lit< tt) (plan.day_digits.none e) (plan.day_digits.ones e) p1 in (omega (arith, one.is, one.digit.high))) (λ e. (two_taken plan.windows line v n h 1 plan.day 9 (lit< tt) (lit≤ tt) (plan.day_digits.digits e) p1).few) (lit≤ tt);
           minute_few = minute.few;
           second_few = second.few;
           sign_few = few;

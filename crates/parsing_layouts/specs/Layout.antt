@@ -84,6 +84,17 @@ read_or (Some place) new old = new
 abbrev pub with_values : Layout → Values → Record → Record
 with_values l v r = record r { year = read_or l.year (Some (pos v.year)) r.year; month = read_or l.month (Some v.month) r.month; weekday = read_or l.weekday (Some v.weekday) r.weekday; day = read_or l.day (Some v.day) r.day; hour_24 = read_or l.hour (Some v.hour) r.hour_24; minute = read_or l.minute (Some v.minute) r.minute; second = read_or l.second (Some v.second) r.second; subsecond = read_or l.subsecond (Some v.nanosecond) r.subsecond; offset_hour = read_or l.offset_hour (Some (under v.is_negative v.offset_hour)) r.offset_hour; offset_is_negative = read_or l.offset_hour v.is_negative r.offset_is_negative; offset_minute = read_or l.offset_minute (Some (pos v.offset_minute)) r.offset_minute }
 
+-- a layout has these places for a date, or for a time of day
+pub record HasDate (l : Layout) (year month day : ℕ) : Type 0 where
+  pub year_is : l.year ≡ Some year
+  pub month_is : l.month ≡ Some month
+  pub day_is : l.day ≡ Some day
+
+pub record HasTime (l : Layout) (hour minute second : ℕ) : Type 0 where
+  pub hour_is : l.hour ≡ Some hour
+  pub minute_is : l.minute ≡ Some minute
+  pub second_is : l.second ≡ Some second
+
 -- a layout has no place for an offset
 pub record HasNoOffset (l : Layout) : Type 0 where
   pub no_hour : l.offset_hour ≡ None

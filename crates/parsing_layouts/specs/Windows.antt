@@ -1,7 +1,7 @@
 -- What the windows of a layout let stand at its places, and what they take.
-use Rattle.std.specs.Prelude.{◌≡◌, ◌≤◌, ◌<◌, ◌+◌, ◌-◌, ◌||◌, ℕ, get_or, Some, IsTrue, nat_lt}
+use Rattle.std.specs.Prelude.{◌≡◌, ◌≤◌, ◌<◌, ◌+◌, ◌-◌, ◌||◌, ℕ, get_or, true, false, Some, IsTrue, nat_lt}
 use Rattle.parsing_places.specs.Shape.{Takes}
-use Rattle.parsing_places.specs.Windows.{LetsIn, LetsAt, TakeTwo, SpareTwo, TakeSign}
+use Rattle.parsing_places.specs.Windows.{LetsIn, LetsAt, TakeTwo, TakeOne, SpareTwo, SpareOne, TakeSign}
 use Rattle.parsing_places.specs.declared.shape.Window.{Window}
 use Rattle.parsing_places.specs.declared.windows.Windows.{Windows}
 use Rattle.parsing_layouts.specs.declared.layout.Layout.{Layout}
@@ -17,6 +17,25 @@ pub record LetYear (w : Windows) (length year : ℕ) : Type 0 where
   pub second : LetsAt w (year + 1) 48 9
   pub third : LetsAt w (year + 2) 48 9
   pub fourth : LetsAt w (year + 3) 48 9
+
+-- they take the number of a month, or there is room for its name
+pub record TakesMonth (w : Windows) (l : Layout) (place : ℕ) : Type 0 where
+  pub room : l.month_is_named ≡ true → place + 4 ≤ l.length
+  pub none : l.month_is_named ≡ true → SpareTwo w 0
+  pub digits : l.month_is_named ≡ false → TakeTwo w 0 place 5
+
+-- they take a day, or its ones, where it may have a space before
+pub record TakesDay (w : Windows) (l : Layout) (place : ℕ) : Type 0 where
+  pub digits : l.day_is_spaced ≡ false → TakeTwo w 2 place 9
+  pub none : l.day_is_spaced ≡ true → SpareOne w 2
+  pub tens : l.day_is_spaced ≡ true → LetsAt w place 32 25
+  pub ones : l.day_is_spaced ≡ true → TakeOne w 3 (place + 1)
+
+-- they take a time of day, whose minute and second are below 60
+pub record TakesClock (w : Windows) (hour minute second : ℕ) : Type 0 where
+  pub hour_digits : TakeTwo w 4 hour 9
+  pub minute_digits : TakeTwo w 6 minute 5
+  pub second_digits : TakeTwo w 14 second 5
 
 -- a layout has places for an offset, which they take
 pub record TakesOffset (w : Windows) (l : Layout) (hour minute : ℕ) : Type 0 where

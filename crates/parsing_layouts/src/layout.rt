@@ -96,71 +96,49 @@ impl Layout {
     fn with_date(self, slot: Slot, place: Option<usize>) -> Option<Layout>
         ensures { IfSome result (λ l. l ≡ with_place slot place self) }
     {
-        Some(match slot {
-            Slot::Year => Layout {
-                year: place,
-                ..self
-            },
-            Slot::Month => Layout {
-                month: place,
-                month_is_named: false,
-                ..self
-            },
-            Slot::MonthName => Layout {
-                month: place,
-                month_is_named: true,
-                ..self
-            },
-            Slot::WeekdayName => Layout {
-                weekday: place,
-                ..self
-            },
-            Slot::Day => Layout {
-                day: place,
-                day_is_spaced: false,
-                ..self
-            },
-            Slot::SpacedDay => Layout {
-                day: place,
-                day_is_spaced: true,
-                ..self
-            },
+        let mut layout = self;
+        match slot {
+            Slot::Year => layout.year = place,
+            Slot::Month => {
+                layout.month = place;
+                layout.month_is_named = false;
+            }
+            Slot::MonthName => {
+                layout.month = place;
+                layout.month_is_named = true;
+            }
+            Slot::WeekdayName => layout.weekday = place,
+            Slot::Day => {
+                layout.day = place;
+                layout.day_is_spaced = false;
+            }
+            Slot::SpacedDay => {
+                layout.day = place;
+                layout.day_is_spaced = true;
+            }
             _ => return None,
-        })
+        }
+        Some(layout)
     }
 
     // The same of a time of day and an offset.
     fn with_clock(self, slot: Slot, place: Option<usize>) -> Option<Layout>
         ensures { IfSome result (λ l. l ≡ with_place slot place self) }
     {
-        Some(match slot {
-            Slot::Hour => Layout {
-                hour: place,
-                ..self
-            },
-            Slot::Minute => Layout {
-                minute: place,
-                ..self
-            },
-            Slot::Second => Layout {
-                second: place,
-                ..self
-            },
-            Slot::Subsecond(count) => Layout {
-                subsecond: place,
-                subsecond_digits: count,
-                ..self
-            },
-            Slot::OffsetHour => Layout {
-                offset_hour: place,
-                ..self
-            },
-            Slot::OffsetMinute => Layout {
-                offset_minute: place,
-                ..self
-            },
+        let mut layout = self;
+        match slot {
+            Slot::Hour => layout.hour = place,
+            Slot::Minute => layout.minute = place,
+            Slot::Second => layout.second = place,
+            Slot::Subsecond(count) => {
+                layout.subsecond = place;
+                layout.subsecond_digits = count;
+            }
+            Slot::OffsetHour => layout.offset_hour = place,
+            Slot::OffsetMinute => layout.offset_minute = place,
             _ => return None,
-        })
+        }
+        Some(layout)
     }
 
     /// The layout with a slot after it: `None` where it has that slot, or is too long.

@@ -1,9 +1,9 @@
 //! Where the parts of a line stand.
-ghost use Rattle.std.specs.Prelude.{◌≡◌, ◌≤◌, ◌<◌, ◌+◌, true, false, None, Some, IsSome};
+ghost use Rattle.std.specs.Prelude.{◌≡◌, ◌≤◌, ◌<◌, ◌+◌, None, IsSome};
 ghost use Rattle.std.specs.Option.{ForSome, ForNone};
-ghost use Rattle.parsing_places.specs.Windows.{LetsAt, TakeTwo, TakeOne, SpareTwo, SpareOne};
-ghost use Rattle.parsing_layouts.specs.Layout.{HasNoOffset, HasNoClock, IsPrefix, IsPlain, HasRoom};
-ghost use Rattle.parsing_layouts.specs.Windows.{LetText, LetYear, TakesOffset, SpareOffset, LetLastText, BeginsApart, SparesClock, SparesSign, TakesLastOffset};
+ghost use Rattle.parsing_places.specs.Windows.{SpareTwo};
+ghost use Rattle.parsing_layouts.specs.Layout.{HasDate, HasTime, HasNoOffset, HasNoClock, IsPrefix, IsPlain, HasRoom};
+ghost use Rattle.parsing_layouts.specs.Windows.{LetText, LetYear, TakesMonth, TakesDay, TakesClock, TakesOffset, SpareOffset, LetLastText, BeginsApart, SparesClock, SparesSign, TakesLastOffset};
 
 mod calls;
 
@@ -51,24 +51,13 @@ pub(crate) struct Prefix {
     ghost long: { 8 ≤ layout.length },
     ghost near: { 0 < windows.back_at → windows.back_at + 16 ≤ layout.length },
     ghost text: { LetText windows layout },
-    ghost year_is: { layout.year ≡ Some year },
-    ghost month_is: { layout.month ≡ Some month },
-    ghost day_is: { layout.day ≡ Some day },
-    ghost hour_is: { layout.hour ≡ Some hour },
-    ghost minute_is: { layout.minute ≡ Some minute },
-    ghost second_is: { layout.second ≡ Some second },
+    ghost date: { HasDate layout year month day },
+    ghost time: { HasTime layout hour minute second },
     ghost year_digits: { LetYear windows layout.length year },
-    ghost month_room: { layout.month_is_named ≡ true → month + 4 ≤ layout.length },
-    ghost no_month: { layout.month_is_named ≡ true → SpareTwo windows 0 },
-    ghost month_digits: { layout.month_is_named ≡ false → TakeTwo windows 0 month 5 },
+    ghost month_digits: { TakesMonth windows layout month },
     ghost weekday_room: { ForSome layout.weekday (λ place. place + 4 ≤ layout.length) },
-    ghost day_digits: { layout.day_is_spaced ≡ false → TakeTwo windows 2 day 9 },
-    ghost no_tens: { layout.day_is_spaced ≡ true → SpareOne windows 2 },
-    ghost day_tens: { layout.day_is_spaced ≡ true → LetsAt windows day 32 25 },
-    ghost day_ones: { layout.day_is_spaced ≡ true → TakeOne windows 3 (day + 1) },
-    ghost hour_digits: { TakeTwo windows 4 hour 9 },
-    ghost minute_digits: { TakeTwo windows 6 minute 5 },
-    ghost second_digits: { TakeTwo windows 14 second 5 },
+    ghost day_digits: { TakesDay windows layout day },
+    ghost clock_digits: { TakesClock windows hour minute second },
     ghost no_offset: { ForNone offset (HasNoOffset layout) },
     ghost no_sign: { ForNone offset (SpareTwo windows 12) },
     ghost offset_is: { ForSome offset (λ places. TakesOffset windows layout places.hour places.minute) },

@@ -18,6 +18,15 @@ fn after<'l>(name: &[u8], bytes: &'l [u8]) -> Option<&'l [u8]>
     Some(rest)
 }
 
+// The month, and what follows its name.
+#[inline(always)]
+fn month_after<'l>(name: &[u8], month: Month, bytes: &'l [u8]) -> Option<(Month, &'l [u8])>
+    ensures { IfSome result (λ x. (x.0 ≡ month) × (bytes.now ≡ name.now ++ x.1.now)) }
+{
+    let rest = after(name, bytes)?;
+    Some((month, rest))
+}
+
 // A month whose name has this first letter.
 #[inline(always)]
 fn month_in_j(bytes: &[u8]) -> Option<(Month, &[u8])>
@@ -45,8 +54,7 @@ fn month_in_m(bytes: &[u8]) -> Option<(Month, &[u8])>
     if let Some(rest) = after(b"March", bytes) {
         return Some((Month::March, rest));
     }
-    let rest = after(b"May", bytes)?;
-    Some((Month::May, rest))
+    month_after(b"May", Month::May, bytes)
 }
 
 // The same.
@@ -58,8 +66,7 @@ fn month_in_a(bytes: &[u8]) -> Option<(Month, &[u8])>
     if let Some(rest) = after(b"April", bytes) {
         return Some((Month::April, rest));
     }
-    let rest = after(b"August", bytes)?;
-    Some((Month::August, rest))
+    month_after(b"August", Month::August, bytes)
 }
 
 /// The English name of a month.
@@ -72,26 +79,11 @@ pub(crate) fn long_month(bytes: &[u8]) -> Option<(Month, &[u8])>
         [b'J', ..] => month_in_j(bytes),
         [b'M', ..] => month_in_m(bytes),
         [b'A', ..] => month_in_a(bytes),
-        [b'F', ..] => {
-            let rest = after(b"February", bytes)?;
-            Some((Month::February, rest))
-        }
-        [b'S', ..] => {
-            let rest = after(b"September", bytes)?;
-            Some((Month::September, rest))
-        }
-        [b'O', ..] => {
-            let rest = after(b"October", bytes)?;
-            Some((Month::October, rest))
-        }
-        [b'N', ..] => {
-            let rest = after(b"November", bytes)?;
-            Some((Month::November, rest))
-        }
-        [b'D', ..] => {
-            let rest = after(b"December", bytes)?;
-            Some((Month::December, rest))
-        }
+        [b'F', ..] => month_after(b"February", Month::February, bytes),
+        [b'S', ..] => month_after(b"September", Month::September, bytes),
+        [b'O', ..] => month_after(b"October", Month::October, bytes),
+        [b'N', ..] => month_after(b"November", Month::November, bytes),
+        [b'D', ..] => month_after(b"December", Month::December, bytes),
         _ => None,
     }
 }

@@ -192,7 +192,6 @@ fn minute_of_offset<'l>(bytes: &'l [u8], found: &mut Found) -> Option<&'l [u8]>
 }
 
 #[inline(always)]
-#[tactic(auto, using(crate::proofs::HalfLemmas::month_said))]
 fn month_name<'l>(bytes: &'l [u8], found: &mut Found) -> Option<&'l [u8]>
     ensures { Finds result found.old found.new
         (says (λ x. Some (read.Month x)) (taken (named true short_months)) bytes.now) }
@@ -203,7 +202,6 @@ fn month_name<'l>(bytes: &'l [u8], found: &mut Found) -> Option<&'l [u8]>
 }
 
 #[inline(always)]
-#[tactic(auto, using(crate::proofs::HalfLemmas::month_said))]
 fn long_month_name<'l>(bytes: &'l [u8], found: &mut Found) -> Option<&'l [u8]>
     ensures { Finds result found.old found.new
         (says (λ x. Some (read.Month x)) (taken (named true long_months)) bytes.now) }
@@ -235,7 +233,6 @@ fn long_weekday_name<'l>(bytes: &'l [u8], found: &mut Found) -> Option<&'l [u8]>
 
 // `AM` or `PM`: whether it is the later half of the day.
 #[inline(always)]
-#[tactic(auto, using(crate::proofs::HalfLemmas::morning, crate::proofs::HalfLemmas::afternoon))]
 fn half_at(bytes: &[u8]) -> Option<(bool, &[u8])>
     ensures { IfSome result
         (λ x. taken (named true periods) bytes.now ≡ Some (x.0, x.1.now)) }

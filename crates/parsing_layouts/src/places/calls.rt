@@ -3,9 +3,9 @@ ghost use Rattle.std.specs.Prelude.{◌≡◌, ◌+◌, ◌≤◌, ◌<◌, true
 ghost use Rattle.std.specs.Option.{ForSome, ForNone};
 ghost use Rattle.description_items.specs.Tree.{listed};
 ghost use Rattle.parsing_nodes.specs.Reads.{reading_of_all};
-ghost use Rattle.parsing_places.specs.Windows.{LetsAt, TakeTwo, TakeOne, SpareTwo, SpareOne};
-ghost use Rattle.parsing_layouts.specs.Layout.{HasNoOffset, HasNoClock, IsPrefix, IsPlain, HasRoom};
-ghost use Rattle.parsing_layouts.specs.Windows.{LetText, LetYear, TakesOffset, SpareOffset, LetLastText, BeginsApart, SparesClock, SparesSign, TakesLastOffset};
+ghost use Rattle.parsing_places.specs.Windows.{SpareTwo};
+ghost use Rattle.parsing_layouts.specs.Layout.{HasDate, HasTime, HasNoOffset, HasNoClock, IsPrefix, IsPlain, HasRoom};
+ghost use Rattle.parsing_layouts.specs.Windows.{LetText, LetYear, TakesMonth, TakesDay, TakesClock, TakesOffset, SpareOffset, LetLastText, BeginsApart, SparesClock, SparesSign, TakesLastOffset};
 ghost use Rattle.parsing_layouts.specs.Places.{ArePlacesOf};
 
 use crate::items::{is_fraction, lead};
@@ -90,11 +90,7 @@ fn last_offset_of(layout: &Layout, last: &Window) -> Option<Option<OffsetPlaces>
 
 // Whether there is room for a month's name, or the windows take its number.
 fn is_month(layout: &Layout, windows: &Windows, place: usize) -> bool
-    ensures room { result ≡ true
-        → layout.now.month_is_named ≡ true → place + 4 ≤ layout.now.length }
-    ensures none { result ≡ true → layout.now.month_is_named ≡ true → SpareTwo windows.now 0 }
-    ensures digits { result ≡ true
-        → layout.now.month_is_named ≡ false → TakeTwo windows.now 0 place 5 }
+    ensures { result ≡ true → TakesMonth windows.now layout.now place }
 {
     let length = layout.length;
     if layout.month_is_named {
@@ -116,13 +112,7 @@ fn has_weekday_room(layout: &Layout) -> bool
 
 // Whether the windows take a day, or its ones, where it may have a space before.
 fn is_day(layout: &Layout, windows: &Windows, place: usize) -> bool
-    ensures digits { result ≡ true
-        → layout.now.day_is_spaced ≡ false → TakeTwo windows.now 2 place 9 }
-    ensures none { result ≡ true → layout.now.day_is_spaced ≡ true → SpareOne windows.now 2 }
-    ensures tens { result ≡ true
-        → layout.now.day_is_spaced ≡ true → LetsAt windows.now place 32 25 }
-    ensures ones { result ≡ true
-        → layout.now.day_is_spaced ≡ true → TakeOne windows.now 3 (place + 1) }
+    ensures { result ≡ true → TakesDay windows.now layout.now place }
 {
     if place >= LENGTH {
         return false;
@@ -150,9 +140,7 @@ fn is_year(windows: &Windows, length: usize, year: usize) -> bool
 
 // Whether the windows take a time of day, whose minute and second are below 60.
 fn is_clock(windows: &Windows, hour: usize, minute: usize, second: usize) -> bool
-    ensures hour { result ≡ true → TakeTwo windows.now 4 hour 9 }
-    ensures minute { result ≡ true → TakeTwo windows.now 6 minute 5 }
-    ensures second { result ≡ true → TakeTwo windows.now 14 second 5 }
+    ensures { result ≡ true → TakesClock windows.now hour minute second }
 {
     if hour >= LENGTH || minute >= LENGTH || second >= LENGTH {
         return false;
@@ -261,6 +249,20 @@ fn has_no_clock(layout: &Layout) -> bool
     layout.second.is_none() && layout.subsecond.is_none()
 }
 
+// The places of a date, where a layout has all of them.
+fn date_of(layout: &Layout) -> Option<(usize, usize, usize)>
+    ensures { IfSome result (λ x. HasDate layout.now x.0 x.1 x.2) }
+{
+    Some((layout.year?, layout.month?, layout.day?))
+}
+
+// The places of a time of day, where a layout has all of them.
+fn time_of(layout: &Layout) -> Option<(usize, usize, usize)>
+    ensures { IfSome result (λ x. HasTime layout.now x.0 x.1 x.2) }
+{
+    Some((layout.hour?, layout.minute?, layout.second?))
+}
+
 // The layout after a fraction, where it has no place for a date and a time of day.
 fn back_of(layout: Layout) -> Option<Back>
     ensures { IfSome result (λ back. back.layout ≡ layout) }
@@ -352,8 +354,8 @@ impl Prefix {
     fn of_layout(layout: Layout) -> Option<Prefix>
         ensures { IfSome result (λ prefix. prefix.layout ≡ layout) }
     {
-        let (year, month, day) = (layout.year?, layout.month?, layout.day?);
-        let (hour, minute, second) = (layout.hour?, layout.minute?, layout.second?);
+        let (year, month, day) = date_of(&layout)?;
+        let (hour, minute, second) = time_of(&layout)?;
         let windows = windows_of(&layout)?;
         let length = layout.length;
         if length < 8 || !let_text(&windows, &layout) {

@@ -5,6 +5,27 @@ use Rattle.parsing_steps.proofs.Moments.{seen_is}
 use Rattle.parsing_steps.proofs.JoinedReads.{small, stamp_read}
 use Rattle.parsing_steps.proofs.joined.stamp.Goals as goal
 
+pub two_at-month-requires : goal.two_at-month-requires
+two_at-month-requires c = (c.has_stamp.ensures c.if-not-has_stamp.false).month
+
+pub two_at-day-requires : goal.two_at-day-requires
+two_at-day-requires c = (c.has_stamp.ensures c.if-not-has_stamp.false).day
+
+pub clock_from-hour-requires-clause-clock : goal.clock_from-hour-requires-clause-clock
+clock_from-hour-requires-clause-clock c = (c.has_stamp.ensures c.if-not-has_stamp.false).clock
+
+pub clock_from-hour-requires-clause-minute : goal.clock_from-hour-requires-clause-minute
+clock_from-hour-requires-clause-minute c = (c.has_stamp.ensures c.if-not-has_stamp.false).minute
+
+pub clock_from-hour-requires-clause-second : goal.clock_from-hour-requires-clause-second
+clock_from-hour-requires-clause-second c = (c.has_stamp.ensures c.if-not-has_stamp.false).second
+
+pub of_digits-requires-clause-high : goal.of_digits-requires-clause-high
+of_digits-requires-clause-high c = (c.has_stamp.ensures c.if-not-has_stamp.false).century
+
+pub of_digits-requires-clause-low : goal.of_digits-requires-clause-low
+of_digits-requires-clause-low c = (c.has_stamp.ensures c.if-not-has_stamp.false).year
+
 pub returns : goal.returns
 returns c =
     let bytes = c.args.bytes.now in

@@ -1,6 +1,6 @@
-use Rattle.std.proofs.Common.{◌∙◌, ap, true}
+use Rattle.std.proofs.Common.{◌∙◌, ap, sym, true, Some}
 use Rattle.parsing_combinator.specs.Names.{found, begins, long_months}
-use Rattle.parsing_steps.proofs.NamedLemmas.{long_months_taken}
+use Rattle.parsing_steps.proofs.NamedLemmas.{if_there, long_months_taken}
 use Rattle.parsing_steps.proofs.names.month_in_a.Goals as goal
 
 pub returns-in-Some : goal.returns-in-Some
@@ -9,4 +9,4 @@ returns-in-Some c = long_months_taken c.args.bytes.now ∙ ap (found true long_m
 
 pub returns : goal.returns
 unfolding found begins
-returns c = long_months_taken c.args.bytes.now ∙ ap (found true long_months) c.in_ok-rest.ensures
+returns c = if_there c.month_after.result c.month_after.ensures (λ x e. long_months_taken c.args.bytes.now ∙ ap (found true long_months) e.1 ∙ ap (λ month. Some (month, x.1.now)) (sym e.0))

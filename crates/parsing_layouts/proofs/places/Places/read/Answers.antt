@@ -15,6 +15,30 @@ read_split-requires-clause-one_offset c = c.args.self.now.one_offset c.in-Some.b
 pub returns-in-Some : goal.returns-in-Some
 returns-in-Some c = λ m defaults plan start. c.read_split.ensures m defaults (plan.1 c.in-Some.back c.in-Some.is) start
 
+pub date-requires-clause-sums : goal.date-requires-clause-sums
+date-requires-clause-sums c = c.in_ok-sums.ensures.sums
+
+pub clock-requires : goal.clock-requires
+clock-requires c = c.in_ok-sums.ensures.sums
+
+pub offset-requires-clause-few : goal.offset-requires-clause-few
+offset-requires-clause-few c = c.in_ok-sums.ensures.few
+
+pub offset-requires-clause-sign : goal.offset-requires-clause-sign
+offset-requires-clause-sign c = c.in_ok-minute.ensures.sign
+
+pub of_numbers-requires : goal.of_numbers-requires
+of_numbers-requires c =
+    let few : unsigned_abs c.in_ok-offset.offset ≤ 1559 = c.in_ok-offset.ensures.bound in
+    let back : to_z w16 (of_z w16 c.in_ok-offset.offset) ≡ c.in_ok-offset.offset = omega (arith, ints) in
+    record {
+      day_is_there = c.in_ok-year.ensures.day;
+      four_digits = c.in_ok-year.ensures.year;
+      within_a_day = c.in_ok-minute.ensures.minute;
+      within_a_minute = c.in_ok-minute.ensures.second;
+      is_offset = rw back few;
+    }
+
 pub returns : goal.returns
 returns c = λ m defaults is_plan start.
     let plan = c.args.self.now.prefix in
