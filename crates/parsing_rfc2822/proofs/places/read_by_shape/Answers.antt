@@ -21,6 +21,12 @@ overflow_add-tens c =
 pub fields_on-requires-clause-month : goal.fields_on-requires-clause-month
 fields_on-requires-clause-month c = c.in_ok-month.ensures.bound
 
+pub fields_on-requires-clause-offset : goal.fields_on-requires-clause-offset
+fields_on-requires-clause-offset c =
+    let o = c.in_ok-year.offset in
+    let same : to_z w16 (of_z w16 o) ≡ o = omega (arith, ints) in
+    rw same c.in_ok-year.ensures.offset
+
 pub returns : goal.returns
 returns c =
     let text = c.args.text.now in

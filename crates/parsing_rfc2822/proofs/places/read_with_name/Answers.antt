@@ -19,6 +19,12 @@ time_at-requires c = (c.has_name.ensures.shape c.if-not-has_name.false).clock
 pub day_of-requires-clause-digit : goal.day_of-requires-clause-digit
 day_of-requires-clause-digit c = (c.has_name.ensures.shape c.if-not-has_name.false).date.last_of_day
 
+pub fields_on-requires-clause-offset : goal.fields_on-requires-clause-offset
+fields_on-requires-clause-offset c =
+    let o = c.in_ok-offset in
+    let same : to_z w16 (of_z w16 o.offset) ≡ o.offset = omega (arith, ints) in
+    rw same o.ensures.bound
+
 pub returns : goal.returns
 returns c =
     let text = c.args.text.now in
