@@ -247,43 +247,41 @@ fn row_of(form: usize, has_second: bool) -> usize
 pub(crate) fn form_at(form: usize, has_second: bool) -> Form
     requires { form < FORMS }
 {
-    let row = row_of(form, has_second);
-    let clock = TABLE[row].clock;
-    let mark = mark_length(TABLE[row].is_extended);
+    let row = &TABLE[row_of(form, has_second)];
+    let clock = row.clock;
+    let mark = mark_length(row.is_extended);
     Form {
         shape: Shape {
             prefix: Window {
-                low: TABLE[row].low,
-                high: TABLE[row].above,
-                taken: Moves {
-                    lanes: TABLE[row].lanes,
-                },
+                low: row.low,
+                high: row.above,
+                taken: Moves { lanes: row.lanes },
             },
             back: Window {
-                low: TABLE[row].back_low,
-                high: TABLE[row].back_above,
+                low: row.back_low,
+                high: row.back_above,
                 taken: Moves {
-                    lanes: TABLE[row].back_lanes,
+                    lanes: row.back_lanes,
                 },
             },
-            length: TABLE[row].length,
-            back_at: TABLE[row].back_at,
+            length: row.length,
+            back_at: row.back_at,
             year: 0,
             high: Number {
                 has_tens: true,
-                place: first_number_at(TABLE[row].dating, mark),
+                place: first_number_at(row.dating, mark),
             },
             low: Number {
-                has_tens: is_calendar(TABLE[row].dating),
+                has_tens: is_calendar(row.dating),
                 place: clock - 1,
             },
             hour: clock + 1,
             minute: clock + 3 + mark,
             has_second,
             second: clock + 5 + 2 * mark,
-            has_colon: TABLE[row].is_extended,
+            has_colon: row.is_extended,
         },
-        dating: TABLE[row].dating,
+        dating: row.dating,
     }
 }
 

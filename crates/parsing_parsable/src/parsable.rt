@@ -7,7 +7,7 @@ ghost use Rattle.parsing_combinator.specs.ShortName.{HasShortName};
 ghost use Rattle.parsing_combinator.specs.Tame.{EndsWith};
 ghost use Rattle.parsing_record.specs.Meaning.{Counted, meaning};
 ghost use Rattle.parsing_record.specs.Tally.{greatest_count};
-ghost use Rattle.parsing_record.specs.Whole.{ReadsInto, whole, names, date_named, time_named, offset_named, wall_named, utc_named, timestamp_named, moment_named, by_roads};
+ghost use Rattle.parsing_record.specs.Whole.{ReadsInto, starting, whole, names, date_named, time_named, offset_named, wall_named, utc_named, timestamp_named, moment_named, by_roads};
 
 use calendar::{Date, Time, UtcOffset};
 use datetime_types::{OffsetDateTime, PlainDateTime, Timestamp, UtcDateTime};
@@ -25,6 +25,17 @@ fn ended(rest: &[u8]) -> Result<(), Parse>
         Ok(())
     } else {
         Err(ParseFromDescription::UnexpectedTrailingCharacters.into())
+    }
+}
+
+// The record that reading begins with.
+#[inline(always)]
+fn started(defaults: Option<Parsed>) -> Parsed
+    ensures { result ≡ starting defaults }
+{
+    match defaults {
+        Some(defaults) => defaults,
+        None => Parsed::new(),
     }
 }
 
@@ -68,10 +79,7 @@ pub trait Parsable {
             (whole (meaning (reading self.now)) defaults input.now) }
         ensures short_name { IfErr result (λ e. HasShortName (fault_of e)) }
     {
-        let mut parsed = match defaults {
-            Some(defaults) => defaults,
-            None => Parsed::new(),
-        };
+        let mut parsed = started(defaults);
         ended(self.parse_into(input, &mut parsed)?)?;
         Ok(parsed)
     }
@@ -187,10 +195,7 @@ pub trait Parsable {
             (names moment_named (whole (meaning (reading self.now)) defaults input.now)) }
         ensures short_name { IfErr result (λ e. HasShortName (fault_of e)) }
     {
-        let mut parsed = match defaults {
-            Some(defaults) => defaults,
-            None => Parsed::new(),
-        };
+        let mut parsed = started(defaults);
         ended(self.parse_into(input, &mut parsed)?)?;
         Ok(parsed.offset_date_time()?)
     }

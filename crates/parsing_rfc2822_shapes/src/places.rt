@@ -3,11 +3,11 @@
 //! The usual text ends with 25 bytes from the last digit of its day on. Others have a name of three letters for a zone, a
 //! comment at their end, no seconds, a year of two digits, no weekday, or two spaces after it. Each function gives up where a
 //! text has another shape, and then says nothing of it.
-ghost use Rattle.std.specs.Prelude.{◌≡◌, ◌≤◌, ◌<◌, ◌+◌, if◌then◌else◌, nat_lt, IfSome, Some, Ok, [], true, drop, length, unsigned_abs};
+ghost use Rattle.std.specs.Prelude.{◌≡◌, ◌≤◌, ◌<◌, ◌+◌, ◌-◌, ◌*◌, if◌then◌else◌, nat_lt, IfSome, Some, Ok, [], true, drop, get_or, length, unsigned_abs};
 ghost use Rattle.std.specs.Int.{IsInRange};
 ghost use Rattle.base.specs.Bytes.{space};
 ghost use Rattle.parsing_combinator.specs.Pieces as Pieces;
-ghost use Rattle.parsing_combinator.specs.Places.{HasPair, HasClock};
+ghost use Rattle.parsing_combinator.specs.Places.{HasDigit, HasPair, HasClock};
 ghost use Rattle.parsing_fields.specs.Moment.{moment_of};
 ghost use Rattle.parsing_fields.specs.Numbers.{HaveNumbers};
 ghost use Rattle.parsing_rfc2822.specs.Direct.{direct};
@@ -267,6 +267,17 @@ fn fields_on(year: Year, month: u8, day: u8, minute: u16, second: u8, offset: i1
     Some(Fields::of_numbers(year, month, day, minute, second, fraction, offset))
 }
 
+// The day that has these tens and the digit at the start.
+#[inline(always)]
+fn day_of(tens: u8, text: &[u8]) -> u8
+    requires tens { tens ≤ 9 }
+    requires some { 0 < length text.now }
+    requires digit { HasDigit text.now 0 }
+    ensures { result ≡ tens * 10 + (get_or text.now 0 0 - 48) }
+{
+    tens * 10 + (text[0] - b'0')
+}
+
 // The fields of a text that has these tens before the last digit of its day, and a zone's name of three letters.
 #[inline(always)]
 fn read_with_name(tens: u8, text: &[u8]) -> Option<Fields>
@@ -280,8 +291,7 @@ fn read_with_name(tens: u8, text: &[u8]) -> Option<Fields>
     let offset = named_offset(text)?;
     let (year, month) = year_and_month(text)?;
     let (minute, second) = time_at(text, 11)?;
-    let day = tens * 10 + (text[0] - b'0');
-    fields_on(year, month, day, minute, second, offset)
+    fields_on(year, month, day_of(tens, text), minute, second, offset)
 }
 
 // The fields of such a text without seconds, and with an offset in digits.
@@ -297,8 +307,7 @@ fn read_without_second(tens: u8, text: &[u8]) -> Option<Fields>
     let (year, month) = year_and_month(text)?;
     let minute = short_time(text)?;
     let offset = offset_at(text, 16)?;
-    let day = tens * 10 + (text[0] - b'0');
-    fields_on(year, month, day, minute, 0, offset)
+    fields_on(year, month, day_of(tens, text), minute, 0, offset)
 }
 
 // The same with seconds, and with a year of two digits.
@@ -314,8 +323,7 @@ fn read_short_year(tens: u8, text: &[u8]) -> Option<Fields>
     let (year, month) = short_year_and_month(text)?;
     let (minute, second) = time_at(text, 9)?;
     let offset = offset_at(text, 17)?;
-    let day = tens * 10 + (text[0] - b'0');
-    fields_on(year, month, day, minute, second, offset)
+    fields_on(year, month, day_of(tens, text), minute, second, offset)
 }
 
 // The fields of a text that has these tens before the last digit of its day, and an offset in digits, where what follows is

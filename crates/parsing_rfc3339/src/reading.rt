@@ -17,14 +17,24 @@ use parsing_combinator::{Zone, any_byte, byte, four_digits, fraction, sign, two_
 fn date(is_strict: bool, bytes: &[u8]) -> Result<((u16, u8, u8), &[u8]), ParseFromDescription>
     ensures { Gives (λ x. (x.0, x.1.now)) reading_fault result (Reading.date is_strict bytes.now) }
 {
-    let (year, rest) = four_digits(bytes).ok_or(InvalidComponent("year"))?;
-    let rest = byte(b'-', rest).ok_or(InvalidLiteral)?;
-    let (month, rest) = two_digits(rest).ok_or(InvalidComponent("month"))?;
+    let Some((year, rest)) = four_digits(bytes) else {
+        return Err(InvalidComponent("year"));
+    };
+    let Some(rest) = byte(b'-', rest) else {
+        return Err(InvalidLiteral);
+    };
+    let Some((month, rest)) = two_digits(rest) else {
+        return Err(InvalidComponent("month"));
+    };
     if !within(is_strict, 1, 12, month) || month == 0 {
         return Err(InvalidComponent("month"));
     }
-    let rest = byte(b'-', rest).ok_or(InvalidLiteral)?;
-    let (day, rest) = two_digits(rest).ok_or(InvalidComponent("day"))?;
+    let Some(rest) = byte(b'-', rest) else {
+        return Err(InvalidLiteral);
+    };
+    let Some((day, rest)) = two_digits(rest) else {
+        return Err(InvalidComponent("day"));
+    };
     if !within(is_strict, 1, 31, day) {
         return Err(InvalidComponent("day"));
     }
@@ -37,17 +47,27 @@ fn date(is_strict: bool, bytes: &[u8]) -> Result<((u16, u8, u8), &[u8]), ParseFr
 fn clock(is_strict: bool, bytes: &[u8]) -> Result<((u8, u8, u8), &[u8]), ParseFromDescription>
     ensures { Gives (λ x. (x.0, x.1.now)) reading_fault result (Reading.clock is_strict bytes.now) }
 {
-    let (hour, rest) = two_digits(bytes).ok_or(InvalidComponent("hour"))?;
+    let Some((hour, rest)) = two_digits(bytes) else {
+        return Err(InvalidComponent("hour"));
+    };
     if !within(is_strict, 0, 23, hour) {
         return Err(InvalidComponent("hour"));
     }
-    let rest = byte(b':', rest).ok_or(InvalidLiteral)?;
-    let (minute, rest) = two_digits(rest).ok_or(InvalidComponent("minute"))?;
+    let Some(rest) = byte(b':', rest) else {
+        return Err(InvalidLiteral);
+    };
+    let Some((minute, rest)) = two_digits(rest) else {
+        return Err(InvalidComponent("minute"));
+    };
     if !within(is_strict, 0, 59, minute) {
         return Err(InvalidComponent("minute"));
     }
-    let rest = byte(b':', rest).ok_or(InvalidLiteral)?;
-    let (second, rest) = two_digits(rest).ok_or(InvalidComponent("second"))?;
+    let Some(rest) = byte(b':', rest) else {
+        return Err(InvalidLiteral);
+    };
+    let Some((second, rest)) = two_digits(rest) else {
+        return Err(InvalidComponent("second"));
+    };
     if !within(is_strict, 0, 60, second) {
         return Err(InvalidComponent("second"));
     }
@@ -89,13 +109,21 @@ fn signed_offset(is_strict: bool, bytes: &[u8]) -> Result<(Zone, &[u8]), ParseFr
     ensures hours { IfOk result (λ x. x.0.hours ≤ 23) }
     ensures minutes { IfOk result (λ x. x.0.minutes < 100) }
 {
-    let (mark, rest) = sign(bytes).ok_or(InvalidComponent("offset hour"))?;
-    let (hour, rest) = two_digits(rest).ok_or(InvalidComponent("offset hour"))?;
+    let Some((mark, rest)) = sign(bytes) else {
+        return Err(InvalidComponent("offset hour"));
+    };
+    let Some((hour, rest)) = two_digits(rest) else {
+        return Err(InvalidComponent("offset hour"));
+    };
     if hour > 23 {
         return Err(InvalidComponent("offset hour"));
     }
-    let rest = byte(b':', rest).ok_or(InvalidLiteral)?;
-    let (minute, rest) = two_digits(rest).ok_or(InvalidComponent("offset minute"))?;
+    let Some(rest) = byte(b':', rest) else {
+        return Err(InvalidLiteral);
+    };
+    let Some((minute, rest)) = two_digits(rest) else {
+        return Err(InvalidComponent("offset minute"));
+    };
     if !within(is_strict, 0, 59, minute) {
         return Err(InvalidComponent("offset minute"));
     }
@@ -140,7 +168,9 @@ fn parts(is_strict: bool, bytes: &[u8]) -> Result<(Rfc3339Parts, &[u8]), ParseFr
     ensures minutes { IfOk result (λ x. x.0.zone.minutes < 100) }
 {
     let ((year, month, day), rest) = date(is_strict, bytes)?;
-    let rest = any_byte(rest).ok_or(InvalidComponent("separator"))?;
+    let Some(rest) = any_byte(rest) else {
+        return Err(InvalidComponent("separator"));
+    };
     let ((hour, minute, second), rest) = clock(is_strict, rest)?;
     let (subsecond, rest) = subsecond(rest)?;
     let (zone, rest) = offset(is_strict, rest)?;

@@ -13,6 +13,20 @@ month_number-requires-clause-space c =
     let there = date_there c.shape.result text s.year s.ones s.minute s.second s.offset (small_prefix 25 text c.requires.long (λ k. (omega (arith, c.type_inv.text k)))) c.requires.long c.shape.ensures s.ensures.says in
     rw (take_rest text 1) (get_or-drop 1 text 0 0 ∙ there.before_month)
 
+pub overflow_add-tens : goal.overflow_add-tens
+overflow_add-tens c =
+    let day = c.in_ok-year.ensures.says.day_is in
+    omega (arith, day.few, day.day_is, day.ones.high)
+
+pub fields_on-requires-clause-month : goal.fields_on-requires-clause-month
+fields_on-requires-clause-month c = c.in_ok-month.ensures.bound
+
+pub fields_on-requires-clause-offset : goal.fields_on-requires-clause-offset
+fields_on-requires-clause-offset c =
+    let o = c.in_ok-year.offset in
+    let same : to_z w16 (of_z w16 o) ≡ o = omega (arith, ints) in
+    rw same c.in_ok-year.ensures.offset
+
 pub returns : goal.returns
 returns c =
     let text = c.args.text.now in
