@@ -1,5 +1,5 @@
 -- One more item of an iterator, and one more duration of a sum.
-use Rattle.std.proofs.Common.{arith, ◌≡◌, ◌∙◌, ap, ℕ, ◌+◌, inl, inr, List, [], ◌∷◌, ◌++◌, length, take, Option, Some, refl, subst, sym, ℤ, pos, ◌+ℤ◌}
+use Rattle.std.proofs.Common.{arith, ◌≡◌, ◌∙◌, ap, ◌+◌, inl, inr, List, [], ◌∷◌, ◌++◌, length, Option, Some, refl, subst, sym, ℤ, pos, ◌+ℤ◌}
 use Rattle.std.specs.Iterator.{Yields}
 use Rattle.std.proofs.lemmas.Bool.{cases_lt}
 use Rattle.std.proofs.lemmas.List.{take-append-le, take_all, length-append}
