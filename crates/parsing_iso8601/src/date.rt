@@ -21,13 +21,9 @@ fn month_and_day(kind: Kind, bytes: &[u8]) -> Result<((Month, u8), &[u8]), Parse
         (Dates.month_and_day kind bytes.now) }
     ensures range { IfOk result (λ x. IsInRange 1 99 x.0.1) }
 {
-    let Some((month, rest)) = number::month(bytes) else {
-        return Err(InvalidComponent("month"));
-    };
+    let (month, rest) = number::month(bytes).ok_or(InvalidComponent("month"))?;
     let rest = dash(kind, rest)?;
-    let Some((day, rest)) = number::two_from_one(rest) else {
-        return Err(InvalidComponent("day"));
-    };
+    let (day, rest) = number::two_from_one(rest).ok_or(InvalidComponent("day"))?;
     Ok(((month, day), rest))
 }
 
@@ -42,13 +38,9 @@ fn week_and_weekday(
         (Dates.week_and_weekday kind bytes.now) }
     ensures range { IfOk result (λ x. IsInRange 1 99 x.0.0) }
 {
-    let Some((week, rest)) = number::two_from_one(bytes) else {
-        return Err(InvalidComponent("week"));
-    };
+    let (week, rest) = number::two_from_one(bytes).ok_or(InvalidComponent("week"))?;
     let rest = dash(kind, rest)?;
-    let Some((weekday, rest)) = number::weekday(rest) else {
-        return Err(InvalidComponent("weekday"));
-    };
+    let (weekday, rest) = number::weekday(rest).ok_or(InvalidComponent("weekday"))?;
     Ok(((week, weekday), rest))
 }
 
@@ -131,9 +123,7 @@ pub fn year_and_kind(bytes: &[u8]) -> Result<((i32, Kind), &[u8]), ParseFromDesc
         (Dates.year_and_kind bytes.now) }
     ensures year { IfOk result (λ x. IsYear x.0.0) }
 {
-    let Some((year, rest)) = number::year(bytes) else {
-        return Err(InvalidComponent("year"));
-    };
+    let (year, rest) = number::year(bytes).ok_or(InvalidComponent("year"))?;
     let (kind, rest) = kind_of_date(rest);
     Ok(((year, kind), rest))
 }

@@ -33,9 +33,7 @@ fn one_or_two_digits(bytes: &[u8]) -> Option<(u8, &[u8])>
 fn named_day(day: Weekday, bytes: &[u8]) -> Result<(Option<Weekday>, &[u8]), ParseFromDescription>
     ensures { Gives (λ x. (x.0, x.1.now)) reading_fault result (Reading.named_day day bytes.now) }
 {
-    let Some(rest) = byte(b',', bytes) else {
-        return Err(InvalidLiteral);
-    };
+    let rest = byte(b',', bytes).ok_or(InvalidLiteral)?;
     Ok((Some(day), past_spacing(rest)))
 }
 
@@ -62,9 +60,7 @@ fn day(
     ensures { Gives (λ x. (x.0, x.1.now)) reading_fault result (Reading.day is_strict bytes.now) }
 {
     let (weekday, rest) = optional_weekday(past_spacing(bytes))?;
-    let Some((day, rest)) = one_or_two_digits(rest) else {
-        return Err(InvalidComponent("day"));
-    };
+    let (day, rest) = one_or_two_digits(rest).ok_or(InvalidComponent("day"))?;
     if !within(is_strict, 1, 31, day) {
         return Err(InvalidComponent("day"));
     }
@@ -80,9 +76,7 @@ fn full_year(year: u16, bytes: &[u8]) -> Result<(u16, &[u8]), ParseFromDescripti
     if year < 1900 {
         return Err(InvalidComponent("year"));
     }
-    let Some(rest) = folding_white_space(bytes) else {
-        return Err(InvalidLiteral);
-    };
+    let rest = folding_white_space(bytes).ok_or(InvalidLiteral)?;
     Ok((year, rest))
 }
 
@@ -92,12 +86,8 @@ fn full_year(year: u16, bytes: &[u8]) -> Result<(u16, &[u8]), ParseFromDescripti
 fn short_year(bytes: &[u8]) -> Result<(u16, &[u8]), ParseFromDescription>
     ensures { Gives (λ x. (x.0, x.1.now)) reading_fault result (Reading.short_year bytes.now) }
 {
-    let Some((year, rest)) = two_digits(bytes) else {
-        return Err(InvalidComponent("year"));
-    };
-    let Some(rest) = comments_and_white_space(rest) else {
-        return Err(InvalidLiteral);
-    };
+    let (year, rest) = two_digits(bytes).ok_or(InvalidComponent("year"))?;
+    let rest = comments_and_white_space(rest).ok_or(InvalidLiteral)?;
     let century = if year < 50 { 2000 } else { 1900 };
     Ok((u16::from(year) + century, rest))
 }
@@ -120,15 +110,9 @@ fn year(bytes: &[u8]) -> Result<(u16, &[u8]), ParseFromDescription>
 fn month_and_year(bytes: &[u8]) -> Result<((Month, u16), &[u8]), ParseFromDescription>
     ensures { Gives (λ x. (x.0, x.1.now)) reading_fault result (Reading.month_and_year bytes.now) }
 {
-    let Some(rest) = comments_and_white_space(bytes) else {
-        return Err(InvalidLiteral);
-    };
-    let Some((month, rest)) = month(rest) else {
-        return Err(InvalidComponent("month"));
-    };
-    let Some(rest) = comments_and_white_space(rest) else {
-        return Err(InvalidLiteral);
-    };
+    let rest = comments_and_white_space(bytes).ok_or(InvalidLiteral)?;
+    let (month, rest) = month(rest).ok_or(InvalidComponent("month"))?;
+    let rest = comments_and_white_space(rest).ok_or(InvalidLiteral)?;
     let (year, rest) = year(rest)?;
     Ok(((month, year), rest))
 }
@@ -140,18 +124,12 @@ fn hour_and_minute(is_strict: bool, bytes: &[u8]) -> Result<((u8, u8), &[u8]), P
     ensures { Gives (λ x. (x.0, x.1.now)) reading_fault result
         (Reading.hour_and_minute is_strict bytes.now) }
 {
-    let Some((hour, rest)) = two_digits(bytes) else {
-        return Err(InvalidComponent("hour"));
-    };
+    let (hour, rest) = two_digits(bytes).ok_or(InvalidComponent("hour"))?;
     if !within(is_strict, 0, 23, hour) {
         return Err(InvalidComponent("hour"));
     }
-    let Some(rest) = spaced_colon(rest) else {
-        return Err(InvalidLiteral);
-    };
-    let Some((minute, rest)) = two_digits(rest) else {
-        return Err(InvalidComponent("minute"));
-    };
+    let rest = spaced_colon(rest).ok_or(InvalidLiteral)?;
+    let (minute, rest) = two_digits(rest).ok_or(InvalidComponent("minute"))?;
     if !within(is_strict, 0, 59, minute) {
         return Err(InvalidComponent("minute"));
     }
@@ -165,9 +143,7 @@ fn due_second(is_strict: bool, bytes: &[u8]) -> Result<(Option<u8>, &[u8]), Pars
     ensures { Gives (λ x. (x.0, x.1.now)) reading_fault result
         (Reading.due_second is_strict bytes.now) }
 {
-    let Some((second, rest)) = two_digits(bytes) else {
-        return Err(InvalidComponent("second"));
-    };
+    let (second, rest) = two_digits(bytes).ok_or(InvalidComponent("second"))?;
     if !within(is_strict, 0, 60, second) {
         return Err(InvalidComponent("second"));
     }
@@ -214,15 +190,11 @@ fn signed_zone(
     ensures hours { IfOk result (λ x. x.0.hours < 100) }
     ensures minutes { IfOk result (λ x. x.0.minutes < 100) }
 {
-    let Some((hours, rest)) = two_digits(bytes) else {
-        return Err(InvalidComponent("offset hour"));
-    };
+    let (hours, rest) = two_digits(bytes).ok_or(InvalidComponent("offset hour"))?;
     if !within(is_strict, 0, 25, hours) {
         return Err(InvalidComponent("offset hour"));
     }
-    let Some((minutes, rest)) = two_digits(rest) else {
-        return Err(InvalidComponent("offset minute"));
-    };
+    let (minutes, rest) = two_digits(rest).ok_or(InvalidComponent("offset minute"))?;
     if !within(is_strict, 0, 59, minutes) {
         return Err(InvalidComponent("offset minute"));
     }
@@ -244,9 +216,7 @@ fn named_zone(bytes: &[u8]) -> Result<(Zone, &[u8]), ParseFromDescription>
     ensures hours { IfOk result (λ x. x.0.hours < 100) }
     ensures minutes { IfOk result (λ x. x.0.minutes < 100) }
 {
-    let Some((hours, rest)) = zone_name(bytes) else {
-        return Err(InvalidComponent("offset hour"));
-    };
+    let (hours, rest) = zone_name(bytes).ok_or(InvalidComponent("offset hour"))?;
     let zone = Zone {
         is_named: true,
         is_negative: true,
@@ -280,9 +250,7 @@ fn spaced_zone(is_strict: bool, bytes: &[u8]) -> Result<(Zone, &[u8]), ParseFrom
     ensures hours { IfOk result (λ x. x.0.hours < 100) }
     ensures minutes { IfOk result (λ x. x.0.minutes < 100) }
 {
-    let Some(rest) = comments_and_white_space(bytes) else {
-        return Err(InvalidLiteral);
-    };
+    let rest = comments_and_white_space(bytes).ok_or(InvalidLiteral)?;
     let (zone, rest) = zone(is_strict, rest)?;
     Ok((zone, past_spacing(rest)))
 }

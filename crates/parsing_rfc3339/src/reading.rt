@@ -17,24 +17,14 @@ use parsing_combinator::{Zone, any_byte, byte, four_digits, fraction, sign, two_
 fn date(is_strict: bool, bytes: &[u8]) -> Result<((u16, u8, u8), &[u8]), ParseFromDescription>
     ensures { Gives (λ x. (x.0, x.1.now)) reading_fault result (Reading.date is_strict bytes.now) }
 {
-    let Some((year, rest)) = four_digits(bytes) else {
-        return Err(InvalidComponent("year"));
-    };
-    let Some(rest) = byte(b'-', rest) else {
-        return Err(InvalidLiteral);
-    };
-    let Some((month, rest)) = two_digits(rest) else {
-        return Err(InvalidComponent("month"));
-    };
+    let (year, rest) = four_digits(bytes).ok_or(InvalidComponent("year"))?;
+    let rest = byte(b'-', rest).ok_or(InvalidLiteral)?;
+    let (month, rest) = two_digits(rest).ok_or(InvalidComponent("month"))?;
     if !within(is_strict, 1, 12, month) || month == 0 {
         return Err(InvalidComponent("month"));
     }
-    let Some(rest) = byte(b'-', rest) else {
-        return Err(InvalidLiteral);
-    };
-    let Some((day, rest)) = two_digits(rest) else {
-        return Err(InvalidComponent("day"));
-    };
+    let rest = byte(b'-', rest).ok_or(InvalidLiteral)?;
+    let (day, rest) = two_digits(rest).ok_or(InvalidComponent("day"))?;
     if !within(is_strict, 1, 31, day) {
         return Err(InvalidComponent("day"));
     }
@@ -47,27 +37,17 @@ fn date(is_strict: bool, bytes: &[u8]) -> Result<((u16, u8, u8), &[u8]), ParseFr
 fn clock(is_strict: bool, bytes: &[u8]) -> Result<((u8, u8, u8), &[u8]), ParseFromDescription>
     ensures { Gives (λ x. (x.0, x.1.now)) reading_fault result (Reading.clock is_strict bytes.now) }
 {
-    let Some((hour, rest)) = two_digits(bytes) else {
-        return Err(InvalidComponent("hour"));
-    };
+    let (hour, rest) = two_digits(bytes).ok_or(InvalidComponent("hour"))?;
     if !within(is_strict, 0, 23, hour) {
         return Err(InvalidComponent("hour"));
     }
-    let Some(rest) = byte(b':', rest) else {
-        return Err(InvalidLiteral);
-    };
-    let Some((minute, rest)) = two_digits(rest) else {
-        return Err(InvalidComponent("minute"));
-    };
+    let rest = byte(b':', rest).ok_or(InvalidLiteral)?;
+    let (minute, rest) = two_digits(rest).ok_or(InvalidComponent("minute"))?;
     if !within(is_strict, 0, 59, minute) {
         return Err(InvalidComponent("minute"));
     }
-    let Some(rest) = byte(b':', rest) else {
-        return Err(InvalidLiteral);
-    };
-    let Some((second, rest)) = two_digits(rest) else {
-        return Err(InvalidComponent("second"));
-    };
+    let rest = byte(b':', rest).ok_or(InvalidLiteral)?;
+    let (second, rest) = two_digits(rest).ok_or(InvalidComponent("second"))?;
     if !within(is_strict, 0, 60, second) {
         return Err(InvalidComponent("second"));
     }
@@ -109,21 +89,13 @@ fn signed_offset(is_strict: bool, bytes: &[u8]) -> Result<(Zone, &[u8]), ParseFr
     ensures hours { IfOk result (λ x. x.0.hours ≤ 23) }
     ensures minutes { IfOk result (λ x. x.0.minutes < 100) }
 {
-    let Some((mark, rest)) = sign(bytes) else {
-        return Err(InvalidComponent("offset hour"));
-    };
-    let Some((hour, rest)) = two_digits(rest) else {
-        return Err(InvalidComponent("offset hour"));
-    };
+    let (mark, rest) = sign(bytes).ok_or(InvalidComponent("offset hour"))?;
+    let (hour, rest) = two_digits(rest).ok_or(InvalidComponent("offset hour"))?;
     if hour > 23 {
         return Err(InvalidComponent("offset hour"));
     }
-    let Some(rest) = byte(b':', rest) else {
-        return Err(InvalidLiteral);
-    };
-    let Some((minute, rest)) = two_digits(rest) else {
-        return Err(InvalidComponent("offset minute"));
-    };
+    let rest = byte(b':', rest).ok_or(InvalidLiteral)?;
+    let (minute, rest) = two_digits(rest).ok_or(InvalidComponent("offset minute"))?;
     if !within(is_strict, 0, 59, minute) {
         return Err(InvalidComponent("offset minute"));
     }
@@ -168,9 +140,7 @@ fn parts(is_strict: bool, bytes: &[u8]) -> Result<(Rfc3339Parts, &[u8]), ParseFr
     ensures minutes { IfOk result (λ x. x.0.zone.minutes < 100) }
 {
     let ((year, month, day), rest) = date(is_strict, bytes)?;
-    let Some(rest) = any_byte(rest) else {
-        return Err(InvalidComponent("separator"));
-    };
+    let rest = any_byte(rest).ok_or(InvalidComponent("separator"))?;
     let ((hour, minute, second), rest) = clock(is_strict, rest)?;
     let (subsecond, rest) = subsecond(rest)?;
     let (zone, rest) = offset(is_strict, rest)?;
