@@ -38,7 +38,10 @@ pub fn tell_rfc3339(told: &mut String, call: &str, input: &[u8]) -> Told {
 pub fn tell_rfc2822(told: &mut String, call: &str, input: &[u8]) -> Told {
     match call {
         "read" => tell_printed(told, &Rfc2822.read_direct(input)),
-        "fast" => tell_printed(told, &parsing_rfc2822_shapes::read_fast(input).ok_or("none")),
+        "fast" => tell_printed(
+            told,
+            &parsing_rfc2822_shapes::read_fast(input).ok_or("none"),
+        ),
         "strict" => tell_parts(told, &parsing_rfc2822::parse_prefix(true, input)),
         "lax" => tell_parts(told, &parsing_rfc2822::parse_prefix(false, input)),
         _ => tell_call(told, &Rfc2822, call, input),
@@ -49,7 +52,10 @@ pub fn tell_rfc2822(told: &mut String, call: &str, input: &[u8]) -> Told {
 pub fn tell_iso8601(told: &mut String, call: &str, input: &[u8]) -> Told {
     match call {
         "read" => tell_printed(told, &Iso8601.parse_offset_date_time(input, None)),
-        "fast" => tell_printed(told, &parsing_iso8601_shapes::read_fast(input).ok_or("none")),
+        "fast" => tell_printed(
+            told,
+            &parsing_iso8601_shapes::read_fast(input).ok_or("none"),
+        ),
         "parts" => tell_parts(told, &parsing_iso8601::parse_prefix(input)),
         _ => tell_call(told, &&Iso8601, call, input),
     }
