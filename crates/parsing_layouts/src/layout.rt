@@ -121,7 +121,7 @@ impl Layout {
         Some(layout)
     }
 
-    // The same of a time of day and an offset.
+    // The layout with a place for a slot of a time of day or an offset: `None` where the slot is no such one.
     fn with_clock(self, slot: Slot, place: Option<usize>) -> Option<Layout>
         ensures { IfSome result (λ l. l ≡ with_place slot place self) }
     {
