@@ -17,9 +17,13 @@ fn answers<M: Moment>(
     last: i128,
 ) -> bool {
     match run_calls(alloc, start, calls) {
-        Ok((moment, given)) => given.as_slice() == replies && moment.instant_nanos() == last,
+        Ok(answer) => is_so(&answer, replies, last),
         Err(_) => false,
     }
+}
+
+fn is_so<M: Moment>(answer: &(M, Vec<MomentReply>), replies: &[MomentReply], last: i128) -> bool {
+    answer.1.as_slice() == replies && answer.0.instant_nanos() == last
 }
 
 // From one instant, by both calendars.

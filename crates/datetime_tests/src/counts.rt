@@ -5,15 +5,6 @@ use datetime_wall::{
     place_of_count, second_of_day, sunday_week_of_count, weekday_of_count,
 };
 
-fn known_days() -> [(i32, u8, u8); 4] {
-    [
-        day_of_count(0),
-        day_of_count(365_961_662),
-        day_of_count(365_972_678),
-        day_of_count(730_484_633),
-    ]
-}
-
 static KNOWN_DAYS: [(i32, u8, u8); 4] = [
     (-999_999, 1, 1),
     (1970, 1, 1),
@@ -21,25 +12,22 @@ static KNOWN_DAYS: [(i32, u8, u8); 4] = [
     (999_999, 12, 31),
 ];
 
-fn known_places() -> bool {
-    let given = (
-        place_of_count(365_972_984),
-        weekday_of_count(365_961_662),
-        iso_week_of_count(365_980_291),
-    );
-    given == ((2000, 366), 3, (2020, 53))
-}
-
-fn known_weeks() -> (u8, u8) {
-    (
-        sunday_week_of_count(365_981_444),
-        monday_week_of_count(365_981_444),
-    )
-}
-
 #[test]
 fn known_days_and_places(rt: HostRuntime) {
-    assert!(rt; known_days() == KNOWN_DAYS && known_places() && known_weeks() == (8, 9));
+    let days = [
+        day_of_count(0),
+        day_of_count(365_961_662),
+        day_of_count(365_972_678),
+        day_of_count(730_484_633),
+    ];
+    let weeks = [
+        sunday_week_of_count(365_981_444),
+        monday_week_of_count(365_981_444),
+    ];
+    let weekday = weekday_of_count(365_961_662);
+    assert!(rt; days == KNOWN_DAYS && weeks == [8, 9] && weekday == 3);
+    assert!(rt; place_of_count(365_972_984) == (2000, 366));
+    assert!(rt; iso_week_of_count(365_980_291) == (2020, 53));
 }
 
 // A year, a month and a day; an hour, a minute and a second.

@@ -3,24 +3,18 @@ use calendar::SignedDuration;
 use datetime::{signed_from_std, std_from_signed};
 use std::time::Duration;
 
-fn converts() -> bool {
+#[test]
+fn converts_and_refuses(rt: HostRuntime) {
     let (one, other) = (Duration::new(1, 500), SignedDuration::new(1, 500));
     let given = [
         std_from_signed(other),
         std_from_signed(SignedDuration::ZERO),
     ];
-    signed_from_std(one) == Ok(other) && given == [Ok(one), Ok(Duration::ZERO)]
-}
-
-fn refuses() -> [bool; 3] {
-    [
+    let refused = [
         signed_from_std(Duration::from_secs(9_223_372_036_854_775_807)).is_err(),
         signed_from_std(Duration::from_secs(9_223_372_036_854_775_808)).is_err(),
         std_from_signed(SignedDuration::nanoseconds(-1)).is_err(),
-    ]
-}
-
-#[test]
-fn converts_and_refuses(rt: HostRuntime) {
-    assert!(rt; converts() && refuses() == [false, true, true]);
+    ];
+    assert!(rt; signed_from_std(one) == Ok(other) && given == [Ok(one), Ok(Duration::ZERO)]);
+    assert!(rt; refused == [false, true, true]);
 }

@@ -3,37 +3,34 @@ use crate::kinds::DateTime;
 use crate::rows::{
     CUT, DAY_BEFORE, DAY_VIEWS, EVENING, FIRST, LAST, LEAP_DAY, NEXT_DAY, Part, Parts, REFUSED,
     REPLACED, Step, TIME_VIEWS, after_the_last, before_the_first, date_of, east, evening, hash_of,
-    leap_day, moved, refused, timestamp_of,
+    leap_day, moved, refused,
 };
-use calendar::{Month, SignedDuration, Time, UtcOffset};
+use calendar::{Date, Month, SignedDuration, Time};
 use datetime::{OffsetDateTime, PlainDateTime, Timestamp, UtcDateTime, WallClock, laws};
 use std::cmp::Ordering;
 use std::hash::Hash;
 use std::time::Duration;
 
-// The leap day's evening, of each type.
+// The evening of a day, of each type.
 type Evenings = (PlainDateTime, UtcDateTime, Timestamp, OffsetDateTime);
 
-fn evenings() -> Evenings {
-    let (date, time) = (leap_day(), evening());
+fn evenings(date: Date) -> Evenings {
+    let time = evening();
+    let utc = UtcDateTime::new(date, time);
     (
         PlainDateTime::new(date, time),
-        UtcDateTime::new(date, time),
-        timestamp_of(1_709_251_198, 123_456_789),
+        utc,
+        Timestamp::from(utc),
         OffsetDateTime::new_in_offset(date, time, east()),
     )
 }
 
-fn has_views<T: DateTime>(value: T) -> bool {
-    value.parts() == (LEAP_DAY, EVENING)
-        && value.day_views() == DAY_VIEWS
-        && value.time_views() == TIME_VIEWS
-}
-
 fn is_replaced<T: DateTime>(value: T, rows: &[(Part, Parts)]) -> bool {
     for (part, wanted) in rows {
-        let replaced = value.replaced(*part).ok().map(T::shown);
-        if replaced != Some((*wanted, value.own_offset())) {
+        let Ok(replaced) = value.replaced(*part) else {
+            return false;
+        };
+        if replaced.shown() != (*wanted, value.own_offset()) {
             return false;
         }
     }
@@ -57,8 +54,11 @@ fn is_april_31_refused<T: DateTime>(value: T) -> bool {
     }
 }
 
-fn replaces<T: DateTime>(value: T) -> [bool; 3] {
+fn shows_and_replaces<T: DateTime>(value: T) -> [bool; 6] {
     [
+        value.parts() == (LEAP_DAY, EVENING),
+        value.day_views() == DAY_VIEWS,
+        value.time_views() == TIME_VIEWS,
         is_replaced(value, &REPLACED),
         is_refused(value, &REFUSED),
         is_april_31_refused(value),
@@ -67,20 +67,14 @@ fn replaces<T: DateTime>(value: T) -> [bool; 3] {
 
 #[test]
 fn shows_and_replaces_parts(rt: HostRuntime) {
-    let (plain, utc, timestamp, shown) = evenings();
-    let views = [
-        has_views(plain),
-        has_views(utc),
-        has_views(timestamp),
-        has_views(shown),
+    let (plain, utc, timestamp, shown) = evenings(leap_day());
+    let holds = [
+        shows_and_replaces(plain),
+        shows_and_replaces(utc),
+        shows_and_replaces(timestamp),
+        shows_and_replaces(shown),
     ];
-    let replaced = [
-        replaces(plain),
-        replaces(utc),
-        replaces(timestamp),
-        replaces(shown),
-    ];
-    assert!(rt; views == [true; 4] && replaced == [[true; 3]; 4]);
+    assert!(rt; holds == [[true; 6]; 4]);
 }
 
 fn is_moved<T: DateTime>(value: T) -> bool {
@@ -101,38 +95,57 @@ fn moves<T: DateTime>(value: T) -> [bool; 3] {
     ]
 }
 
-// From a value to the one a day later, and back.
-fn apart<T: DateTime>(value: T) -> (SignedDuration, SignedDuration) {
-    let next = value.moved(Step::Add(SignedDuration::DAY)).unwrap_or(value);
-    (next.since(value), value.since(next))
+// From the one to the other.
+fn apart(
+    (plain, utc, timestamp, shown): Evenings,
+    (other_plain, other_utc, other_timestamp, other_shown): Evenings,
+) -> [SignedDuration; 4] {
+    [
+        other_plain - plain,
+        other_utc - utc,
+        other_timestamp - timestamp,
+        other_shown - shown,
+    ]
 }
 
 #[test]
 fn moves_by_durations(rt: HostRuntime) {
-    let (plain, utc, timestamp, shown) = evenings();
+    let (plain, utc, timestamp, shown) = evenings(leap_day());
     let moved = [moves(plain), moves(utc), moves(timestamp), moves(shown)];
-    let days = [apart(plain), apart(utc), apart(timestamp), apart(shown)];
-    let day_and_back = (SignedDuration::DAY, SignedDuration::days(-1));
-    assert!(rt; moved == [[true; 3]; 4] && days == [day_and_back; 4]);
+    assert!(rt; moved == [[true; 3]; 4]);
+}
+
+#[test]
+fn are_a_day_apart(rt: HostRuntime) {
+    let next = date_of(2024, Month::March, 1);
+    let later = apart(evenings(leap_day()), evenings(next));
+    let back = apart(evenings(next), evenings(leap_day()));
+    assert!(rt; later == [SignedDuration::DAY; 4] && back == [SignedDuration::days(-1); 4]);
 }
 
 fn ends_so<T: DateTime>(end: T, steps: [(Step, Option<Parts>); 4]) -> bool {
     for (step, wanted) in steps {
-        let moved = end.moved(step);
-        if moved.map(T::parts) != wanted || moved.unwrap_or(end).own_offset() != end.own_offset() {
+        let (parts, offset) = match end.moved(step) {
+            Some(moved) => (Some(moved.parts()), moved.own_offset()),
+            None => (None, end.own_offset()),
+        };
+        if parts != wanted || offset != end.own_offset() {
             return false;
         }
     }
     true
 }
 
-fn has_ends<T: DateTime>(first: T, last: T) -> bool {
-    (first.parts(), last.parts()) == (FIRST, LAST)
-        && ends_so(first, before_the_first())
-        && ends_so(last, after_the_last())
+fn has_ends<T: DateTime>(first: T, last: T) -> [bool; 4] {
+    [
+        first.parts() == FIRST,
+        last.parts() == LAST,
+        ends_so(first, before_the_first()),
+        ends_so(last, after_the_last()),
+    ]
 }
 
-fn have_ends() -> [bool; 4] {
+fn have_ends() -> [[bool; 4]; 4] {
     let [first, last] = laws::ends_of_wall_clocks();
     [
         has_ends(first, last),
@@ -142,23 +155,22 @@ fn have_ends() -> [bool; 4] {
     ]
 }
 
-fn is_itself<T: Ord + Hash + Copy + Drop>(value: T) -> bool {
-    let same = value;
-    value == same && hash_of(value) == hash_of(same)
-}
-
-fn is_less<T: Ord + Copy + Drop>(value: T, later: T) -> bool {
-    value != later && value < later && value.max(later) == later
-}
-
 // Whether the first comes before the other by each call, and is equal to itself alone.
-fn is_before<T: Ord + Hash + Copy + Drop>(value: T, later: T) -> bool {
-    let order = (value.cmp(&later), later.partial_cmp(&value));
-    order == (Ordering::Less, Some(Ordering::Greater)) && is_less(value, later) && is_itself(value)
+fn is_before<T: Ord + Hash + Copy + Drop>(value: T, later: T) -> [bool; 7] {
+    let same = value;
+    [
+        value.cmp(&later) == Ordering::Less,
+        later.partial_cmp(&value) == Some(Ordering::Greater),
+        value < later,
+        value.max(later) == later,
+        value != later,
+        value == same,
+        hash_of(value) == hash_of(same),
+    ]
 }
 
-fn are_ordered() -> [bool; 4] {
-    let (plain, utc, timestamp, shown) = evenings();
+fn are_ordered() -> [[bool; 7]; 4] {
+    let (plain, utc, timestamp, shown) = evenings(leap_day());
     let later = Time::from_hms_nano(23, 59, 58, 123_456_790).unwrap_or(Time::MIDNIGHT);
     [
         is_before(plain, plain.replace_time(later)),
@@ -170,26 +182,22 @@ fn are_ordered() -> [bool; 4] {
 
 #[test]
 fn ends_with_the_calendar_and_compares(rt: HostRuntime) {
-    assert!(rt; have_ends() == [true; 4] && are_ordered() == [true; 4]);
+    assert!(rt; have_ends() == [[true; 4]; 4]);
+    assert!(rt; are_ordered() == [[true; 7]; 4]);
 }
 
-// What is shown of a value cut to each unit.
-type Cut = [(Parts, Option<UtcOffset>); 6];
-
-fn cut<T: DateTime>(value: T) -> Cut {
-    [
+// Whether a value of an evening is cut to each unit, and its offset stays.
+fn is_cut<T: DateTime>(value: T) -> bool {
+    let cut = [
         value.truncate_to_day().shown(),
         value.truncate_to_hour().shown(),
         value.truncate_to_minute().shown(),
         value.truncate_to_second().shown(),
         value.truncate_to_millisecond().shown(),
         value.truncate_to_microsecond().shown(),
-    ]
-}
-
-fn are_cut(values: &Cut, offset: Option<UtcOffset>) -> bool {
+    ];
     for i in 0..6 {
-        if values[i].0 != CUT[i] || values[i].1 != offset {
+        if cut[i] != (CUT[i], value.own_offset()) {
             return false;
         }
     }
@@ -199,13 +207,7 @@ fn are_cut(values: &Cut, offset: Option<UtcOffset>) -> bool {
 // Before 1970 too the units begin at whole numbers of the clock.
 #[test]
 fn cuts_to_units(rt: HostRuntime) {
-    let date = date_of(1969, Month::December, 31);
-    let (plain, utc, timestamp, shown) = evenings();
-    let are_cut = [
-        are_cut(&cut(plain.replace_date(date)), None),
-        are_cut(&cut(utc.replace_date(date)), None),
-        are_cut(&cut(timestamp.replace_date(date)), None),
-        are_cut(&cut(shown.replace_date(date)), Some(east())),
-    ];
+    let (plain, utc, timestamp, shown) = evenings(date_of(1969, Month::December, 31));
+    let are_cut = [is_cut(plain), is_cut(utc), is_cut(timestamp), is_cut(shown)];
     assert!(rt; are_cut == [true; 4]);
 }

@@ -16,21 +16,14 @@ fn leap_evening() -> Instants {
     (timestamp_of(1_709_251_198, 123_456_789), utc, shown)
 }
 
-fn converts() -> bool {
-    let (timestamp, utc, _) = leap_evening();
-    (Timestamp::from(utc), UtcDateTime::from(timestamp)) == (timestamp, utc)
-}
-
-fn converts_to_offset_zero() -> bool {
-    let (timestamp, utc, shown) = leap_evening();
-    let at_zero = [OffsetDateTime::from(utc), OffsetDateTime::from(timestamp)];
-    at_zero == [shown; 2]
-        && at_zero.map(DateTime::shown) == [((LEAP_DAY, EVENING), Some(UtcOffset::UTC)); 2]
-}
-
 #[test]
 fn converts_instants(rt: HostRuntime) {
-    assert!(rt; converts() && converts_to_offset_zero());
+    let (timestamp, utc, shown) = leap_evening();
+    assert!(rt; (Timestamp::from(utc), UtcDateTime::from(timestamp)) == (timestamp, utc));
+    let at_zero = [OffsetDateTime::from(utc), OffsetDateTime::from(timestamp)];
+    assert!(rt; at_zero == [shown; 2]);
+    let wanted = ((LEAP_DAY, EVENING), Some(UtcOffset::UTC));
+    assert!(rt; at_zero.map(DateTime::shown) == [wanted; 2]);
 }
 
 // The first by each other type: equality both ways, and the order both ways.
@@ -78,22 +71,15 @@ fn same_later(later: Timestamp) -> Instants {
     (later, later.to_utc(), OffsetDateTime::from(later))
 }
 
-fn compares() -> [bool; 2] {
-    let later = same_later(timestamp_of(1_709_251_198, 123_456_790));
-    [
-        answers(leap_evening(), leap_evening()) == ([true; 6], [Ordering::Equal; 6]),
-        answers(leap_evening(), later) == ([false; 6], [Ordering::Less; 6]),
-    ]
-}
-
-fn subtracts() -> bool {
-    let second_later = same_later(timestamp_of(1_709_251_199, 123_456_789));
-    differences(leap_evening(), second_later) == [SignedDuration::SECOND; 6]
-}
-
 #[test]
 fn compares_and_subtracts(rt: HostRuntime) {
-    assert!(rt; compares() == [true; 2] && subtracts());
+    let same = answers(leap_evening(), leap_evening());
+    let later = same_later(timestamp_of(1_709_251_198, 123_456_790));
+    let less = answers(leap_evening(), later);
+    assert!(rt; same == ([true; 6], [Ordering::Equal; 6]));
+    assert!(rt; less == ([false; 6], [Ordering::Less; 6]));
+    let second_later = same_later(timestamp_of(1_709_251_199, 123_456_789));
+    assert!(rt; differences(leap_evening(), second_later) == [SignedDuration::SECOND; 6]);
 }
 
 fn counted((timestamp, utc, _): Instants) -> (i64, i64, i128, i128, i64, i128) {
@@ -129,25 +115,17 @@ fn counts_units_from_1970(rt: HostRuntime) {
     assert!(rt; counted(leap_evening()) == COUNTED && begins_in_1970());
 }
 
-// Whether a refusal or a timestamp is that of 29 February 2024 with this nanosecond.
-fn is_made(counted: Result<Timestamp, ComponentRange>, nanosecond: u32) -> bool {
-    counted == Timestamp::new(1_709_251_198, nanosecond)
-}
-
-fn are_made_of_units() -> [bool; 4] {
+// The leap day's evening, cut to whole units.
+fn made_of_units() -> [Result<Timestamp, ComponentRange>; 4] {
     [
-        is_made(Timestamp::from_seconds(1_709_251_198), 0),
-        is_made(Timestamp::from_milliseconds(1_709_251_198_123), 123_000_000),
-        is_made(
-            Timestamp::from_microseconds(1_709_251_198_123_456),
-            123_456_000,
-        ),
-        is_made(
-            Timestamp::from_nanoseconds(1_709_251_198_123_456_789),
-            123_456_789,
-        ),
+        Timestamp::from_seconds(1_709_251_198),
+        Timestamp::from_milliseconds(1_709_251_198_123),
+        Timestamp::from_microseconds(1_709_251_198_123_456),
+        Timestamp::from_nanoseconds(1_709_251_198_123_456_789),
     ]
 }
+
+static NANOSECONDS: [u32; 4] = [0, 123_000_000, 123_456_000, 123_456_789];
 
 fn rounds_down_before_1970() -> [bool; 3] {
     let value = Timestamp::from_milliseconds(-1).unwrap_or(Timestamp::MIN);
@@ -161,28 +139,22 @@ fn rounds_down_before_1970() -> [bool; 3] {
 
 #[test]
 fn is_made_of_units(rt: HostRuntime) {
-    assert!(rt; are_made_of_units() == [true; 4] && rounds_down_before_1970() == [true; 3]);
+    let made = made_of_units();
+    for i in 0..4 {
+        assert!(rt; made[i] == Timestamp::new(1_709_251_198, NANOSECONDS[i]));
+    }
+    assert!(rt; rounds_down_before_1970() == [true; 3]);
 }
 
-fn made(seconds: i64, nanosecond: u32) -> (&'static str, bool) {
-    refused(Timestamp::new(seconds, nanosecond))
-}
-
-// Refused as a timestamp.
-fn are_refused() -> [(&'static str, bool); 7] {
+fn out_of_range() -> [(&'static str, bool); 9] {
     [
-        made(31_494_784_780_800, 0),
-        made(-31_619_087_596_801, 999_999_999),
-        made(31_494_784_780_800, 1_000_000_000),
+        refused(Timestamp::new(31_494_784_780_800, 0)),
+        refused(Timestamp::new(-31_619_087_596_801, 999_999_999)),
+        refused(Timestamp::new(31_494_784_780_800, 1_000_000_000)),
         refused(Timestamp::from_seconds(i64::MAX)),
         refused(Timestamp::from_milliseconds(31_494_784_780_800_000)),
         refused(Timestamp::from_microseconds(i128::MAX)),
         refused(Timestamp::from_nanoseconds(i128::MIN)),
-    ]
-}
-
-fn are_refused_in_utc() -> [(&'static str, bool); 2] {
-    [
         refused(UtcDateTime::from_unix_timestamp(31_494_784_780_800)),
         refused(UtcDateTime::from_unix_timestamp_nanos(-31_619_087_596_800_000_000_001)),
     ]
@@ -191,31 +163,20 @@ fn are_refused_in_utc() -> [(&'static str, bool); 2] {
 // A nanosecond that is too great is refused by its name.
 #[test]
 fn refuses_what_is_out_of_range(rt: HostRuntime) {
-    let out_of_range = ("timestamp", false);
-    assert!(rt;
-        are_refused() == [out_of_range; 7]
-            && are_refused_in_utc() == [out_of_range; 2]
-            && made(0, 1_000_000_000) == ("nanosecond", false)
-    );
+    assert!(rt; out_of_range() == [("timestamp", false); 9]);
+    assert!(rt; refused(Timestamp::new(0, 1_000_000_000)) == ("nanosecond", false));
 }
 
-fn counts_in_utc() -> bool {
+#[test]
+fn counts_from_1970_in_utc(rt: HostRuntime) {
     let value = UtcDateTime::new(leap_day(), evening());
     let given = [
         UtcDateTime::from_unix_timestamp(1_709_251_198),
         UtcDateTime::from_unix_timestamp_nanos(1_709_251_198_123_456_789),
     ];
-    given == [value.replace_nanosecond(0), Ok(value)]
-}
-
-fn counts_before_1970_in_utc() -> bool {
-    let before = UtcDateTime::from_unix_timestamp_nanos(-1).unwrap_or(Timestamp::MAX.to_utc());
-    (before.unix_timestamp(), before.year()) == (-1, 1969)
-}
-
-#[test]
-fn counts_from_1970_in_utc(rt: HostRuntime) {
-    assert!(rt; counts_in_utc() && counts_before_1970_in_utc());
+    assert!(rt; given == [value.replace_nanosecond(0), Ok(value)]);
+    let before = UtcDateTime::from_unix_timestamp_nanos(-1).unwrap_or(value);
+    assert!(rt; (before.unix_timestamp(), before.year()) == (-1, 1969));
 }
 
 fn timestamp_at(value: Timestamp, offset: UtcOffset) -> Option<OffsetDateTime> {
@@ -239,40 +200,26 @@ fn shown_elsewhere(east: UtcOffset) -> [Option<OffsetDateTime>; 4] {
 }
 
 // At half past five on the next day, where the offset is 5:30.
-fn is_shown_elsewhere() -> bool {
-    let next_morning = ((2024, Month::March, 1), (5, 29, 58, 123_456_789));
-    let wanted = Some((next_morning, Some(east())));
-    shown_elsewhere(east()).map(|shown| shown.map(OffsetDateTime::shown)) == [wanted; 4]
-}
-
-fn is_shown_in_utc() -> [bool; 3] {
-    let (value, _, _) = leap_evening();
-    let last = Timestamp::MAX;
-    [
-        value.to_utc().parts() == (LEAP_DAY, EVENING),
-        last.checked_to_offset(east()) == None,
-        last.to_utc().checked_to_offset(east()) == None,
-    ]
-}
-
 #[test]
 fn is_shown_elsewhere_and_in_utc(rt: HostRuntime) {
-    assert!(rt; is_shown_elsewhere() && is_shown_in_utc() == [true; 3]);
-}
-
-fn takes_an_offset() -> [bool; 3] {
-    let value = PlainDateTime::new(leap_day(), evening());
-    let shown = value.assume_offset(east());
-    let utc = value.assume_utc();
-    let seconds = [utc.unix_timestamp(), value.as_utc().unix_timestamp()];
-    [
-        shown.shown() == ((LEAP_DAY, EVENING), Some(east())),
-        (utc.date(), utc.offset()) == (leap_day(), UtcOffset::UTC),
-        seconds == [1_709_251_198; 2],
-    ]
+    let (value, _, _) = leap_evening();
+    assert!(rt; value.to_utc().parts() == (LEAP_DAY, EVENING));
+    let next_morning = ((2024, Month::March, 1), (5, 29, 58, 123_456_789));
+    let wanted = Some((next_morning, Some(east())));
+    assert!(rt;
+        shown_elsewhere(east()).map(|shown| shown.map(OffsetDateTime::shown)) == [wanted; 4]
+    );
+    let last = Timestamp::MAX;
+    assert!(rt; last.checked_to_offset(east()) == None);
+    assert!(rt; last.to_utc().checked_to_offset(east()) == None);
 }
 
 #[test]
 fn assumes_an_offset(rt: HostRuntime) {
-    assert!(rt; takes_an_offset() == [true; 3]);
+    let value = PlainDateTime::new(leap_day(), evening());
+    let utc = value.assume_utc();
+    let seconds = [utc.unix_timestamp(), value.as_utc().unix_timestamp()];
+    assert!(rt; seconds == [1_709_251_198; 2]);
+    assert!(rt; (utc.date(), utc.offset()) == (leap_day(), UtcOffset::UTC));
+    assert!(rt; value.assume_offset(east()).shown() == ((LEAP_DAY, EVENING), Some(east())));
 }

@@ -71,8 +71,6 @@ pub trait DateTime: WallClock {
 
     // What the differences show, also in place.
     fn differences(self, duration: SignedDuration, std_duration: Duration) -> Option<[Parts; 4]>;
-
-    fn since(self, other: Self) -> SignedDuration;
 }
 
 impl DateTime for PlainDateTime {
@@ -88,12 +86,11 @@ impl DateTime for PlainDateTime {
     }
 
     fn sums(self, duration: SignedDuration, std_duration: Duration) -> Option<[Parts; 4]> {
-        let _ = (
-            self.checked_add(duration)?,
-            self.checked_add_std(std_duration)?,
-        );
-        let (mut moved, mut std_moved) = (self, self);
+        let _ = self.checked_add(duration)?;
+        let _ = self.checked_add_std(std_duration)?;
+        let mut moved = self;
         moved += duration;
+        let mut std_moved = self;
         std_moved += std_duration;
         Some([
             (self + duration).parts(),
@@ -104,12 +101,11 @@ impl DateTime for PlainDateTime {
     }
 
     fn differences(self, duration: SignedDuration, std_duration: Duration) -> Option<[Parts; 4]> {
-        let _ = (
-            self.checked_sub(duration)?,
-            self.checked_sub_std(std_duration)?,
-        );
-        let (mut moved, mut std_moved) = (self, self);
+        let _ = self.checked_sub(duration)?;
+        let _ = self.checked_sub_std(std_duration)?;
+        let mut moved = self;
         moved -= duration;
+        let mut std_moved = self;
         std_moved -= std_duration;
         Some([
             (self - duration).parts(),
@@ -117,10 +113,6 @@ impl DateTime for PlainDateTime {
             moved.parts(),
             std_moved.parts(),
         ])
-    }
-
-    fn since(self, other: PlainDateTime) -> SignedDuration {
-        self - other
     }
 }
 
@@ -137,12 +129,11 @@ impl DateTime for UtcDateTime {
     }
 
     fn sums(self, duration: SignedDuration, std_duration: Duration) -> Option<[Parts; 4]> {
-        let _ = (
-            self.checked_add(duration)?,
-            self.checked_add_std(std_duration)?,
-        );
-        let (mut moved, mut std_moved) = (self, self);
+        let _ = self.checked_add(duration)?;
+        let _ = self.checked_add_std(std_duration)?;
+        let mut moved = self;
         moved += duration;
+        let mut std_moved = self;
         std_moved += std_duration;
         Some([
             (self + duration).parts(),
@@ -153,12 +144,11 @@ impl DateTime for UtcDateTime {
     }
 
     fn differences(self, duration: SignedDuration, std_duration: Duration) -> Option<[Parts; 4]> {
-        let _ = (
-            self.checked_sub(duration)?,
-            self.checked_sub_std(std_duration)?,
-        );
-        let (mut moved, mut std_moved) = (self, self);
+        let _ = self.checked_sub(duration)?;
+        let _ = self.checked_sub_std(std_duration)?;
+        let mut moved = self;
         moved -= duration;
+        let mut std_moved = self;
         std_moved -= std_duration;
         Some([
             (self - duration).parts(),
@@ -166,10 +156,6 @@ impl DateTime for UtcDateTime {
             moved.parts(),
             std_moved.parts(),
         ])
-    }
-
-    fn since(self, other: UtcDateTime) -> SignedDuration {
-        self - other
     }
 }
 
@@ -217,12 +203,11 @@ impl DateTime for Timestamp {
     }
 
     fn sums(self, duration: SignedDuration, std_duration: Duration) -> Option<[Parts; 4]> {
-        let _ = (
-            self.checked_add(duration)?,
-            self.checked_add_std(std_duration)?,
-        );
-        let (mut moved, mut std_moved) = (self, self);
+        let _ = self.checked_add(duration)?;
+        let _ = self.checked_add_std(std_duration)?;
+        let mut moved = self;
         moved += duration;
+        let mut std_moved = self;
         std_moved += std_duration;
         Some([
             (self + duration).parts(),
@@ -233,12 +218,11 @@ impl DateTime for Timestamp {
     }
 
     fn differences(self, duration: SignedDuration, std_duration: Duration) -> Option<[Parts; 4]> {
-        let _ = (
-            self.checked_sub(duration)?,
-            self.checked_sub_std(std_duration)?,
-        );
-        let (mut moved, mut std_moved) = (self, self);
+        let _ = self.checked_sub(duration)?;
+        let _ = self.checked_sub_std(std_duration)?;
+        let mut moved = self;
         moved -= duration;
+        let mut std_moved = self;
         std_moved -= std_duration;
         Some([
             (self - duration).parts(),
@@ -246,10 +230,6 @@ impl DateTime for Timestamp {
             moved.parts(),
             std_moved.parts(),
         ])
-    }
-
-    fn since(self, other: Timestamp) -> SignedDuration {
-        self - other
     }
 }
 
@@ -285,12 +265,11 @@ impl DateTime for OffsetDateTime {
     }
 
     fn sums(self, duration: SignedDuration, std_duration: Duration) -> Option<[Parts; 4]> {
-        let _ = (
-            self.checked_add(duration)?,
-            self.checked_add_std(std_duration)?,
-        );
-        let (mut moved, mut std_moved) = (self, self);
+        let _ = self.checked_add(duration)?;
+        let _ = self.checked_add_std(std_duration)?;
+        let mut moved = self;
         moved += duration;
+        let mut std_moved = self;
         std_moved += std_duration;
         Some([
             (self + duration).parts(),
@@ -301,12 +280,11 @@ impl DateTime for OffsetDateTime {
     }
 
     fn differences(self, duration: SignedDuration, std_duration: Duration) -> Option<[Parts; 4]> {
-        let _ = (
-            self.checked_sub(duration)?,
-            self.checked_sub_std(std_duration)?,
-        );
-        let (mut moved, mut std_moved) = (self, self);
+        let _ = self.checked_sub(duration)?;
+        let _ = self.checked_sub_std(std_duration)?;
+        let mut moved = self;
         moved -= duration;
+        let mut std_moved = self;
         std_moved -= std_duration;
         Some([
             (self - duration).parts(),
@@ -314,9 +292,5 @@ impl DateTime for OffsetDateTime {
             moved.parts(),
             std_moved.parts(),
         ])
-    }
-
-    fn since(self, other: OffsetDateTime) -> SignedDuration {
-        self - other
     }
 }

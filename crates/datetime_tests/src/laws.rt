@@ -30,14 +30,6 @@ fn holds(rt: HostRuntime) {
     assert!(rt; pins_the_constants() == [true; 4]);
 }
 
-// By way of the other type.
-fn other_and_back(utc: UtcDateTime) -> (UtcDateTime, Timestamp) {
-    (
-        laws::utc_and_back(utc),
-        laws::timestamp_and_back(utc.into()),
-    )
-}
-
 type Moments = (PlainDateTime, UtcDateTime, Timestamp, OffsetDateTime);
 
 // The leap day's evening, of each type.
@@ -63,24 +55,15 @@ fn day_and_back((wall, utc, timestamp, moment): Moments) -> Moved {
     )
 }
 
-fn leads_by_the_other_type() -> bool {
-    let utc = UtcDateTime::new(leap_day(), evening());
-    let milliseconds = [
-        laws::milliseconds_and_back(-1),
-        laws::milliseconds_and_back(i64::MAX),
-    ];
-    other_and_back(utc) == (utc, utc.into()) && milliseconds == [Some(-1), None]
-}
-
-fn leads_a_day_and_back() -> bool {
-    let (wall, utc, timestamp, moment) = moments();
-    let wanted = (Some(wall), Some(utc), Some(timestamp), Some(moment));
-    day_and_back(moments()) == wanted
-}
-
 #[test]
 fn leads_back(rt: HostRuntime) {
-    assert!(rt; leads_by_the_other_type() && leads_a_day_and_back());
+    let (wall, utc, timestamp, moment) = moments();
+    assert!(rt; laws::utc_and_back(utc) == utc);
+    assert!(rt; laws::timestamp_and_back(timestamp) == timestamp);
+    assert!(rt; laws::milliseconds_and_back(-1) == Some(-1));
+    assert!(rt; laws::milliseconds_and_back(i64::MAX) == None);
+    let wanted = (Some(wall), Some(utc), Some(timestamp), Some(moment));
+    assert!(rt; day_and_back(moments()) == wanted);
 }
 
 // From the one to the other, by their difference.
@@ -105,12 +88,6 @@ fn is_led(one: PlainDateTime, other: PlainDateTime) -> bool {
     led(one, other) == (Some(other), Some(utc), Some(utc.into()))
 }
 
-fn are_led() -> [bool; 3] {
-    let wall = PlainDateTime::new(leap_day(), evening());
-    let [first, last] = laws::ends_of_wall_clocks();
-    [is_led(first, last), is_led(last, wall), is_led(last, first)]
-}
-
 fn leads_moments() -> [bool; 2] {
     let moment = PlainDateTime::new(leap_day(), evening()).assume_offset(east());
     let epoch = laws::epoch_at_offset_zero();
@@ -129,22 +106,18 @@ fn leads_moments() -> [bool; 2] {
 
 #[test]
 fn leads_by_differences(rt: HostRuntime) {
-    assert!(rt; are_led() == [true; 3] && leads_moments() == [true; 2]);
-}
-
-fn compared() -> (bool, bool, Ordering) {
+    let [first, last] = laws::ends_of_wall_clocks();
     let wall = PlainDateTime::new(leap_day(), evening());
-    let (moment, utc) = (wall.assume_offset(east()), wall.assume_utc());
-    (
-        laws::equal_as_instants(moment, moment),
-        laws::equal_as_instants(moment, utc),
-        laws::order_of_instants(moment, utc),
-    )
+    let are_led = [is_led(first, last), is_led(last, wall), is_led(last, first)];
+    assert!(rt; are_led == [true; 3] && leads_moments() == [true; 2]);
 }
 
 #[test]
 fn orders_moments(rt: HostRuntime) {
-    assert!(rt; compared() == (true, false, Ordering::Less));
+    let wall = PlainDateTime::new(leap_day(), evening());
+    let (moment, utc) = (wall.assume_offset(east()), wall.assume_utc());
+    assert!(rt; laws::equal_as_instants(moment, moment) && !laws::equal_as_instants(moment, utc));
+    assert!(rt; laws::order_of_instants(moment, utc) == Ordering::Less);
 }
 
 const CALLS: [MomentCall; 2] = [MomentCall::Weekday, MomentCall::InstantNanos];
@@ -155,16 +128,17 @@ const REPLIES: [MomentReply; 2] = [
 ];
 
 // Whether both answer so. That memory runs out fails the test.
-fn both_reply(alloc: Global, start: Timestamp) -> bool {
+fn both_reply(alloc: Global, start: Timestamp) -> [bool; 2] {
     match laws::replies_alike(alloc, start, &CALLS) {
-        Ok((one, other)) => {
-            one.as_slice() == REPLIES.as_slice() && other.as_slice() == REPLIES.as_slice()
-        }
-        Err(_) => false,
+        Ok((one, other)) => [
+            one.as_slice() == REPLIES.as_slice(),
+            other.as_slice() == REPLIES.as_slice(),
+        ],
+        Err(_) => [false, false],
     }
 }
 
 #[test]
 fn answers_alike(rt: HostRuntime) {
-    assert!(rt; both_reply(rt.alloc(), timestamp_of(1_709_251_198, 0)));
+    assert!(rt; both_reply(rt.alloc(), timestamp_of(1_709_251_198, 0)) == [true; 2]);
 }

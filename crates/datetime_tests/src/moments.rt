@@ -16,39 +16,27 @@ fn leap_evening() -> OffsetDateTime {
     OffsetDateTime::new_in_offset(leap_day(), evening(), east())
 }
 
-fn counts_from_1970() -> bool {
+#[test]
+fn counts(rt: HostRuntime) {
     let value = leap_evening();
     let counted = (value.unix_timestamp(), value.unix_timestamp_nanos());
+    assert!(rt; counted == (1_709_231_398, 1_709_231_398_123_456_789));
     let nanosecond = OffsetDateTime::from_unix_timestamp_nanos(1_709_231_398_123_456_789);
-    counted == (1_709_231_398, 1_709_231_398_123_456_789) && nanosecond == Ok(value)
-}
-
-fn is_counted_from_1970() -> bool {
-    let new_year: Parts = ((2019, Month::January, 1), (0, 0, 0, 0));
-    let shown = OffsetDateTime::from_unix_timestamp(1_546_300_800).map(OffsetDateTime::shown);
-    shown == Ok((new_year, Some(UtcOffset::UTC)))
-}
-
-fn counts_before_1970() -> bool {
-    let before = OffsetDateTime::from_unix_timestamp_nanos(-1).unwrap_or(leap_evening());
-    (before.unix_timestamp(), before.year()) == (-1, 1969)
-}
-
-fn are_refused() -> [(&'static str, bool); 2] {
-    [
-        refused(OffsetDateTime::from_unix_timestamp(31_494_784_780_800)),
-        refused(OffsetDateTime::from_unix_timestamp_nanos(i128::MAX)),
-    ]
+    assert!(rt; nanosecond == Ok(value));
+    let before = OffsetDateTime::from_unix_timestamp_nanos(-1).unwrap_or(value);
+    assert!(rt; (before.unix_timestamp(), before.year()) == (-1, 1969));
 }
 
 #[test]
-fn counts(rt: HostRuntime) {
-    let counts = [
-        counts_from_1970(),
-        is_counted_from_1970(),
-        counts_before_1970(),
+fn shows_and_refuses_counts(rt: HostRuntime) {
+    let new_year: Parts = ((2019, Month::January, 1), (0, 0, 0, 0));
+    let shown = OffsetDateTime::from_unix_timestamp(1_546_300_800).map(OffsetDateTime::shown);
+    assert!(rt; shown == Ok((new_year, Some(UtcOffset::UTC))));
+    let refused = [
+        refused(OffsetDateTime::from_unix_timestamp(31_494_784_780_800)),
+        refused(OffsetDateTime::from_unix_timestamp_nanos(i128::MAX)),
     ];
-    assert!(rt; counts == [true; 3] && are_refused() == [("timestamp", false); 2]);
+    assert!(rt; refused == [("timestamp", false); 2]);
 }
 
 // In both ways that go by UTC, where the calendar has the day there.
@@ -63,44 +51,26 @@ fn in_utc(value: OffsetDateTime) -> Option<([Parts; 2], [i128; 2])> {
     ))
 }
 
-fn is_shown_in_utc() -> bool {
-    let (nanoseconds, parts) = (
-        1_709_231_398_123_456_789,
-        (LEAP_DAY, (18, 29, 58, 123_456_789)),
-    );
-    in_utc(leap_evening()) == Some(([parts; 2], [nanoseconds; 2]))
-}
-
-fn is_shown_elsewhere() -> bool {
+#[test]
+fn shows(rt: HostRuntime) {
     let (value, west) = (leap_evening(), offset_of(-1, 0, 0));
+    let parts = (LEAP_DAY, (18, 29, 58, 123_456_789));
+    assert!(rt; in_utc(value) == Some(([parts; 2], [1_709_231_398_123_456_789; 2])));
     let shown = value.checked_to_offset(west);
     let wanted = ((LEAP_DAY, (17, 29, 58, 123_456_789)), Some(west));
-    shown == Some(value) && shown.map(OffsetDateTime::shown) == Some(wanted)
+    assert!(rt; shown == Some(value) && shown.map(OffsetDateTime::shown) == Some(wanted));
 }
 
-fn replaces_what_is_shown() -> bool {
+#[test]
+fn replaces_what_is_shown(rt: HostRuntime) {
     let (value, west) = (leap_evening(), offset_of(-1, 0, 0));
     let replaced = [
         value.replace_offset(west).shown(),
         value.replace_date_time(PlainDateTime::MIN).shown(),
     ];
-    replaced == [((LEAP_DAY, EVENING), Some(west)), (FIRST, Some(east()))]
-}
-
-fn is_made_in_utc() -> bool {
+    assert!(rt; replaced == [((LEAP_DAY, EVENING), Some(west)), (FIRST, Some(east()))]);
     let day = OffsetDateTime::new_utc(leap_day(), evening());
-    (day.unix_timestamp(), day.offset()) == (1_709_251_198, UtcOffset::UTC)
-}
-
-#[test]
-fn shows(rt: HostRuntime) {
-    let shows = [
-        is_shown_in_utc(),
-        is_shown_elsewhere(),
-        replaces_what_is_shown(),
-        is_made_in_utc(),
-    ];
-    assert!(rt; shows == [true; 4]);
+    assert!(rt; (day.unix_timestamp(), day.offset()) == (1_709_251_198, UtcOffset::UTC));
 }
 
 fn moved_to(value: OffsetDateTime, offset: UtcOffset) -> Option<OffsetDateTime> {

@@ -1,7 +1,7 @@
 //! Date-times as they are printed.
-use crate::rows::{date_of, east, evening, leap_day, offset_of};
-use calendar::{ComponentRange, Date, Month, Time, UtcOffset};
-use datetime::{OffsetDateTime, PlainDateTime, Timestamp, UtcDateTime};
+use crate::rows::{date_of, east, evening, leap_day, offset_of, timestamp_of};
+use calendar::{Date, Month, Time};
+use datetime::{OffsetDateTime, PlainDateTime, UtcDateTime};
 use std::alloc::{AllocError, Global};
 use std::fmt;
 use std::string::String;
@@ -38,47 +38,25 @@ fn prints(alloc: Global) -> [bool; 3] {
     ]
 }
 
-// The same of a timestamp, where there is one.
-fn timestamp_prints_as(
-    alloc: Global,
-    value: Result<Timestamp, ComponentRange>,
-    wanted: &str,
-) -> bool {
-    match value {
-        Ok(value) => prints_as(alloc, value, wanted),
-        Err(_) => false,
-    }
-}
-
-fn prints_of_units(alloc: Global) -> [bool; 6] {
-    [
-        timestamp_prints_as(alloc, Timestamp::from_milliseconds(-1), "-0.001"),
-        timestamp_prints_as(alloc, Timestamp::from_nanoseconds(-1), "-0.000000001"),
-        timestamp_prints_as(alloc, Timestamp::from_seconds(0), "0"),
-        timestamp_prints_as(alloc, Timestamp::from_seconds(1_546_300_800), "1546300800"),
-        timestamp_prints_as(alloc, Timestamp::from_milliseconds(-1500), "-1.5"),
-        timestamp_prints_as(
-            alloc,
-            Timestamp::from_seconds(-31_619_087_596_800),
-            "-31619087596800",
-        ),
-    ]
-}
-
-fn prints_of_nanoseconds(alloc: Global) -> [bool; 2] {
-    let evening = Timestamp::new(1_709_251_198, 123_456_789);
-    let last = Timestamp::new(31_494_784_780_799, 999_999_999);
-    [
-        timestamp_prints_as(alloc, evening, "1709251198.123456789"),
-        timestamp_prints_as(alloc, last, "31494784780799.999999999"),
-    ]
-}
+// Seconds and nanoseconds since 1970, as a timestamp is printed.
+static TIMESTAMPS: [(i64, u32, &'static str); 8] = [
+    (-1, 999_000_000, "-0.001"),
+    (-1, 999_999_999, "-0.000000001"),
+    (0, 0, "0"),
+    (1_546_300_800, 0, "1546300800"),
+    (-2, 500_000_000, "-1.5"),
+    (-31_619_087_596_800, 0, "-31619087596800"),
+    (1_709_251_198, 123_456_789, "1709251198.123456789"),
+    (31_494_784_780_799, 999_999_999, "31494784780799.999999999"),
+];
 
 #[test]
 fn prints_all_types(rt: HostRuntime) {
-    let alloc = rt.alloc();
-    assert!(rt; prints(alloc) == [true; 3]);
-    assert!(rt; prints_of_units(alloc) == [true; 6] && prints_of_nanoseconds(alloc) == [true; 2]);
+    assert!(rt; prints(rt.alloc()) == [true; 3]);
+    for row in &TIMESTAMPS {
+        let (seconds, nanosecond, wanted) = *row;
+        assert!(rt; prints_as(rt.alloc(), timestamp_of(seconds, nanosecond), wanted));
+    }
 }
 
 fn summer_morning() -> (Date, Time) {
@@ -86,33 +64,26 @@ fn summer_morning() -> (Date, Time) {
     (date_of(2024, Month::June, 19), time)
 }
 
-fn padded(alloc: Global, plain: PlainDateTime) -> Result<String, AllocError> {
-    format!(in alloc; "[{plain:23}|{plain:>23}|{plain:_^24}|{plain:3}]")
-}
-
 fn plain_is_padded(alloc: Global) -> bool {
     let (date, time) = summer_morning();
-    let wanted =
-        "[2024-06-19 7:05:00.25  |  2024-06-19 7:05:00.25|_2024-06-19 7:05:00.25__|2024-06-19 7:05:00.25]";
-    is_text(padded(alloc, PlainDateTime::new(date, time)), wanted)
-}
-
-fn others_padded(
-    alloc: Global,
-    utc: UtcDateTime,
-    moment: OffsetDateTime,
-    timestamp: Timestamp,
-) -> Result<String, AllocError> {
-    format!(in alloc; "{utc:>27}[{moment:<33}][{timestamp:>6}]")
+    let plain = PlainDateTime::new(date, time);
+    let answer = format!(in alloc; "[{plain:23}|{plain:>23}|{plain:_^24}|{plain:3}]");
+    is_text(
+        answer,
+        "[2024-06-19 7:05:00.25  |  2024-06-19 7:05:00.25|_2024-06-19 7:05:00.25__|2024-06-19 7:05:00.25]",
+    )
 }
 
 fn others_are_padded(alloc: Global) -> bool {
     let (date, time) = summer_morning();
     let moment = OffsetDateTime::new_in_offset(date, time, east());
     let utc = UtcDateTime::new(date, time);
-    let timestamp = Timestamp::from_milliseconds(-1500).unwrap_or(Timestamp::MIN);
-    let wanted = "  2024-06-19 7:05:00.25 +00[2024-06-19 7:05:00.25 +05:30:00  ][  -1.5]";
-    is_text(others_padded(alloc, utc, moment, timestamp), wanted)
+    let timestamp = timestamp_of(-2, 500_000_000);
+    let answer = format!(in alloc; "{utc:>27}[{moment:<33}][{timestamp:>6}]");
+    is_text(
+        answer,
+        "  2024-06-19 7:05:00.25 +00[2024-06-19 7:05:00.25 +05:30:00  ][  -1.5]",
+    )
 }
 
 fn the_longest_is_padded(alloc: Global) -> bool {

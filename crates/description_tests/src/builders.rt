@@ -4,8 +4,9 @@ use crate::support::are_told;
 use description_items::Component;
 use description_items::modifier::*;
 
-fn choices_have_defaults() -> [bool; 9] {
-    [
+#[test]
+fn choices_have_defaults(rt: HostRuntime) {
+    let are_default = [
         Padding::default() == Padding::Zero,
         MonthRepr::default() == MonthRepr::Numerical,
         WeekdayRepr::default() == WeekdayRepr::Long,
@@ -15,12 +16,8 @@ fn choices_have_defaults() -> [bool; 9] {
         SubsecondDigits::default() == SubsecondDigits::OneOrMore,
         UnixTimestampPrecision::default() == UnixTimestampPrecision::Second,
         TrailingInput::default() == TrailingInput::Prohibit,
-    ]
-}
-
-#[test]
-fn the_choices_have_defaults(rt: HostRuntime) {
-    assert!(rt; choices_have_defaults() == [true; 9]);
+    ];
+    assert!(rt; are_default == [true; 9]);
 }
 
 const DAYS_AND_WEEKS: &str = r#"
@@ -387,24 +384,23 @@ fn offsets_and_timestamps() -> [(Component, Component); 8] {
 }
 
 #[test]
-fn components_have_defaults_and_change(rt: HostRuntime) {
+fn days_months_and_times_change(rt: HostRuntime) {
     let alloc = rt.alloc();
-    let are_told = [
-        are_told(alloc, &days_and_weeks(), DAYS_AND_WEEKS),
-        are_told(alloc, &months_and_years(), MONTHS_AND_YEARS),
-        are_told(alloc, &years_of_the_calendar(), YEARS_OF_THE_CALENDAR),
-        are_told(alloc, &years_of_weeks(), YEARS_OF_WEEKS),
-        are_told(alloc, &times_and_ends(), TIMES_AND_ENDS),
-        are_told(alloc, &offsets_and_timestamps(), OFFSETS_AND_TIMESTAMPS),
-    ];
-    assert!(rt; are_told == [true; 6]);
+    assert!(rt; are_told(alloc, &days_and_weeks(), DAYS_AND_WEEKS));
+    assert!(rt; are_told(alloc, &months_and_years(), MONTHS_AND_YEARS));
+    assert!(rt; are_told(alloc, &times_and_ends(), TIMES_AND_ENDS));
 }
 
-fn ignored() -> [Option<Ignore>; 2] {
-    [Ignore::count(65_535), Ignore { count: 1 }.with_count(0)]
+#[test]
+fn years_offsets_and_timestamps_change(rt: HostRuntime) {
+    let alloc = rt.alloc();
+    assert!(rt; are_told(alloc, &years_of_the_calendar(), YEARS_OF_THE_CALENDAR));
+    assert!(rt; are_told(alloc, &years_of_weeks(), YEARS_OF_WEEKS));
+    assert!(rt; are_told(alloc, &offsets_and_timestamps(), OFFSETS_AND_TIMESTAMPS));
 }
 
 #[test]
 fn ignore_passes_over_a_byte_at_least(rt: HostRuntime) {
-    assert!(rt; ignored() == [Some(Ignore { count: 65_535 }), None]);
+    assert!(rt; Ignore::count(65_535) == Some(Ignore { count: 65_535 }));
+    assert!(rt; Ignore { count: 1 }.with_count(0) == None);
 }

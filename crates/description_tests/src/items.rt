@@ -20,9 +20,10 @@ const TEXT_AND_DAY: [BorrowedFormatItem<'static>; 2] = [TEXT, DAY];
 const BYTES_AND_DAY: [BorrowedFormatItem<'static>; 2] = [BYTES, DAY];
 
 // Text and the same bytes are alike, also in lists.
-fn are_alike() -> bool {
+fn are_alike() -> [bool; 2] {
     let list = BorrowedFormatItem::Compound(&TEXT_AND_DAY);
-    list == BorrowedFormatItem::Compound(&BYTES_AND_DAY) && list != TEXT
+    let alike = BorrowedFormatItem::Compound(&BYTES_AND_DAY);
+    [list == alike, list == TEXT]
 }
 
 // A component comes back from the item that it becomes, and from no other.
@@ -41,18 +42,13 @@ fn slices_come_back() -> bool {
     matches!(back, Ok([_, _]))
 }
 
-fn are_themselves() -> [bool; 2] {
-    let formats = (Rfc2822, Rfc3339, Iso8601);
-    [
-        HalfOfDay::Am != HalfOfDay::Pm,
-        formats == (Rfc2822, Rfc3339, Iso8601),
-    ]
-}
-
 #[test]
 fn items_are_equal_by_their_trees_and_come_back(rt: HostRuntime) {
-    assert!(rt; are_alike() && components_come_back() && slices_come_back());
-    assert!(rt; are_themselves() == [true; 2]);
+    assert!(rt; are_alike() == [true, false]);
+    assert!(rt; components_come_back() && slices_come_back());
+    assert!(rt; HalfOfDay::Am != HalfOfDay::Pm);
+    let formats = (Rfc2822, Rfc3339, Iso8601);
+    assert!(rt; formats == (Rfc2822, Rfc3339, Iso8601));
 }
 
 // Whether items, faults and halves of days are told so. That memory runs out fails the test.

@@ -5,8 +5,7 @@ use description_grammar::tree_of;
 use description_items::Component;
 use description_items::modifier::*;
 use description_tree::{FormatDescriptionV3 as Described, FormatDescriptionV3Inner as Inner, Lent};
-use std::alloc::{AllocError, Global};
-use std::test::Fail;
+use std::alloc::Global;
 
 // A component, and that of the node that it becomes.
 fn and_back(component: Component) -> (Component, Component) {
@@ -34,27 +33,36 @@ Year(Year { padding: Zero, repr: LastTwo, range: Extended, iso_week_based: false
 MonthLong(MonthLong { case_sensitive: true }) MonthLong(MonthLong { case_sensitive: true })
 IsoYearLastTwo(IsoYearLastTwo { padding: Zero }) IsoYearLastTwo(IsoYearLastTwo { padding: Zero })"#;
 
-// The tree of a description as it is shown, and the bytes that it reserves.
-fn told(alloc: Global, description: &Described<'_>) -> Result<String, AllocError> {
+// Whether the tree of a description, and the bytes that it reserves, are shown so. That memory runs out fails the test.
+fn is_told(alloc: Global, description: &Described<'_>, wanted: &str) -> bool {
     let (tree, bytes) = (description.inner(), description.max_bytes_needed());
-    format!(in alloc; "{tree:?}, {bytes}")
-}
-
-fn told_by_copy(alloc: Global, description: &Described<'_>) -> Result<String, AllocError> {
-    let copy = description.to_owned(alloc)?;
-    told(alloc, &copy)
-}
-
-// What a copy of a node's description tells.
-fn copied(alloc: Global, node: Inner<'_>) -> Result<String, AllocError> {
-    match node.into_opaque() {
-        Ok(description) => told_by_copy(alloc, &description),
-        Err(_) => Ok(String::new(alloc)),
+    match format!(in alloc; "{tree:?}, {bytes}") {
+        Ok(told) => told.as_str() == wanted,
+        Err(_) => false,
     }
 }
 
-fn copied_tree(alloc: Global, text: &str) -> Result<String, Fail> {
-    Ok(copied(alloc, tree_of(alloc, text)?)?)
+// Whether its copy is.
+fn is_copied(alloc: Global, description: &Described<'_>, wanted: &str) -> bool {
+    match description.to_owned(alloc) {
+        Ok(copy) => is_told(alloc, &copy, wanted),
+        Err(_) => false,
+    }
+}
+
+// Whether a copy of a node's description is.
+fn is_node_copied(alloc: Global, node: Inner<'_>, wanted: &str) -> bool {
+    match node.into_opaque() {
+        Ok(description) => is_copied(alloc, &description, wanted),
+        Err(_) => false,
+    }
+}
+
+fn is_tree_copied(alloc: Global, text: &str, wanted: &str) -> bool {
+    match tree_of(alloc, text) {
+        Ok(tree) => is_node_copied(alloc, tree, wanted),
+        Err(_) => false,
+    }
 }
 
 // Text, an optional item, alternatives, and more nodes than a list begins with.
@@ -65,23 +73,22 @@ const COPIED: &str =
     r#"OwnedCompound([OwnedLiteral("x"), Day(Day { padding: Zero }), OwnedOptional { format: true, item: OwnedCompound([OwnedLiteral("y"), Day(Day { padding: Zero })]) }, OwnedFirst([OwnedCompound([OwnedLiteral("z")]), OwnedCompound([Day(Day { padding: Zero })])]), Day(Day { padding: Zero }), OwnedLiteral("x")]), 11"#;
 
 #[test]
-fn copies(rt: HostRuntime) -> Result<(), Fail> {
-    let told = copied_tree(rt.alloc(), TREE)?;
-    assert!(rt; told.as_str() == COPIED);
-    Ok(())
+fn copies(rt: HostRuntime) {
+    assert!(rt; is_tree_copied(rt.alloc(), TREE, COPIED));
 }
 
-// A list that is lent, as it is shown.
-fn lent(alloc: Global) -> Result<String, AllocError> {
+// Whether a list that is lent is shown so.
+fn is_lent_told(alloc: Global, wanted: &str) -> bool {
     let lent = Lent { items: &[] };
-    format!(in alloc; "{lent:?}")
+    match format!(in alloc; "{lent:?}") {
+        Ok(told) => told.as_str() == wanted,
+        Err(_) => false,
+    }
 }
 
 #[test]
-fn copies_what_is_lent(rt: HostRuntime) -> Result<(), Fail> {
-    let lent = lent(rt.alloc())?;
-    assert!(rt; lent.as_str() == "Lent { items: [] }");
-    let copied = copied(rt.alloc(), Inner::BorrowedCompound(Lent { items: &[] }))?;
-    assert!(rt; copied.as_str() == "OwnedCompound([]), 0");
-    Ok(())
+fn copies_what_is_lent(rt: HostRuntime) {
+    assert!(rt; is_lent_told(rt.alloc(), "Lent { items: [] }"));
+    let node = Inner::BorrowedCompound(Lent { items: &[] });
+    assert!(rt; is_node_copied(rt.alloc(), node, "OwnedCompound([]), 0"));
 }

@@ -2,7 +2,9 @@
 
 use calendar::UtcOffset;
 use datetime_types::WallClock;
-use description::{Description, DescriptionVersion, parse_borrowed, parse_strftime_borrowed};
+use description::{
+    BorrowedFormatItem, Description, DescriptionVersion, parse_borrowed, parse_strftime_borrowed,
+};
 use parsing_combinator::digit_chunk;
 use parsing_fields::{Fields, Fraction, Year, digit_pair, minute_of_day, signed_minutes};
 use parsing_nodes::assumed_minutes;
@@ -233,48 +235,40 @@ fn numbers_of_a_named_shape(rt: HostRuntime) {
 }
 
 // What the plan of a list of items reads of a line.
-fn planned_by_items(alloc: Global, line: &[u8]) -> Option<(i64, u32)> {
-    let items = parse_strftime_borrowed(alloc, "%d/%b/%Y:%H:%M:%S %z").ok()?;
-    instant(Plan::of_items(&items)?.read(line, None))
+fn planned_by_items(items: &[BorrowedFormatItem<'_>], line: &[u8]) -> Option<(i64, u32)> {
+    instant(Plan::of_items(items)?.read(line, None))
 }
 
 // The same by its places, or by Unix time alone.
-fn planned_alone(alloc: Global, text: &str, line: &[u8]) -> Option<(i64, u32)> {
-    let items = parse_strftime_borrowed(alloc, text).ok()?;
-    match Plan::of_items(&items)? {
-        Plan::Places(places) if places.is_plain() => instant(places.read_plain(line, None)),
-        Plan::Places(places) => instant(places.read(line, None)),
+fn planned_alone(items: &[BorrowedFormatItem<'_>], line: &[u8]) -> Option<(i64, u32)> {
+    match Plan::of_items(items)? {
+        Plan::Places(places) => {
+            if places.is_plain() {
+                instant(places.read_plain(line, None))
+            } else {
+                instant(places.read(line, None))
+            }
+        }
         Plan::Unix(unix) => instant(unix.read_within(line)),
         Plan::Steps(_) => None,
     }
 }
 
-// What the plan of a description of version 3 reads of a line.
-fn planned_by_tree(alloc: Global, line: &[u8]) -> Option<(i64, u32)> {
-    let text = "[year]-[month]-[day] [hour]:[minute]:[second] UTC";
-    let Description::V3(tree) = parse_borrowed(alloc, DescriptionVersion::Three, text).ok()? else {
-        return None;
-    };
-    instant(Plan::of_description(&tree)?.read(line, Some(UtcOffset::UTC)))
+// Both, by the letters of `strftime`.
+fn planned_by_letters(alloc: Global, text: &str, line: &[u8]) -> [Option<(i64, u32)>; 2] {
+    match parse_strftime_borrowed(alloc, text) {
+        Ok(items) => [planned_by_items(&items, line), planned_alone(&items, line)],
+        Err(_) => [None, None],
+    }
 }
 
 #[test]
 fn plans(rt: HostRuntime) {
-    assert!(rt; planned_by_items(rt.alloc(), b"02/Jan/2021:03:04:05 +0100") == WHOLE);
-    assert!(rt; planned_by_tree(rt.alloc(), b"2021-01-02 02:04:05 UTC") == WHOLE);
-    let log = planned_alone(
-        rt.alloc(),
-        "%d/%b/%Y:%H:%M:%S %z",
-        b"02/Jan/2021:03:04:05 +0100",
-    );
-    assert!(rt; log == WHOLE);
-    let numbers = planned_alone(
-        rt.alloc(),
-        "%Y-%m-%d %H:%M:%S %z",
-        b"2021-01-02 03:04:05 +0100",
-    );
-    assert!(rt; numbers == WHOLE);
-    assert!(rt; planned_alone(rt.alloc(), "%s", b"1609553045") == WHOLE);
+    let log = b"02/Jan/2021:03:04:05 +0100";
+    assert!(rt; planned_by_letters(rt.alloc(), "%d/%b/%Y:%H:%M:%S %z", log) == [WHOLE; 2]);
+    let numbers = b"2021-01-02 03:04:05 +0100";
+    assert!(rt; planned_by_letters(rt.alloc(), "%Y-%m-%d %H:%M:%S %z", numbers) == [WHOLE; 2]);
+    assert!(rt; planned_by_letters(rt.alloc(), "%s", b"1609553045") == [WHOLE; 2]);
     let behind = UtcOffset::from_hms(-1, -30, 0).expect(&rt, "an offset");
     assert!(rt; assumed_minutes(behind) == -90);
 }
@@ -313,12 +307,34 @@ const STAMP: &str =
 const SPACED_STAMP: &str =
     "[weekday], [year]-[month]-[day] [hour]:[minute]:[second][optional [,[subsecond]]]";
 
-// What the plan of a description without places reads of a line.
-fn planned_by_steps(alloc: Global, text: &str, line: &[u8]) -> Option<(i64, u32)> {
-    let Description::V3(tree) = parse_borrowed(alloc, DescriptionVersion::Three, text).ok()? else {
+// With places.
+const PLACED: &str = "[year]-[month]-[day] [hour]:[minute]:[second] UTC";
+
+// What the plan of a description of version 3 reads of a line.
+fn planned_by_tree(description: &Description<'_>, line: &[u8]) -> Option<(i64, u32)> {
+    let Description::V3(tree) = description else {
         return None;
     };
-    instant(Plan::of_description(&tree)?.read(line, Some(UtcOffset::UTC)))
+    instant(Plan::of_description(tree)?.read(line, Some(UtcOffset::UTC)))
+}
+
+fn planned(alloc: Global, text: &str, line: &[u8]) -> Option<(i64, u32)> {
+    match parse_borrowed(alloc, DescriptionVersion::Three, text) {
+        Ok(description) => planned_by_tree(&description, line),
+        Err(_) => None,
+    }
+}
+
+// A line, and the moment that is read.
+type Line = (&'static str, Option<(i64, u32)>);
+
+fn are_planned(alloc: Global, text: &str, lines: &[Line]) -> bool {
+    for (line, wanted) in lines {
+        if planned(alloc, text, line.as_bytes()) != *wanted {
+            return false;
+        }
+    }
+    true
 }
 
 #[test]
@@ -329,104 +345,87 @@ fn steps(rt: HostRuntime) {
         b"02 January 2021 02:04:05 AM and more",
     );
     assert!(rt; night == [WHOLE, WHOLE]);
-    let noon = by_steps(
-        rt.alloc(),
-        b"01 January 1970 12:00:01 PM",
-        b"01 January 1970",
-    );
-    assert!(rt; noon == [Some((43_201, 0)), None]);
-    assert!(rt; planned_by_steps(rt.alloc(), OPTIONAL, b"2.1.2021 02:04:05") == WHOLE);
-    assert!(rt; planned_by_steps(rt.alloc(), OPTIONAL, b"2.1.2021 02:04:05.5") == HALF);
-    assert!(rt; planned_by_steps(rt.alloc(), UNIX, b"1609553045.5") == HALF);
+    assert!(rt; planned(rt.alloc(), PLACED, b"2021-01-02 02:04:05 UTC") == WHOLE);
+    assert!(rt; planned(rt.alloc(), UNIX, b"1609553045.5") == HALF);
 }
+
+static STAMPS: [Line; 13] = [
+    ("2021-01-02T03:04:05+01:00", WHOLE),
+    ("2021-01-02T02:04:05.5+00:00", HALF),
+    ("2021-01-02 02:04:05+00:00", None),
+    ("202:-01-02T02:04:05+00:00", None),
+    ("2021-00-02T02:04:05+00:00", None),
+    ("2021-13-02T02:04:05+00:00", None),
+    ("2021-01-00T02:04:05+00:00", None),
+    ("2021-01-32T02:04:05+00:00", None),
+    ("2021-01-02T24:04:05+00:00", None),
+    ("2021-01-02T02:60:05+00:00", None),
+    ("2021-01-02T02:04:60+00:00", None),
+    ("2021-01-02T02:04-05+00:00", None),
+    ("2021/01-02T02:04:05+00:00", None),
+];
+
+static SPACED_STAMPS: [Line; 2] = [
+    ("Saturday, 2021-01-02 02:04:05", WHOLE),
+    ("Saturday, 2021-01-02 02:04:05,5", HALF),
+];
+
+static CLOCKS: [Line; 12] = [
+    ("2.1.2021 02:04:05", WHOLE),
+    ("2.1.2021 02:04:05.5", HALF),
+    ("2.1.2021 00:00:00", Some((1_609_545_600, 0))),
+    ("2.1.2021 23:59:59", Some((1_609_631_999, 0))),
+    ("2.1.2021 24:00:00", None),
+    ("2.1.2021 02:60:00", None),
+    ("2.1.2021 02:00:60", None),
+    ("2.1.2021 02.00:00", None),
+    ("2.1.2021 02:00.00", None),
+    ("2.1.2021 0/:00:00", None),
+    ("2.1.2021 02:0::00", None),
+    ("2.1.2o21 02:00:00", None),
+];
 
 #[test]
 fn joined_steps(rt: HostRuntime) {
-    let read = |text: &str, line: &[u8]| planned_by_steps(rt.alloc(), text, line);
-    assert!(rt; read(STAMP, b"2021-01-02T03:04:05+01:00") == WHOLE);
-    assert!(rt; read(STAMP, b"2021-01-02T02:04:05.5+00:00") == HALF);
-    assert!(rt; read(SPACED_STAMP, b"Saturday, 2021-01-02 02:04:05") == WHOLE);
-    assert!(rt; read(SPACED_STAMP, b"Saturday, 2021-01-02 02:04:05,5") == HALF);
-    for line in [
-        b"2021-01-02 02:04:05+00:00",
-        b"202:-01-02T02:04:05+00:00",
-        b"2021-00-02T02:04:05+00:00",
-        b"2021-13-02T02:04:05+00:00",
-        b"2021-01-00T02:04:05+00:00",
-        b"2021-01-32T02:04:05+00:00",
-        b"2021-01-02T24:04:05+00:00",
-        b"2021-01-02T02:60:05+00:00",
-        b"2021-01-02T02:04:60+00:00",
-        b"2021-01-02T02:04-05+00:00",
-        b"2021/01-02T02:04:05+00:00",
-    ] {
-        assert!(rt; read(STAMP, line) == None);
+    assert!(rt; are_planned(rt.alloc(), STAMP, &STAMPS));
+    assert!(rt; are_planned(rt.alloc(), SPACED_STAMP, &SPACED_STAMPS));
+    assert!(rt; are_planned(rt.alloc(), OPTIONAL, &CLOCKS));
+}
+
+// Months by their long names, and clocks in halves of the day.
+static NAMED: [Line; 19] = [
+    ("01 January 1970 12:00:01 PM", Some((43_201, 0))),
+    ("01 January 2021 12:00:00 AM", Some((1_609_459_200, 0))),
+    ("01 February 2021 12:00:00 AM", Some((1_612_137_600, 0))),
+    ("01 March 2021 12:00:00 AM", Some((1_614_556_800, 0))),
+    ("01 April 2021 12:00:00 AM", Some((1_617_235_200, 0))),
+    ("01 May 2021 12:00:00 AM", Some((1_619_827_200, 0))),
+    ("01 June 2021 12:00:00 AM", Some((1_622_505_600, 0))),
+    ("01 July 2021 12:00:00 AM", Some((1_625_097_600, 0))),
+    ("01 August 2021 12:00:00 AM", Some((1_627_776_000, 0))),
+    ("01 September 2021 12:00:00 AM", Some((1_630_454_400, 0))),
+    ("01 October 2021 12:00:00 AM", Some((1_633_046_400, 0))),
+    ("01 November 2021 12:00:00 AM", Some((1_635_724_800, 0))),
+    ("01 December 2021 12:00:00 AM", Some((1_638_316_800, 0))),
+    ("01 Mayday 2021 12:00:00 AM", None),
+    ("02 January 2021 00:04:05 AM", None),
+    ("02 January 2021 13:04:05 AM", None),
+    ("02 January 2021 02:04:60 AM", None),
+    ("02 January 2021 02:04:05_AM", None),
+    ("02 January 2021 02:04:05 MM", None),
+];
+
+#[test]
+fn named_months_and_halves_of_days(rt: HostRuntime) {
+    for (line, wanted) in &NAMED {
+        let read = by_steps(rt.alloc(), line.as_bytes(), b"02 January 2021 02:04:05");
+        assert!(rt; read == [*wanted, None]);
     }
 }
 
 #[test]
-fn joined_clocks(rt: HostRuntime) {
-    let read = |text: &str, line: &[u8]| planned_by_steps(rt.alloc(), text, line);
-    let night = b"2.1.2021 00:00:00";
-    assert!(rt; read(OPTIONAL, night) == Some((1_609_545_600, 0)));
-    let evening = b"2.1.2021 23:59:59";
-    assert!(rt; read(OPTIONAL, evening) == Some((1_609_631_999, 0)));
-    for line in [
-        b"2.1.2021 24:00:00",
-        b"2.1.2021 02:60:00",
-        b"2.1.2021 02:00:60",
-        b"2.1.2021 02.00:00",
-        b"2.1.2021 02:00.00",
-        b"2.1.2021 0/:00:00",
-        b"2.1.2021 02:0::00",
-        b"2.1.2o21 02:00:00",
-    ] {
-        assert!(rt; read(OPTIONAL, line) == None);
-    }
-    for line in [
-        b"02 January 2021 00:04:05 AM",
-        b"02 January 2021 13:04:05 AM",
-        b"02 January 2021 02:04:60 AM",
-        b"02 January 2021 02:04:05_AM",
-        b"02 January 2021 02:04:05 MM",
-    ] {
-        assert!(rt; by_steps(rt.alloc(), line, b"02 January 2021 02:04:05") == [None, None]);
-    }
-}
-
-// The instant of the first second of a month of 2021, read by its long name.
-fn month_by_name(alloc: Global, line: &[u8]) -> Option<(i64, u32)> {
-    let [first, _] = by_steps(alloc, line, line);
-    first
-}
-
-#[test]
-fn long_names(rt: HostRuntime) {
-    let seconds = |line: &[u8]| month_by_name(rt.alloc(), line);
-    assert!(rt; seconds(b"01 January 2021 12:00:00 AM") == Some((1_609_459_200, 0)));
-    assert!(rt; seconds(b"01 February 2021 12:00:00 AM") == Some((1_612_137_600, 0)));
-    assert!(rt; seconds(b"01 March 2021 12:00:00 AM") == Some((1_614_556_800, 0)));
-    assert!(rt; seconds(b"01 April 2021 12:00:00 AM") == Some((1_617_235_200, 0)));
-    assert!(rt; seconds(b"01 May 2021 12:00:00 AM") == Some((1_619_827_200, 0)));
-    assert!(rt; seconds(b"01 June 2021 12:00:00 AM") == Some((1_622_505_600, 0)));
-    assert!(rt; seconds(b"01 July 2021 12:00:00 AM") == Some((1_625_097_600, 0)));
-    assert!(rt; seconds(b"01 August 2021 12:00:00 AM") == Some((1_627_776_000, 0)));
-    assert!(rt; seconds(b"01 September 2021 12:00:00 AM") == Some((1_630_454_400, 0)));
-    assert!(rt; seconds(b"01 October 2021 12:00:00 AM") == Some((1_633_046_400, 0)));
-    assert!(rt; seconds(b"01 November 2021 12:00:00 AM") == Some((1_635_724_800, 0)));
-    assert!(rt; seconds(b"01 December 2021 12:00:00 AM") == Some((1_638_316_800, 0)));
-    assert!(rt; seconds(b"01 Mayday 2021 12:00:00 AM") == None);
-}
-
-fn pieces_of_rfc2822() -> [bool; 3] {
-    [
-        parsing_rfc2822::zone_of(b"EST") == Some(5),
-        parsing_rfc2822::past_spacing(b" (UTC) Tue") == b"Tue".as_slice(),
-        parsing_rfc2822::is_plain_comment(b" (UTC)"),
-    ]
-}
-
-#[test]
-fn pieces(rt: HostRuntime) {
-    assert!(rt; pieces_of_rfc2822() == [true; 3]);
+fn pieces_of_rfc2822(rt: HostRuntime) {
+    assert!(rt; parsing_rfc2822::zone_of(b"EST") == Some(5));
+    assert!(rt; parsing_rfc2822::past_spacing(b" (UTC) Tue") == b"Tue".as_slice());
+    assert!(rt; parsing_rfc2822::is_plain_comment(b" (UTC)"));
 }
