@@ -7,5 +7,6 @@ pub mod Fields
 pub mod Asked
 pub mod Showing
 pub mod Writing
+pub mod Wrote
 pub mod ProgramText
 pub mod Program

@@ -1,11 +1,10 @@
 //! What the sources say of a line, each of which reads it as a whole.
-ghost use Rattle.std.specs.Prelude.{◌≡◌, [], ◌∷◌, ◌++◌, true, false, decimal, option_map, OnOk, OnErr};
-ghost use Rattle.std.specs.Io.KnownBytes.{Appends};
+ghost use Rattle.std.specs.Prelude.{◌≡◌, [], ◌∷◌, ◌++◌, false, decimal, option_map};
 ghost use Rattle.base.specs.Bytes.{tab, line_feed};
-ghost use Rattle.instants_stream.specs.Known.{AppendsPrefix};
 ghost use Rattle.instants_prefixes.specs.DateSource.{grammar_in};
 ghost use Rattle.instants_lines.specs.Showing.{setting_in};
 ghost use Rattle.instants_lines.specs.Explained.{text_by, said_by, answer_by, first_answer, parted, all_said, explained};
+ghost use Rattle.instants_lines.specs.Wrote.{Wrote};
 
 use crate::date_sources::DateSources;
 use crate::decimals::numbered;
@@ -73,14 +72,9 @@ fn write_said<W: ByteWriter>(
     writer: &mut W,
 ) -> Result<(), DeviceFailed>
     requires { W.failed writer.old ≡ false }
-    ensures written { OnOk result (Appends (W.held writer.old) (W.held writer.new)
+    ensures { Wrote W.ByteWriter writer.old writer.new result
         (parted number
-        ++ said_by (setting_in dates.now) line.now number (grammar_in source.now))) }
-    ensures ok { OnOk result (W.failed writer.new ≡ W.failed writer.old) }
-    ensures prefix { OnErr result (AppendsPrefix (W.held writer.old) (W.held writer.new)
-        (parted number
-        ++ said_by (setting_in dates.now) line.now number (grammar_in source.now))) }
-    ensures err { OnErr result (W.failed writer.new ≡ true) }
+        ++ said_by (setting_in dates.now) line.now number (grammar_in source.now)) }
 {
     let text = text_by(dates, source, line);
     write_three(
@@ -98,12 +92,8 @@ fn write_all_said<W: ByteWriter>(
     writer: &mut W,
 ) -> Result<(), DeviceFailed>
     requires { W.failed writer.old ≡ false }
-    ensures written { OnOk result (Appends (W.held writer.old) (W.held writer.new)
-        (all_said (setting_in dates.now) line.now 1 (setting_in dates.now).sources)) }
-    ensures ok { OnOk result (W.failed writer.new ≡ W.failed writer.old) }
-    ensures prefix { OnErr result (AppendsPrefix (W.held writer.old) (W.held writer.new)
-        (all_said (setting_in dates.now) line.now 1 (setting_in dates.now).sources)) }
-    ensures err { OnErr result (W.failed writer.new ≡ true) }
+    ensures { Wrote W.ByteWriter writer.old writer.new result
+        (all_said (setting_in dates.now) line.now 1 (setting_in dates.now).sources) }
 {
     let sources = dates.sources();
     for place in 0..sources.len() {
@@ -120,14 +110,9 @@ fn write_all_said_line<W: ByteWriter>(
     writer: &mut W,
 ) -> Result<(), DeviceFailed>
     requires { W.failed writer.old ≡ false }
-    ensures written { OnOk result (Appends (W.held writer.old) (W.held writer.new)
+    ensures { Wrote W.ByteWriter writer.old writer.new result
         (all_said (setting_in dates.now) line.now 1 (setting_in dates.now).sources
-        ++ line_feed ∷ [])) }
-    ensures ok { OnOk result (W.failed writer.new ≡ W.failed writer.old) }
-    ensures prefix { OnErr result (AppendsPrefix (W.held writer.old) (W.held writer.new)
-        (all_said (setting_in dates.now) line.now 1 (setting_in dates.now).sources
-        ++ line_feed ∷ [])) }
-    ensures err { OnErr result (W.failed writer.new ≡ true) }
+        ++ line_feed ∷ []) }
 {
     write_all_said(dates, line, writer)?;
     writer.write_all(b"\n")
@@ -141,12 +126,8 @@ pub(crate) fn write_explained<W: ByteWriter>(
     writer: &mut W,
 ) -> Result<(), DeviceFailed>
     requires { W.failed writer.old ≡ false }
-    ensures written { OnOk result (Appends (W.held writer.old) (W.held writer.new)
-        (explained (setting_in dates.now) line.now ++ line_feed ∷ [])) }
-    ensures ok { OnOk result (W.failed writer.new ≡ W.failed writer.old) }
-    ensures prefix { OnErr result (AppendsPrefix (W.held writer.old) (W.held writer.new)
-        (explained (setting_in dates.now) line.now ++ line_feed ∷ [])) }
-    ensures err { OnErr result (W.failed writer.new ≡ true) }
+    ensures { Wrote W.ByteWriter writer.old writer.new result
+        (explained (setting_in dates.now) line.now ++ line_feed ∷ []) }
 {
     if let Some((number, answer)) = first_answer(dates, line) {
         return write_parts(writer, b"", numbered(number).as_bytes(), answer.as_bytes());

@@ -1,12 +1,11 @@
 //! Where the date of a line is, and by which source, or why it is in doubt.
-ghost use Rattle.std.specs.Prelude.{◌≡◌, ◌<◌, ◌≤◌, ◌+◌, ◌^◌, [], ◌∷◌, ◌++◌, length, true, false, Some, IfSome, OnOk, OnErr};
-ghost use Rattle.std.specs.Io.KnownBytes.{Appends};
-ghost use Rattle.instants_stream.specs.Known.{AppendsPrefix};
+ghost use Rattle.std.specs.Prelude.{◌≡◌, ◌<◌, ◌≤◌, ◌+◌, ◌^◌, [], ◌∷◌, ◌++◌, length, false, Some, IfSome};
 ghost use Rattle.instants_found.specs.Doubts.{doubt_of};
 ghost use Rattle.instants_found.specs.Within.{IsWithin};
 ghost use Rattle.instants_lines.specs.Dates.{doubt, key_of_date};
 ghost use Rattle.instants_lines.specs.Showing.{search_in, setting_in};
 ghost use Rattle.instants_lines.specs.Located.{doubt_text, doubts_of_first, finding_text, range_text, read_text, reason};
+ghost use Rattle.instants_lines.specs.Wrote.{Wrote};
 
 use crate::date_sources::DateSources;
 use crate::decimals::{numbered, push_decimal};
@@ -52,12 +51,7 @@ fn write_read<W: ByteWriter>(
     requires works { W.failed writer.old ≡ false }
     requires number { number + 1 < 2 ^ 64 }
     requires start { start + 1 < 2 ^ 64 }
-    ensures written { OnOk result
-        (Appends (W.held writer.old) (W.held writer.new) (read_text number start end)) }
-    ensures ok { OnOk result (W.failed writer.new ≡ W.failed writer.old) }
-    ensures prefix { OnErr result
-        (AppendsPrefix (W.held writer.old) (W.held writer.new) (read_text number start end)) }
-    ensures err { OnErr result (W.failed writer.new ≡ true) }
+    ensures { Wrote W.ByteWriter writer.old writer.new result (read_text number start end) }
 {
     write_three(
         writer,
@@ -68,6 +62,7 @@ fn write_read<W: ByteWriter>(
 }
 
 // Writes what a source of this number has read that is in doubt, and why.
+#[tactic(auto, using(crate::proofs::Turns::in_turn))]
 fn write_doubted<W: ByteWriter>(
     number: usize,
     one: &Doubted,
@@ -76,12 +71,7 @@ fn write_doubted<W: ByteWriter>(
     requires works { W.failed writer.old ≡ false }
     requires number { number + 1 < 2 ^ 64 }
     requires start { one.now.start + 1 < 2 ^ 64 }
-    ensures written { OnOk result
-        (Appends (W.held writer.old) (W.held writer.new) (doubt_text number (Some one.now))) }
-    ensures ok { OnOk result (W.failed writer.new ≡ W.failed writer.old) }
-    ensures prefix { OnErr result
-        (AppendsPrefix (W.held writer.old) (W.held writer.new) (doubt_text number (Some one.now))) }
-    ensures err { OnErr result (W.failed writer.new ≡ true) }
+    ensures { Wrote W.ByteWriter writer.old writer.new result (doubt_text number (Some one.now)) }
 {
     write_read(number, one.start, one.end, writer)?;
     write_both(writer, b"\t", reason(one.doubt))
@@ -97,14 +87,9 @@ fn write_doubt<W: ByteWriter>(
 ) -> Result<(), DeviceFailed>
     requires works { W.failed writer.old ≡ false }
     requires number { number + 1 < 2 ^ 64 }
-    ensures written { OnOk result (Appends (W.held writer.old) (W.held writer.new)
+    ensures { Wrote W.ByteWriter writer.old writer.new result
         (doubt_text number (doubt_of (search_in dates.now given.now).limit given.now
-        (search_in dates.now given.now).setting.sources line.now number))) }
-    ensures ok { OnOk result (W.failed writer.new ≡ W.failed writer.old) }
-    ensures prefix { OnErr result (AppendsPrefix (W.held writer.old) (W.held writer.new)
-        (doubt_text number (doubt_of (search_in dates.now given.now).limit given.now
-        (search_in dates.now given.now).setting.sources line.now number))) }
-    ensures err { OnErr result (W.failed writer.new ≡ true) }
+        (search_in dates.now given.now).setting.sources line.now number)) }
 {
     match dates.doubt_of(given, line, number) {
         Some(one) => write_doubted(number, &one, writer),
@@ -120,14 +105,9 @@ fn write_doubts<W: ByteWriter>(
     writer: &mut W,
 ) -> Result<(), DeviceFailed>
     requires { W.failed writer.old ≡ false }
-    ensures written { OnOk result (Appends (W.held writer.old) (W.held writer.new)
+    ensures { Wrote W.ByteWriter writer.old writer.new result
         (doubts_of_first (search_in dates.now given.now) line.now
-        (length (search_in dates.now given.now).setting.sources))) }
-    ensures ok { OnOk result (W.failed writer.new ≡ W.failed writer.old) }
-    ensures prefix { OnErr result (AppendsPrefix (W.held writer.old) (W.held writer.new)
-        (doubts_of_first (search_in dates.now given.now) line.now
-        (length (search_in dates.now given.now).setting.sources))) }
-    ensures err { OnErr result (W.failed writer.new ≡ true) }
+        (length (search_in dates.now given.now).setting.sources)) }
 {
     let sources = dates.sources();
     for number in 0..sources.len() {
@@ -137,7 +117,7 @@ fn write_doubts<W: ByteWriter>(
 }
 
 // Writes the key of a date, and what has read it.
-#[tactic(auto, unfolding(crate::specs::Dates::place_of_date))]
+#[tactic(auto, using(crate::proofs::Turns::in_turn), unfolding(crate::specs::Dates::place_of_date))]
 fn write_date<W: ByteWriter>(
     dates: &DateSources<'_>,
     date: &Found,
@@ -146,20 +126,16 @@ fn write_date<W: ByteWriter>(
     requires works { W.failed writer.old ≡ false }
     requires start { date.now.start + 1 < 2 ^ 64 }
     requires source { date.now.source + 1 < 2 ^ 64 }
-    ensures written { OnOk result (Appends (W.held writer.old) (W.held writer.new)
+    ensures { Wrote W.ByteWriter writer.old writer.new result
         (key_of_date (setting_in dates.now) date.now
-        ++ read_text date.now.source date.now.start date.now.end)) }
-    ensures ok { OnOk result (W.failed writer.new ≡ W.failed writer.old) }
-    ensures prefix { OnErr result (AppendsPrefix (W.held writer.old) (W.held writer.new)
-        (key_of_date (setting_in dates.now) date.now
-        ++ read_text date.now.source date.now.start date.now.end)) }
-    ensures err { OnErr result (W.failed writer.new ≡ true) }
+        ++ read_text date.now.source date.now.start date.now.end) }
 {
     writer.write_all(dates.answer_named(&date.moment).as_bytes())?;
     write_read(date.source, date.start, date.end, writer)
 }
 
 // Writes that a date is in doubt, and what all sources have read that is.
+#[tactic(auto, using(crate::proofs::Turns::in_turn))]
 fn write_in_doubt<W: ByteWriter>(
     dates: &DateSources<'_>,
     given: &Given,
@@ -167,14 +143,9 @@ fn write_in_doubt<W: ByteWriter>(
     writer: &mut W,
 ) -> Result<(), DeviceFailed>
     requires { W.failed writer.old ≡ false }
-    ensures written { OnOk result (Appends (W.held writer.old) (W.held writer.new)
+    ensures { Wrote W.ByteWriter writer.old writer.new result
         (doubt ++ doubts_of_first (search_in dates.now given.now) line.now
-        (length (search_in dates.now given.now).setting.sources))) }
-    ensures ok { OnOk result (W.failed writer.new ≡ W.failed writer.old) }
-    ensures prefix { OnErr result (AppendsPrefix (W.held writer.old) (W.held writer.new)
-        (doubt ++ doubts_of_first (search_in dates.now given.now) line.now
-        (length (search_in dates.now given.now).setting.sources))) }
-    ensures err { OnErr result (W.failed writer.new ≡ true) }
+        (length (search_in dates.now given.now).setting.sources)) }
 {
     writer.write_all(b"! doubt")?;
     write_doubts(dates, given, line, writer)
@@ -191,12 +162,8 @@ pub(crate) fn write_finding<W: ByteWriter>(
     requires works { W.failed writer.old ≡ false }
     requires within { IfSome finding.now
         (IsWithin (length line.now) (length (setting_in dates.now).sources)) }
-    ensures written { OnOk result (Appends (W.held writer.old) (W.held writer.new)
-        (finding_text (search_in dates.now given.now) line.now finding.now)) }
-    ensures ok { OnOk result (W.failed writer.new ≡ W.failed writer.old) }
-    ensures prefix { OnErr result (AppendsPrefix (W.held writer.old) (W.held writer.new)
-        (finding_text (search_in dates.now given.now) line.now finding.now)) }
-    ensures err { OnErr result (W.failed writer.new ≡ true) }
+    ensures { Wrote W.ByteWriter writer.old writer.new result
+        (finding_text (search_in dates.now given.now) line.now finding.now) }
 {
     match finding {
         Some(Finding::There(date)) => write_date(dates, date, writer),

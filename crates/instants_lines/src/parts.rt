@@ -1,9 +1,8 @@
 //! Parts of a line, written one after the other.
-ghost use Rattle.std.specs.Prelude.{◌≡◌, ◌≤◌, [], ◌∷◌, ◌++◌, length, option_map, true, false, OnOk, OnErr};
-ghost use Rattle.std.specs.Io.KnownBytes.{Appends};
+ghost use Rattle.std.specs.Prelude.{◌≡◌, ◌≤◌, [], ◌∷◌, ◌++◌, length, option_map, false};
 ghost use Rattle.base.specs.Bytes.{tab, line_feed};
-ghost use Rattle.instants_stream.specs.Known.{AppendsPrefix};
 ghost use Rattle.instants_lines.specs.Going.{label_prefix};
+ghost use Rattle.instants_lines.specs.Wrote.{Wrote};
 
 use instants_answers::Answer;
 use instants_stream::{ByteWriter, DeviceFailed};
@@ -20,12 +19,7 @@ pub(crate) fn write_both<W: ByteWriter>(
     second: &[u8],
 ) -> Result<(), DeviceFailed>
     requires { W.failed writer.old ≡ false }
-    ensures written { OnOk result
-        (Appends (W.held writer.old) (W.held writer.new) (first.now ++ second.now)) }
-    ensures ok { OnOk result (W.failed writer.new ≡ W.failed writer.old) }
-    ensures prefix { OnErr result
-        (AppendsPrefix (W.held writer.old) (W.held writer.new) (first.now ++ second.now)) }
-    ensures err { OnErr result (W.failed writer.new ≡ true) }
+    ensures { Wrote W.ByteWriter writer.old writer.new result (first.now ++ second.now) }
 {
     writer.write_all(first)?;
     writer.write_all(second)
@@ -41,12 +35,8 @@ pub(crate) fn write_three<W: ByteWriter>(
     third: &[u8],
 ) -> Result<(), DeviceFailed>
     requires { W.failed writer.old ≡ false }
-    ensures written { OnOk result (Appends (W.held writer.old) (W.held writer.new)
-        (first.now ++ (second.now ++ third.now))) }
-    ensures ok { OnOk result (W.failed writer.new ≡ W.failed writer.old) }
-    ensures prefix { OnErr result (AppendsPrefix (W.held writer.old) (W.held writer.new)
-        (first.now ++ (second.now ++ third.now))) }
-    ensures err { OnErr result (W.failed writer.new ≡ true) }
+    ensures { Wrote W.ByteWriter writer.old writer.new result
+        (first.now ++ (second.now ++ third.now)) }
 {
     writer.write_all(first)?;
     write_both(writer, second, third)
@@ -62,12 +52,8 @@ pub(crate) fn write_parts<W: ByteWriter>(
     third: &[u8],
 ) -> Result<(), DeviceFailed>
     requires { W.failed writer.old ≡ false }
-    ensures written { OnOk result (Appends (W.held writer.old) (W.held writer.new)
-        ((first.now ++ (second.now ++ third.now)) ++ line_feed ∷ [])) }
-    ensures ok { OnOk result (W.failed writer.new ≡ W.failed writer.old) }
-    ensures prefix { OnErr result (AppendsPrefix (W.held writer.old) (W.held writer.new)
-        ((first.now ++ (second.now ++ third.now)) ++ line_feed ∷ [])) }
-    ensures err { OnErr result (W.failed writer.new ≡ true) }
+    ensures { Wrote W.ByteWriter writer.old writer.new result
+        ((first.now ++ (second.now ++ third.now)) ++ line_feed ∷ []) }
 {
     write_three(writer, first, second, third)?;
     writer.write_all(b"\n")
@@ -78,12 +64,7 @@ pub(crate) fn write_parts<W: ByteWriter>(
 #[tactic(auto, using(crate::proofs::Turns::in_turn))]
 fn write_fed<W: ByteWriter>(writer: &mut W, line: &[u8]) -> Result<(), DeviceFailed>
     requires { W.failed writer.old ≡ false }
-    ensures written { OnOk result
-        (Appends (W.held writer.old) (W.held writer.new) (line.now ++ line_feed ∷ [])) }
-    ensures ok { OnOk result (W.failed writer.new ≡ W.failed writer.old) }
-    ensures prefix { OnErr result
-        (AppendsPrefix (W.held writer.old) (W.held writer.new) (line.now ++ line_feed ∷ [])) }
-    ensures err { OnErr result (W.failed writer.new ≡ true) }
+    ensures { Wrote W.ByteWriter writer.old writer.new result (line.now ++ line_feed ∷ []) }
 {
     writer.write_all(line)?;
     writer.write_prefix(&LINE_FEED, 1)
@@ -98,12 +79,8 @@ pub(crate) fn write_labelled<W: ByteWriter>(
     line: &[u8],
 ) -> Result<(), DeviceFailed>
     requires { W.failed writer.old ≡ false }
-    ensures written { OnOk result (Appends (W.held writer.old) (W.held writer.new)
-        (label_prefix (option_map (λ text. text.now) label.entry) ++ line.now)) }
-    ensures ok { OnOk result (W.failed writer.new ≡ W.failed writer.old) }
-    ensures prefix { OnErr result (AppendsPrefix (W.held writer.old) (W.held writer.new)
-        (label_prefix (option_map (λ text. text.now) label.entry) ++ line.now)) }
-    ensures err { OnErr result (W.failed writer.new ≡ true) }
+    ensures { Wrote W.ByteWriter writer.old writer.new result
+        (label_prefix (option_map (λ text. text.now) label.entry) ++ line.now) }
 {
     match label {
         Some(text) => write_three(writer, text.as_bytes(), b"\t", line),
@@ -120,12 +97,8 @@ fn write_labelled_line<W: ByteWriter>(
     line: &[u8],
 ) -> Result<(), DeviceFailed>
     requires { W.failed writer.old ≡ false }
-    ensures written { OnOk result (Appends (W.held writer.old) (W.held writer.new)
-        (label_prefix (option_map (λ text. text.now) label.now) ++ (line.now ++ line_feed ∷ []))) }
-    ensures ok { OnOk result (W.failed writer.new ≡ W.failed writer.old) }
-    ensures prefix { OnErr result (AppendsPrefix (W.held writer.old) (W.held writer.new)
-        (label_prefix (option_map (λ text. text.now) label.now) ++ (line.now ++ line_feed ∷ []))) }
-    ensures err { OnErr result (W.failed writer.new ≡ true) }
+    ensures { Wrote W.ByteWriter writer.old writer.new result
+        (label_prefix (option_map (λ text. text.now) label.now) ++ (line.now ++ line_feed ∷ [])) }
 {
     match label {
         Some(text) => write_parts(writer, text.as_bytes(), b"\t", line),
@@ -146,6 +119,7 @@ pub(crate) fn tabbed(answer: Answer) -> Answer
 
 /// Writes an answer, a line after its label, and a line feed.
 #[inline(always)]
+#[tactic(auto, using(crate::proofs::Turns::in_turn))]
 pub(crate) fn write_keyed<W: ByteWriter>(
     writer: &mut W,
     answer: &Answer,
@@ -154,12 +128,8 @@ pub(crate) fn write_keyed<W: ByteWriter>(
 ) -> Result<(), DeviceFailed>
     requires works { W.failed writer.old ≡ false }
     requires room { length answer.now ≤ 64 }
-    ensures written { OnOk result (Appends (W.held writer.old) (W.held writer.new)
-        (answer.now ++ (label_prefix (option_map (λ text. text.now) label.now) ++ (line.now ++ line_feed ∷ [])))) }
-    ensures ok { OnOk result (W.failed writer.new ≡ W.failed writer.old) }
-    ensures prefix { OnErr result (AppendsPrefix (W.held writer.old) (W.held writer.new)
-        (answer.now ++ (label_prefix (option_map (λ text. text.now) label.now) ++ (line.now ++ line_feed ∷ [])))) }
-    ensures err { OnErr result (W.failed writer.new ≡ true) }
+    ensures { Wrote W.ByteWriter writer.old writer.new result
+        (answer.now ++ (label_prefix (option_map (λ text. text.now) label.now) ++ (line.now ++ line_feed ∷ []))) }
 {
     let (bytes, len) = answer.padded();
     writer.write_prefix(bytes, len)?;

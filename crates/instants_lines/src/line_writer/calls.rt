@@ -1,16 +1,15 @@
 //! What is written for lines one after another.
-ghost use Rattle.std.specs.Prelude.{◌≡◌, ◌<◌, ◌≤◌, [], ◌∷◌, ◌++◌, length, option_map, true, false, Some, IfSome, IfNone, OnOk, OnErr};
-ghost use Rattle.std.specs.Io.KnownBytes.{Appends};
+ghost use Rattle.std.specs.Prelude.{◌≡◌, ◌<◌, ◌≤◌, [], ◌∷◌, ◌++◌, length, option_map, false, Some, IfSome, IfNone, OnOk};
 ghost use Rattle.base.specs.Bytes.{tab, line_feed};
 ghost use Rattle.instants_found.specs.Starts.{HasNoDate};
 ghost use Rattle.instants_found.specs.declared.found.Finding.TheVariants.{Doubtful, There};
-ghost use Rattle.instants_stream.specs.Known.{AppendsPrefix};
 ghost use Rattle.instants_lines.specs.Showing.{search_in};
 ghost use Rattle.instants_lines.specs.Dates.{date_in, doubt, replaced};
 ghost use Rattle.instants_lines.specs.Going.{below, beginning, given_below, key_of_line, key_below, keyed, label_prefix};
 ghost use Rattle.instants_lines.specs.Located.{located};
 ghost use Rattle.instants_lines.specs.Writing.{going_of};
 ghost use Rattle.instants_lines_words.specs.declared.mode.Mode.{Mode};
+ghost use Rattle.instants_lines.specs.Wrote.{Wrote};
 
 use crate::date_sources::DateSources;
 use crate::line_writer::LineWriter;
@@ -92,12 +91,8 @@ impl<'a, 'b> LineWriter<'a, 'b> {
     #[inline(always)]
     fn write_undated<W: ByteWriter>(&self, line: &[u8], writer: &mut W) -> Result<(), DeviceFailed>
         requires { W.failed writer.old ≡ false }
-        ensures written { OnOk result (Appends (W.held writer.old) (W.held writer.new)
-            (((going_of self.now).key ++ tab ∷ (label_prefix (going_of self.now).label ++ line.now)) ++ line_feed ∷ [])) }
-        ensures ok { OnOk result (W.failed writer.new ≡ W.failed writer.old) }
-        ensures prefix { OnErr result (AppendsPrefix (W.held writer.old) (W.held writer.new)
-            (((going_of self.now).key ++ tab ∷ (label_prefix (going_of self.now).label ++ line.now)) ++ line_feed ∷ [])) }
-        ensures err { OnErr result (W.failed writer.new ≡ true) }
+        ensures { Wrote W.ByteWriter writer.old writer.new result
+            (((going_of self.now).key ++ tab ∷ (label_prefix (going_of self.now).label ++ line.now)) ++ line_feed ∷ []) }
     {
         write_keyed(writer, &self.tabbed, &self.label, line)
     }
@@ -137,13 +132,9 @@ impl<'a, 'b> LineWriter<'a, 'b> {
     ) -> Result<(), DeviceFailed>
         requires works { W.failed writer.old ≡ false }
         requires found { date_in (going_of self.old).search line.now ≡ Some (There date.now) }
-        ensures written { OnOk result (Appends (W.held writer.old) (W.held writer.new)
-            (keyed (going_of self.old) line.now ++ line_feed ∷ [])) }
+        ensures wrote { Wrote W.ByteWriter writer.old writer.new result
+            (keyed (going_of self.old) line.now ++ line_feed ∷ []) }
         ensures next { OnOk result (going_of self.new ≡ below (going_of self.old) line.now) }
-        ensures ok { OnOk result (W.failed writer.new ≡ W.failed writer.old) }
-        ensures prefix { OnErr result (AppendsPrefix (W.held writer.old) (W.held writer.new)
-            (keyed (going_of self.old) line.now ++ line_feed ∷ [])) }
-        ensures err { OnErr result (W.failed writer.new ≡ true) }
     {
         self.dates.write_named(&date.moment, &mut self.storage);
         self.keep_year(date);
@@ -164,13 +155,9 @@ impl<'a, 'b> LineWriter<'a, 'b> {
         requires works { W.failed writer.old ≡ false }
         requires within { first < length line.now }
         requires passed { HasNoDate (going_of self.old).search.setting.sources line.now 0 first }
-        ensures written { IfSome result (λ end. OnOk end (Appends (W.held writer.old) (W.held writer.new)
-            (keyed (going_of self.old) line.now ++ line_feed ∷ []))) }
+        ensures wrote { IfSome result (λ end. Wrote W.ByteWriter writer.old writer.new end
+            (keyed (going_of self.old) line.now ++ line_feed ∷ [])) }
         ensures next { IfSome result (λ end. OnOk end (going_of self.new ≡ below (going_of self.old) line.now)) }
-        ensures ok { IfSome result (λ end. OnOk end (W.failed writer.new ≡ W.failed writer.old)) }
-        ensures prefix { IfSome result (λ end. OnErr end (AppendsPrefix (W.held writer.old) (W.held writer.new)
-            (keyed (going_of self.old) line.now ++ line_feed ∷ []))) }
-        ensures err { IfSome result (λ end. OnErr end (W.failed writer.new ≡ true)) }
         ensures same { IfNone result ((self.new ≡ self.old) × (writer.new ≡ writer.old)) }
     {
         let Some(date) = self.dates.plain_date(&self.given, line, first) else {
@@ -192,13 +179,9 @@ impl<'a, 'b> LineWriter<'a, 'b> {
         requires works { W.failed writer.old ≡ false }
         requires within { first < length line.now }
         requires passed { HasNoDate (going_of self.old).search.setting.sources line.now 0 first }
-        ensures written { OnOk result (Appends (W.held writer.old) (W.held writer.new)
-            (keyed (going_of self.old) line.now ++ line_feed ∷ [])) }
+        ensures wrote { Wrote W.ByteWriter writer.old writer.new result
+            (keyed (going_of self.old) line.now ++ line_feed ∷ []) }
         ensures next { OnOk result (going_of self.new ≡ below (going_of self.old) line.now) }
-        ensures ok { OnOk result (W.failed writer.new ≡ W.failed writer.old) }
-        ensures prefix { OnErr result (AppendsPrefix (W.held writer.old) (W.held writer.new)
-            (keyed (going_of self.old) line.now ++ line_feed ∷ [])) }
-        ensures err { OnErr result (W.failed writer.new ≡ true) }
     {
         let finding = self.dates.date_from(&self.given, line, first);
         let key = tabbed(self.take_key(line, finding));
@@ -214,13 +197,9 @@ impl<'a, 'b> LineWriter<'a, 'b> {
         writer: &mut W,
     ) -> Result<(), DeviceFailed>
         requires { W.failed writer.old ≡ false }
-        ensures written { OnOk result (Appends (W.held writer.old) (W.held writer.new)
-            (keyed (going_of self.old) line.now ++ line_feed ∷ [])) }
+        ensures wrote { Wrote W.ByteWriter writer.old writer.new result
+            (keyed (going_of self.old) line.now ++ line_feed ∷ []) }
         ensures next { OnOk result (going_of self.new ≡ below (going_of self.old) line.now) }
-        ensures ok { OnOk result (W.failed writer.new ≡ W.failed writer.old) }
-        ensures prefix { OnErr result (AppendsPrefix (W.held writer.old) (W.held writer.new)
-            (keyed (going_of self.old) line.now ++ line_feed ∷ [])) }
-        ensures err { OnErr result (W.failed writer.new ≡ true) }
     {
         let Some(first) = self.dates.undated_len(line) else {
             return self.write_undated(line, writer);
@@ -234,19 +213,16 @@ impl<'a, 'b> LineWriter<'a, 'b> {
     /// The same of the first bytes of a longer line, without a line feed.
     #[cold]
     #[inline(never)]
+    #[tactic(auto, using(crate::proofs::Turns::in_turn, std::proofs::lemmas::List::append_assoc))]
     pub(crate) fn begin_keyed<W: ByteWriter>(
         &mut self,
         prefix: &[u8],
         writer: &mut W,
     ) -> Result<(), DeviceFailed>
         requires { W.failed writer.old ≡ false }
-        ensures written { OnOk result (Appends (W.held writer.old) (W.held writer.new)
-            (keyed (going_of self.old) prefix.now)) }
+        ensures wrote { Wrote W.ByteWriter writer.old writer.new result
+            (keyed (going_of self.old) prefix.now) }
         ensures next { OnOk result (going_of self.new ≡ below (going_of self.old) prefix.now) }
-        ensures ok { OnOk result (W.failed writer.new ≡ W.failed writer.old) }
-        ensures prefix { OnErr result (AppendsPrefix (W.held writer.old) (W.held writer.new)
-            (keyed (going_of self.old) prefix.now)) }
-        ensures err { OnErr result (W.failed writer.new ≡ true) }
     {
         let label = self.label;
         let finding = self.dates.date_in(&self.given, prefix);
@@ -267,12 +243,8 @@ impl<'a, 'b> LineWriter<'a, 'b> {
         requires found { date_in (going_of self.now).search line.now ≡ Some (There date.now) }
         requires start { date.now.start ≤ length line.now }
         requires end { date.now.end ≤ length line.now }
-        ensures written { OnOk result (Appends (W.held writer.old) (W.held writer.new)
-            (replaced (going_of self.now).search line.now)) }
-        ensures ok { OnOk result (W.failed writer.new ≡ W.failed writer.old) }
-        ensures prefix { OnErr result (AppendsPrefix (W.held writer.old) (W.held writer.new)
-            (replaced (going_of self.now).search line.now)) }
-        ensures err { OnErr result (W.failed writer.new ≡ true) }
+        ensures { Wrote W.ByteWriter writer.old writer.new result
+            (replaced (going_of self.now).search line.now) }
     {
         let Some(moment) = self.dates.at_target(date.moment.moment()) else {
             return writer.write_all(line);
@@ -295,13 +267,9 @@ impl<'a, 'b> LineWriter<'a, 'b> {
     ) -> Result<(), DeviceFailed>
         requires works { W.failed writer.old ≡ false }
         requires mode { (going_of self.old).mode ≡ Mode.Replace }
-        ensures written { OnOk result (Appends (W.held writer.old) (W.held writer.new)
-            (replaced (going_of self.old).search line.now)) }
+        ensures wrote { Wrote W.ByteWriter writer.old writer.new result
+            (replaced (going_of self.old).search line.now) }
         ensures next { OnOk result (going_of self.new ≡ below (going_of self.old) line.now) }
-        ensures ok { OnOk result (W.failed writer.new ≡ W.failed writer.old) }
-        ensures prefix { OnErr result (AppendsPrefix (W.held writer.old) (W.held writer.new)
-            (replaced (going_of self.old).search line.now)) }
-        ensures err { OnErr result (W.failed writer.new ≡ true) }
     {
         match self.dates.date_in(&self.given, line) {
             Some(Finding::There(date)) => {
@@ -323,13 +291,9 @@ impl<'a, 'b> LineWriter<'a, 'b> {
     ) -> Result<(), DeviceFailed>
         requires works { W.failed writer.old ≡ false }
         requires mode { (going_of self.old).mode ≡ Mode.Replace }
-        ensures written { OnOk result (Appends (W.held writer.old) (W.held writer.new)
-            (replaced (going_of self.old).search line.now ++ line_feed ∷ [])) }
+        ensures wrote { Wrote W.ByteWriter writer.old writer.new result
+            (replaced (going_of self.old).search line.now ++ line_feed ∷ []) }
         ensures next { OnOk result (going_of self.new ≡ below (going_of self.old) line.now) }
-        ensures ok { OnOk result (W.failed writer.new ≡ W.failed writer.old) }
-        ensures prefix { OnErr result (AppendsPrefix (W.held writer.old) (W.held writer.new)
-            (replaced (going_of self.old).search line.now ++ line_feed ∷ [])) }
-        ensures err { OnErr result (W.failed writer.new ≡ true) }
     {
         self.write_replaced(line, writer)?;
         writer.write_all(b"\n")
@@ -346,13 +310,9 @@ impl<'a, 'b> LineWriter<'a, 'b> {
     ) -> Result<(), DeviceFailed>
         requires works { W.failed writer.old ≡ false }
         requires mode { (going_of self.old).mode ≡ Mode.Locate }
-        ensures written { OnOk result (Appends (W.held writer.old) (W.held writer.new)
-            (located (going_of self.old).search line.now)) }
+        ensures wrote { Wrote W.ByteWriter writer.old writer.new result
+            (located (going_of self.old).search line.now) }
         ensures next { OnOk result (going_of self.new ≡ below (going_of self.old) line.now) }
-        ensures ok { OnOk result (W.failed writer.new ≡ W.failed writer.old) }
-        ensures prefix { OnErr result (AppendsPrefix (W.held writer.old) (W.held writer.new)
-            (located (going_of self.old).search line.now)) }
-        ensures err { OnErr result (W.failed writer.new ≡ true) }
     {
         let finding = self.dates.date_in(&self.given, line);
         write_finding(self.dates, &self.given, line, &finding, writer)?;
@@ -371,13 +331,9 @@ impl<'a, 'b> LineWriter<'a, 'b> {
     ) -> Result<(), DeviceFailed>
         requires works { W.failed writer.old ≡ false }
         requires mode { (going_of self.old).mode ≡ Mode.Locate }
-        ensures written { OnOk result (Appends (W.held writer.old) (W.held writer.new)
-            (located (going_of self.old).search line.now ++ line_feed ∷ [])) }
+        ensures wrote { Wrote W.ByteWriter writer.old writer.new result
+            (located (going_of self.old).search line.now ++ line_feed ∷ []) }
         ensures next { OnOk result (going_of self.new ≡ below (going_of self.old) line.now) }
-        ensures ok { OnOk result (W.failed writer.new ≡ W.failed writer.old) }
-        ensures prefix { OnErr result (AppendsPrefix (W.held writer.old) (W.held writer.new)
-            (located (going_of self.old).search line.now ++ line_feed ∷ [])) }
-        ensures err { OnErr result (W.failed writer.new ≡ true) }
     {
         self.write_located(line, writer)?;
         writer.write_all(b"\n")

@@ -1,9 +1,8 @@
 //! The lines of a stream, written one after another.
-ghost use Rattle.std.specs.Prelude.{◌≡◌, true, false, OnOk, OnErr};
-ghost use Rattle.std.specs.Io.KnownBytes.{Appends};
-ghost use Rattle.instants_stream.specs.Known.{AppendsPrefix};
+ghost use Rattle.std.specs.Prelude.{◌≡◌, false, OnOk};
 ghost use Rattle.instants_lines.specs.Going.{lines_steps};
 ghost use Rattle.instants_lines.specs.Writing.{going_of};
+ghost use Rattle.instants_lines.specs.Wrote.{Wrote};
 
 use crate::explained::write_explained;
 use crate::line_writer::LineWriter;
@@ -20,13 +19,9 @@ impl LineWriter<'_, '_> {
         writer: &mut W,
     ) -> Result<(), DeviceFailed>
         requires { W.failed writer.old ≡ false }
-        ensures written { OnOk result (Appends (W.held writer.old) (W.held writer.new)
-            (lines_steps.said (going_of self.old) line.now)) }
+        ensures wrote { Wrote W.ByteWriter writer.old writer.new result
+            (lines_steps.said (going_of self.old) line.now) }
         ensures next { OnOk result (going_of self.new ≡ lines_steps.next (going_of self.old) line.now) }
-        ensures ok { OnOk result (W.failed writer.new ≡ W.failed writer.old) }
-        ensures prefix { OnErr result (AppendsPrefix (W.held writer.old) (W.held writer.new)
-            (lines_steps.said (going_of self.old) line.now)) }
-        ensures err { OnErr result (W.failed writer.new ≡ true) }
     {
         match self.mode {
             Mode::Key | Mode::Carry => self.write_keyed(line, writer),

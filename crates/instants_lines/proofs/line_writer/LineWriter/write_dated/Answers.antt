@@ -7,23 +7,14 @@ use Rattle.instants_lines.specs.Writing.{going_of}
 use Rattle.instants_lines.proofs.Keyed.{dated, below_found, key_and_tab}
 use Rattle.instants_lines.proofs.line_writer.LineWriter.write_dated.Goals as goal
 
-pub returns-clause-written : goal.returns-clause-written
-returns-clause-written g c =
+pub returns-clause-wrote : goal.returns-clause-wrote
+returns-clause-wrote g c =
     let old = going_of c.args.self.now in
     let line = c.args.line.now in
     let key : c.write_named.new.answer ≡ key_of_line old line = dated old line c.args.date.now c.write_named.new.answer (sym c.requires.found) c.write_named.ensures.bytes in
     let tabbed : c.push.new.self ≡ key_of_line old line ++ tab ∷ [] = c.push.ensures ∙ ap (λ (k : List ℕ). k ++ tab ∷ []) (c.keep.ensures.storage ∙ c.keep_year.ensures.storage ∙ key) in
     let label = ap (λ (g : Going). label_prefix g.label) c.keep.ensures.kept ∙ ap (λ (g : Going). label_prefix g.label) c.keep_year.ensures.kept in
-    rw (key_and_tab (key_of_line old line) c.push.new.self (label_prefix old.label) line tabbed, sym label) c.write_keyed.ensures.written
-
-pub returns-clause-prefix : goal.returns-clause-prefix
-returns-clause-prefix g c =
-    let old = going_of c.args.self.now in
-    let line = c.args.line.now in
-    let key : c.write_named.new.answer ≡ key_of_line old line = dated old line c.args.date.now c.write_named.new.answer (sym c.requires.found) c.write_named.ensures.bytes in
-    let tabbed : c.push.new.self ≡ key_of_line old line ++ tab ∷ [] = c.push.ensures ∙ ap (λ (k : List ℕ). k ++ tab ∷ []) (c.keep.ensures.storage ∙ c.keep_year.ensures.storage ∙ key) in
-    let label = ap (λ (g : Going). label_prefix g.label) c.keep.ensures.kept ∙ ap (λ (g : Going). label_prefix g.label) c.keep_year.ensures.kept in
-    rw (key_and_tab (key_of_line old line) c.push.new.self (label_prefix old.label) line tabbed, sym label) c.write_keyed.ensures.prefix
+    rw (key_and_tab (key_of_line old line) c.push.new.self (label_prefix old.label) line tabbed, sym label) c.write_keyed.ensures
 
 pub returns-clause-next : goal.returns-clause-next
 returns-clause-next g c =
@@ -37,4 +28,4 @@ returns-clause-next g c =
     ∙ ap (λ (g : Going). record g { key = key_below g.mode g.key c.keep_year.new.self.storage }) c.keep_year.ensures.kept
     ∙ ap (λ (k : List ℕ). record old { search = record old.search { given = given_below old.search.given (Some (There date)) }; key = key_below old.mode old.key k }) (c.keep_year.ensures.storage ∙ key)
     ∙ below_found old line (Some (There date)) found in
-    OnOk-map c.write_keyed.result (λ _. next) c.write_keyed.ensures.ok
+    OnOk-map c.write_keyed.result (λ _. next) c.write_keyed.ensures.1

@@ -15,10 +15,5 @@ room key tabbed is few =
 pub write_keyed-requires-clause-room : goal.write_keyed-requires-clause-room
 write_keyed-requires-clause-room g c = room c.args.self.now.key c.args.self.now.tabbed c.args.self.now.tabbed_is c.args.self.now.room
 
-pub returns-clause-written : goal.returns-clause-written
-returns-clause-written g c =
-    rw (key_and_tab c.args.self.now.key c.args.self.now.tabbed (label_prefix (going_of c.args.self.now).label) c.args.line.now c.args.self.now.tabbed_is) c.write_keyed.ensures.written
-
-pub returns-clause-prefix : goal.returns-clause-prefix
-returns-clause-prefix g c =
-    rw (key_and_tab c.args.self.now.key c.args.self.now.tabbed (label_prefix (going_of c.args.self.now).label) c.args.line.now c.args.self.now.tabbed_is) c.write_keyed.ensures.prefix
+pub returns : goal.returns
+returns g c = rw (key_and_tab c.args.self.now.key c.args.self.now.tabbed (label_prefix (going_of c.args.self.now).label) c.args.line.now c.args.self.now.tabbed_is) c.write_keyed.ensures
