@@ -8,8 +8,8 @@ ghost use Rattle.instants_lines.specs.Dates.{date_in, doubt, replaced};
 ghost use Rattle.instants_lines.specs.Going.{below, beginning, given_below, key_of_line, key_below, keyed, label_prefix};
 ghost use Rattle.instants_lines.specs.Located.{located};
 ghost use Rattle.instants_lines.specs.Writing.{going_of};
-ghost use Rattle.instants_lines_words.specs.declared.mode.Mode.{Mode};
 ghost use Rattle.instants_lines.specs.Wrote.{Wrote};
+ghost use Rattle.instants_lines_words.specs.declared.mode.Mode.{Mode};
 
 use crate::date_sources::DateSources;
 use crate::line_writer::LineWriter;
