@@ -13,7 +13,7 @@ one's, and the bounds are at the pace of the run that the first of these files t
 
 `rt ci` keeps what it passed on a machine, so a run may do little of the work. What it did not do of a crate whose sources
 are as they were is told as it took in the run of docs/gate.json, at this run's pace, and marked by a star: the table, the sum
-and the bounds are those of a run from nothing.
+and the bounds are those of a run from nothing, but for the crates that the page says are not counted.
 """
 
 import argparse
@@ -165,6 +165,8 @@ def figures_of(before, last, total, wall, parts):
         "load": round(os.getloadavg()[2], 1),
         "seconds_of_the_run": round(run),
         "seconds_from_nothing": round(whole),
+        # (kept from an earlier run, with other sources than in the run before)
+        "lacking": sorted(name for name in uses() if name not in crates),
         "pace": pace,
         "crates": crates,
     }
@@ -205,11 +207,13 @@ def page_of(figures):
     """Returns the page that the figures make."""
     run, whole = figures["seconds_of_the_run"], figures["seconds_from_nothing"]
     stars = f" What is marked by a star was kept from earlier runs on this machine: {(whole - run) / 60:.0f} processor minutes more, told as they took in the run before, at this run's pace." if whole > run else ""
+    lacking = ", ".join(f"`{it}`" for it in figures["lacking"])
+    lacks = f" Not counted, since an earlier run on this machine kept them and the run before had other sources: {lacking}." if lacking else ""
     head = f"""# Where the gate's time goes
 
 Processor seconds of one `rt ci`, crate by crate, from `docs/gate.json`, both written by `tools/gate_times.py --write`: the proof from nothing, the proof and build of the tests, and the mutations in `must-fail/`; where a crate has more than one file of them, the first proves the crate once more. The last column is a short sum of the crate's sources, by which a later run knows those that are as they were. The bounds are {BOUND} processor minutes for everything and {CRATE_BOUND} for a crate, each at the pace of the run of {figures['pace']['first']}, with which all later runs are compared.
 
-{figures['date']}, commit {figures['commit']}, {figures['kit']}: `{figures['last_line']}` after {figures['minutes']} minutes on {figures['processors']} processors (load {figures['load']} at the end), {run / 60:.0f} processor minutes.{stars}
+{figures['date']}, commit {figures['commit']}, {figures['kit']}: `{figures['last_line']}` after {figures['minutes']} minutes on {figures['processors']} processors (load {figures['load']} at the end), {run / 60:.0f} processor minutes.{stars}{lacks}
 """
     return head + "\n" + bounds_told(figures) + "\n\n" + "\n".join(table_of(figures)) + "\n"
 
