@@ -2,6 +2,7 @@
 
 use description::{DescriptionFault, InvalidFormatDescription};
 use instants::{Answer, LineFault, NewFault, ProgramFault, RunFault, WordsFault};
+use instants_faults::fill_no_year;
 use std::alloc::{AllocError, Global};
 use std::test::Fail;
 
@@ -36,7 +37,12 @@ fn faults(rt: HostRuntime) -> Result<(), Fail> {
     Ok(())
 }
 
-fn written() -> [bool; 3] {
+fn no_year() -> bool {
+    let mut room = [b'.'; 64];
+    fill_no_year(&mut room) == 17 && room.starts_with(b"! component year\n.")
+}
+
+fn written() -> [bool; 4] {
     let mut answer = Answer::new();
     LineFault::Year.put(&mut answer);
     let mut room = [b'.'; 64];
@@ -44,13 +50,14 @@ fn written() -> [bool; 3] {
     [
         answer.as_bytes() == b"! year".as_slice(),
         len == 18 && room.starts_with(b"! component month\n."),
+        no_year(),
         NewFault::refused(2, DescriptionFault::Memory) == NewFault::Memory,
     ]
 }
 
 #[test]
 fn faults_in_place_of_a_date(rt: HostRuntime) {
-    assert!(rt; written() == [true; 3]);
+    assert!(rt; written() == [true; 4]);
 }
 
 const PRINTED: &str = r#"instants: source 3: missing component name at byte index 4
