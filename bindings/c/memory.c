@@ -1,6 +1,6 @@
 /*
  * Refuses each allocation of a call in turn, and sees that the call ends with INSTANTS_FAILED, writes nothing and gives back
- * what it took, and that a handle gives back what it kept. Link it with `-Wl,--wrap=malloc,--wrap=realloc,--wrap=free`. Ends with status 1 where something failed.
+ * what it took, that a handle gives back what it kept, and that nothing is kept where words are refused. Link it with `-Wl,--wrap=malloc,--wrap=realloc,--wrap=free`. Ends with status 1 where something failed.
  */
 #include <instants.h>
 
@@ -91,6 +91,24 @@ static bool is_opened(long allocations, bool *is_done)
     return status == INSTANTS_OK && written == 31 && held == 0;
 }
 
+/* Words with a description that is refused after another one is kept: nothing of either stays, with a handle and without one. */
+static const char half[] = "+00:00\n-\n100\nv3\n[year]-[month] [optional [[day]]]\nstrftime\n%Q";
+
+static bool is_refused(long allocations, bool *is_done)
+{
+    uint8_t output[100];
+    size_t written = 12345;
+    struct instants_handle handle = {0};
+    granted = allocations;
+    uint8_t opened = instants_open(half, strlen(half), &handle);
+    if (handle.at || held != 0)
+        return false;
+    granted = allocations;
+    uint8_t answered = instants_answer_lines(half, strlen(half), input, strlen(input), output, sizeof output, &written);
+    *is_done = opened == INSTANTS_REFUSED && answered == INSTANTS_REFUSED;
+    return held == 0 && written == 0 && (*is_done || opened == INSTANTS_FAILED || answered == INSTANTS_FAILED);
+}
+
 static bool try_each(const char *what, bool (*call)(long, bool *))
 {
     bool is_done = false;
@@ -110,5 +128,6 @@ int main(void)
     bool answers = try_each("lines", is_well);
     bool sentences = try_each("a sentence", is_told);
     bool handles = try_each("a handle", is_opened);
-    return !(answers && sentences && handles);
+    bool refused = try_each("refused words", is_refused);
+    return !(answers && sentences && handles && refused);
 }

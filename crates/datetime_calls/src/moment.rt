@@ -10,7 +10,7 @@ ghost use Rattle.calendar.specs.UtcOffset.{IsOffset};
 ghost use Rattle.datetime_wall.specs.Wall.{wall_clock, day_of, nanosecond_of, IsWallClock, shown_at};
 
 use calendar::{Date, Month, SignedDuration, Time, UtcOffset, Weekday};
-use datetime_types::{OffsetDateTime, Timestamp, UtcDateTime, WallClock};
+use datetime_types::{OffsetDateTime, Timestamp, UtcDateTime};
 
 /// An instant that shows a date and a time of day in UTC.
 ///
@@ -126,12 +126,12 @@ impl Moment for Timestamp {
 
     #[inline(always)]
     fn replace_date(self, date: Date) -> Timestamp {
-        WallClock::replace_date(self, date)
+        Timestamp::replace_date(self, date)
     }
 
     #[inline(always)]
     fn replace_time(self, time: Time) -> Timestamp {
-        WallClock::replace_time(self, time)
+        Timestamp::replace_time(self, time)
     }
 
     #[inline(always)]
@@ -150,27 +150,27 @@ impl Moment for UtcDateTime {
 
     #[inline(always)]
     fn to_calendar_date(self) -> (i32, Month, u8) {
-        self.wall_clock().to_calendar_date()
+        UtcDateTime::to_calendar_date(self)
     }
 
     #[inline(always)]
     fn to_ordinal_date(self) -> (i32, u16) {
-        self.wall_clock().to_ordinal_date()
+        UtcDateTime::to_ordinal_date(self)
     }
 
     #[inline(always)]
     fn to_iso_week_date(self) -> (i32, u8, Weekday) {
-        self.wall_clock().to_iso_week_date()
+        UtcDateTime::to_iso_week_date(self)
     }
 
     #[inline(always)]
     fn weekday(self) -> Weekday {
-        self.wall_clock().weekday()
+        UtcDateTime::weekday(self)
     }
 
     #[inline(always)]
     fn as_hms_nano(self) -> (u8, u8, u8, u32) {
-        self.wall_clock().as_hms_nano()
+        UtcDateTime::as_hms_nano(self)
     }
 
     #[inline(always)]
@@ -185,12 +185,12 @@ impl Moment for UtcDateTime {
 
     #[inline(always)]
     fn replace_date(self, date: Date) -> UtcDateTime {
-        WallClock::replace_date(self, date)
+        UtcDateTime::replace_date(self, date)
     }
 
     #[inline(always)]
     fn replace_time(self, time: Time) -> UtcDateTime {
-        WallClock::replace_time(self, time)
+        UtcDateTime::replace_time(self, time)
     }
 
     #[inline(always)]

@@ -2,6 +2,8 @@
 #![tactic(auto)]
 
 #[cfg(test)]
+mod both_traits;
+#[cfg(test)]
 mod calls;
 #[cfg(test)]
 mod counts;

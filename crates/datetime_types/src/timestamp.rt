@@ -298,7 +298,7 @@ impl WallClock for Timestamp {
 
     #[inline(always)]
     fn wall_clock(self) -> PlainDateTime {
-        self.to_utc().wall()
+        PlainDateTime::new(self.date(), self.time())
     }
 
     #[inline(always)]

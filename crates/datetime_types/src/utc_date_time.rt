@@ -14,6 +14,7 @@ ghost use Rattle.datetime_wall.specs.Wall.{second_nanos, greatest_distance, day_
 ghost use Rattle.datetime_wall.specs.Seconds.{IsUnixSecond};
 
 mod arithmetic;
+mod views;
 
 use crate::{OffsetDateTime, PlainDateTime, Timestamp, WallClock};
 use calendar::{ComponentRange, Date, Time, UtcOffset};

@@ -31,8 +31,6 @@ mod handle;
 mod kept;
 mod parts;
 mod sentences;
-#[cfg(test)]
-mod tests;
 mod texts;
 
 pub use handle::Handle;

@@ -1,5 +1,6 @@
 //! The program between its words and its end.
 ghost use Rattle.std.specs.Prelude.{◌≡◌, ◌<◌, ◌≤◌, ◌+◌, ◌^◌, ℕ, false, length, map, option_map, None, Some, Ok, Err, IsOk, IfSome, IfErr};
+ghost use Rattle.std.specs.Io.KnownBytes.{Keeps};
 ghost use Rattle.instants_stream.specs.Ran.{RanAndFlushed};
 ghost use Rattle.instants_words.specs.declared.words.Words.{Words};
 ghost use Rattle.instants_timeline.specs.Place.{Setting};
@@ -126,6 +127,9 @@ pub fn run_words<'a, R: ByteReader, W: ByteWriter>(
         IsMemory fault → IsOk (mode_words_said (map (λ word. word.now) words.now))) }
     ensures before { IfErr result (λ fault.
         IsBeforeRun fault → (reader.new ≡ reader.old) × (writer.new ≡ writer.old)) }
+    // After a read that failed nothing is held back.
+    ensures handed_on { result ≡ Err (LinesFault.Program (ProgramFault.Run RunFault.Read))
+        → W.failed writer.new ≡ false → Keeps (W.held writer.new) (W.handed_on writer.new) }
 {
     let (asked, filled) = read_mode_words(alloc, words)?;
     let (timeline, limit) = asked_timeline(alloc, filled.as_slice())?;

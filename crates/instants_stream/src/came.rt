@@ -1,6 +1,7 @@
 //! What is written for bytes that came.
-ghost use Rattle.std.specs.Prelude.{◌≡◌, ◌+◌, ◌-◌, ◌<◌, ◌≤◌, ◌++◌, ◌||◌, ℕ, List, true, false, length, take, drop, IfOk, OnOk, OnErr};
+ghost use Rattle.std.specs.Prelude.{◌≡◌, ◌+◌, ◌-◌, ◌<◌, ◌≤◌, ◌++◌, ◌||◌, ℕ, List, true, false, length, take, drop, slice_index, IfOk, OnOk, OnErr};
 ghost use Rattle.std.specs.Io.KnownBytes.{Appends};
+ghost use Rattle.base.specs.Bytes.{line_feed};
 ghost use Rattle.instants_stream.specs.Known.{AppendsPrefix};
 ghost use Rattle.instants_stream.specs.Lines.{HasNoLineFeed, whole_lines, last_part};
 ghost use Rattle.instants_stream.specs.Steps.{passed, opened, state_within, line_said, line_next, written, after, owed_of, state_of};
@@ -97,6 +98,20 @@ fn write_any<S: WritesLines, W: ByteWriter>(
     Ok(())
 }
 
+// How many bytes stand before the first line feed, and all where there is none, where the first `searched` are known to be none.
+#[inline(always)]
+fn line_end_noted<S: WritesLines>(steps: &S, bytes: &[u8], searched: usize) -> usize
+    requires searched { searched ≤ length bytes.now }
+    requires free { HasNoLineFeed (take searched bytes.now) }
+    ensures within { result ≤ length bytes.now }
+    ensures before { HasNoLineFeed (take result bytes.now) }
+    ensures line_feed { result < length bytes.now → slice_index bytes.now result ≡ line_feed }
+{
+    let end = line_end_after(bytes, searched);
+    steps.note_searched(end.saturating_sub(searched));
+    end
+}
+
 // Writes for each whole line, and says where the last part begins. The first `searched` bytes are known to be no line feeds.
 #[inline(always)]
 fn write_whole_lines<S: WritesLines, W: ByteWriter>(
@@ -122,7 +137,7 @@ fn write_whole_lines<S: WritesLines, W: ByteWriter>(
 {
     let mut rest = bytes;
     // The end of the next line is found before a line is read, so that it isn't waited for.
-    let mut len = line_end_after(bytes, searched);
+    let mut len = line_end_noted(steps, bytes, searched);
     if len == rest.len() {
         return Ok(0);
     }
@@ -130,6 +145,7 @@ fn write_whole_lines<S: WritesLines, W: ByteWriter>(
         let line = &rest[..len];
         rest = after_line(rest, len);
         len = line_end(rest);
+        steps.note_searched(len);
         write_any(steps, limit, line, writer)?;
         if len == rest.len() {
             return Ok(bytes.len() - rest.len());
@@ -163,6 +179,7 @@ fn go_on<S: WritesLines, W: ByteWriter>(
         return Ok(Unfinished { start: 0, is_begun });
     }
     let len = line_end(bytes);
+    steps.note_searched(len);
     pass_on(steps, &bytes[..len], writer)?;
     if len == bytes.len() {
         return Ok(Unfinished {

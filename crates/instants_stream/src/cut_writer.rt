@@ -1,6 +1,6 @@
 //! A writer into lent memory, which takes few bytes at a time and fails when it is told to.
 
-ghost use Rattle.std.specs.Prelude.{◌≡◌, ◌+◌, ◌-◌, ◌^◌, ◌<◌, ◌≤◌, ◌↔◌, [], Some, length, take, true, false, min, IsErr, IfOk, OnOk, OnErr};
+ghost use Rattle.std.specs.Prelude.{◌≡◌, ◌+◌, ◌-◌, ◌^◌, ◌<◌, ◌≤◌, ◌↔◌, [], Some, length, take, true, false, min, IsOk, IsErr, IfOk, OnOk, OnErr};
 ghost use Rattle.std.specs.Io.KnownBytes.{Appends, Keeps};
 ghost use Rattle.instants_stream.specs.CutDevices.{CutWriting, taken, left_until_failure};
 
@@ -131,6 +131,7 @@ impl<'a> ByteWriter for CutWriter<'a> {
     fn flush(&mut self) -> Result<(), DeviceFailed>
         ensures moved { OnOk result (Keeps (Some self.old.held) (Some self.new.held)) }
         ensures flushed { OnOk result (self.new.is_flushed ≡ true) }
+        ensures all { OnOk result (Keeps (Some self.new.held) (Some self.new.held)) }
         ensures ok { OnOk result (self.new.has_failed ≡ self.old.has_failed) }
         ensures err { OnErr result (self.new.has_failed ≡ true) }
         ensures kept { OnErr result (self.new.held ≡ self.old.held) }
@@ -159,7 +160,18 @@ impl<'a> ByteWriter for CutWriter<'a> {
         self.has_failed
     }
 
-    fn hand_on(&mut self) -> Result<(), DeviceFailed> {
+    // It holds nothing back.
+    fn hand_on(&mut self) -> Result<(), DeviceFailed>
+        ensures held { OnOk result (Keeps (Some self.old.held) (Some self.new.held)) }
+        ensures all { OnOk result (Keeps (Some self.new.held) (Some self.new.held)) }
+        ensures flushed { OnOk result (self.new.is_flushed ≡ self.old.is_flushed) }
+        ensures ok { OnOk result (self.new.has_failed ≡ self.old.has_failed) }
+        ensures err { OnErr result (self.new.has_failed ≡ true) }
+        ensures kept { OnErr result (self.new.held ≡ self.old.held) }
+
+        ensures succeeds { IsOk result }
+        ensures stays { self.new ≡ self.old }
+    {
         Ok(())
     }
 }

@@ -81,6 +81,8 @@ pub trait ByteWriter {
         requires { failed self.old ≡ false }
         ensures moved { OnOk result (Keeps (held self.old) (held self.new)) }
         ensures flushed { OnOk result (flushed self.new ≡ true) }
+        // Nothing is held back.
+        ensures all { OnOk result (Keeps (held self.new) (handed_on self.new)) }
         ensures ok { OnOk result (failed self.new ≡ failed self.old) }
 
         ensures err { OnErr result (failed self.new ≡ true) }

@@ -1,6 +1,6 @@
 //! A writer of std, as a device.
 
-ghost use Rattle.std.specs.Prelude.{◌≡◌, None, true, false, if◌then◌else◌};
+ghost use Rattle.std.specs.Prelude.{◌≡◌, None, true, false, IsOk, if◌then◌else◌};
 
 use crate::devices::{ByteWriter, DeviceFailed};
 use std::io::Write;
@@ -70,7 +70,11 @@ impl<W: Write> ByteWriter for StdWriter<W> {
         self.has_failed
     }
 
-    fn hand_on(&mut self) -> Result<(), DeviceFailed> {
+    // It holds nothing back, and what its writer holds back stays there.
+    fn hand_on(&mut self) -> Result<(), DeviceFailed>
+        ensures ok { IsOk result }
+        ensures stays { self.new ≡ self.old }
+    {
         Ok(())
     }
 }

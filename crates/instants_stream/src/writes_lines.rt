@@ -60,6 +60,11 @@ pub trait WritesLines {
             (steps.begun (state self.old) prefix.now)) }
         ensures err { OnErr result (W.failed writer.new ≡ true) };
 
+    /// Learns how many bytes were searched for a line feed just now. A run searches each byte of a stream once, which no clause
+    /// says: what counts the bytes can see it.
+    #[inline(always)]
+    fn note_searched(&self, _count: usize) {}
+
     /// Whether the bytes after those first ones are handed on.
     fn hands_on(&self) -> bool
         ensures { result ≡ steps.hands_on (state self.now) };

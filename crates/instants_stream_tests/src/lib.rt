@@ -8,6 +8,8 @@ mod memory;
 #[cfg(test)]
 mod printed;
 #[cfg(test)]
+mod searches;
+#[cfg(test)]
 mod std_devices;
 #[cfg(test)]
 mod streams;

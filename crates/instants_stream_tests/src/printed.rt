@@ -26,6 +26,64 @@ static LINE_FAULTS: [LineFault; 7] = [
     LineFault::Long,
 ];
 
+// Each fault that ends the program, and its sentence.
+static SENTENCES: [(ProgramFault<'static>, &str); 11] = [
+    (
+        ProgramFault::Words(WordsFault::Usage),
+        "instants: usage: instants TARGET ASSUMED LIMIT SOURCE...",
+    ),
+    (
+        ProgramFault::Words(WordsFault::Target),
+        "instants: the target offset must be +HH:MM or -HH:MM",
+    ),
+    (
+        ProgramFault::Words(WordsFault::Assumed),
+        "instants: the assumed offset must be +HH:MM, -HH:MM or -",
+    ),
+    (
+        ProgramFault::Words(WordsFault::Limit),
+        "instants: the limit must be a number from 1 to 1048576",
+    ),
+    (
+        ProgramFault::Words(WordsFault::Source(12)),
+        "instants: source 12 is not a known source with its description",
+    ),
+    (
+        ProgramFault::Words(WordsFault::Memory),
+        "instants: out of memory",
+    ),
+    (
+        ProgramFault::New(NewFault::Source {
+            place: 3,
+            fault: InvalidFormatDescription::MissingComponentName { index: 4 },
+        }),
+        "instants: source 3: missing component name at byte index 4",
+    ),
+    (
+        ProgramFault::New(NewFault::Memory),
+        "instants: out of memory",
+    ),
+    (
+        ProgramFault::Run(RunFault::Read),
+        "instants: reading failed",
+    ),
+    (
+        ProgramFault::Run(RunFault::Write),
+        "instants: writing failed",
+    ),
+    (ProgramFault::Memory, "instants: out of memory"),
+];
+
+// `Display` returns `Ok` for each, which no clause says.
+#[test]
+fn sentences(rt: HostRuntime) -> Result<(), Fail> {
+    for (fault, sentence) in &SENTENCES {
+        let told = format!(in rt.alloc(); "{fault}")?;
+        assert!(rt; told.as_str() == *sentence);
+    }
+    Ok(())
+}
+
 fn told(alloc: Global) -> Result<String, AllocError> {
     let fault = PROGRAM_FAULTS[0];
     format!(in alloc; "{fault:>99}\n{PROGRAM_FAULTS:?}\n{LINE_FAULTS:?}")

@@ -1,5 +1,6 @@
 //! The program between its words and its end.
 ghost use Rattle.std.specs.Prelude.{◌≡◌, ◌<◌, ◌≤◌, ◌+◌, ◌^◌, ℕ, false, length, map, Err, IsOk, IfSome, IfOk, IfErr};
+ghost use Rattle.std.specs.Io.KnownBytes.{Keeps};
 ghost use Rattle.instants_stream.specs.Answers.{by_answers};
 ghost use Rattle.instants_stream.specs.Ran.{Ran, RanAndFlushed};
 ghost use Rattle.instants_stream.specs.Writing.{Writing};
@@ -24,8 +25,8 @@ pub trait RunsLines {
     /// What there is to write, where a line with more bytes than a limit is too long.
     ghost writing: { Self → ℕ → Writing };
 
-    /// Writes it for each line that the reader gives. The buffer has a block more than the limit. The writer is flushed once,
-    /// before `Ok`; a reader or a writer that failed isn't tried again.
+    /// Writes it for each line that the reader gives, and hands it on before each read. The buffer has a block more than the limit.
+    /// The writer is flushed once, before `Ok`; a reader or a writer that failed isn't tried again.
     fn run<R: ByteReader, W: ByteWriter>(
         &self,
         limit: usize,
@@ -36,8 +37,11 @@ pub trait RunsLines {
         requires room { limit + block ≤ length buffer.old }
         requires reader { R.failed reader.old ≡ false }
         requires writer { W.failed writer.old ≡ false }
-        ensures { Ran (writing self.now limit)
-            R.ByteReader reader.old reader.new W.ByteWriter writer.old writer.new result };
+        ensures ran { Ran (writing self.now limit)
+            R.ByteReader reader.old reader.new W.ByteWriter writer.old writer.new result }
+        // Before the read that failed all was handed on.
+        ensures handed_on { result ≡ Err RunFault.Read
+            → Keeps (W.held writer.new) (W.handed_on writer.new) };
 }
 
 // Writes the answer to each line.
@@ -87,6 +91,9 @@ pub fn run_words<'a, R: ByteReader, W: ByteWriter>(
         × (reader.new ≡ reader.old) × (writer.new ≡ writer.old)) }
     ensures memory { IfErr result (λ fault.
         IsMemory fault → IsOk (words_said (map (λ word. word.now) words.now))) }
+    // After a read that failed nothing is held back.
+    ensures handed_on { result ≡ Err (ProgramFault.Run RunFault.Read)
+        → W.failed writer.new ≡ false → Keeps (W.held writer.new) (W.handed_on writer.new) }
 {
     let (timeline, limit) = asked_timeline(alloc, words)?;
     run_program(&timeline, alloc, limit, reader, writer)?;
@@ -132,6 +139,9 @@ pub fn run_program<P: RunsLines, R: ByteReader, W: ByteWriter>(
         R.ByteReader reader.old reader.new W.ByteWriter writer.old writer.new ended) }
     ensures memory { result ≡ Err RunsFault.Memory
         → (reader.new ≡ reader.old) × (writer.new ≡ writer.old) }
+    // After a read that failed nothing is held back.
+    ensures handed_on { result ≡ Err (RunsFault.Run RunFault.Read)
+        → W.failed writer.new ≡ false → Keeps (W.held writer.new) (W.handed_on writer.new) }
 {
     let mut buffer = vec![in alloc; 0; limit + BLOCK]?;
     run_and_flush(program, limit, buffer.as_mut_slice(), reader, writer)?;
@@ -149,8 +159,10 @@ fn run_and_flush<P: RunsLines, R: ByteReader, W: ByteWriter>(
     requires room { limit + block ≤ length buffer.old }
     requires reader { R.failed reader.old ≡ false }
     requires writer { W.failed writer.old ≡ false }
-    ensures { RanAndFlushed (P.writing program.now limit)
+    ensures ran { RanAndFlushed (P.writing program.now limit)
         R.ByteReader reader.old reader.new W.ByteWriter writer.old writer.new result }
+    ensures handed_on { result ≡ Err RunFault.Read
+        → W.failed writer.new ≡ false → Keeps (W.held writer.new) (W.handed_on writer.new) }
 {
     let ended = program.run(limit, buffer, reader, writer);
     if ended == Err(RunFault::Read) && !writer.has_failed() {

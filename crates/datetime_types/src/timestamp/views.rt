@@ -1,4 +1,4 @@
-//! What a Timestamp shows.
+//! What a Timestamp shows, and one with another date or time of day.
 ghost use Rattle.std.specs.Prelude.{◌≡◌, ◌<◌, ◌≤◌, pos, ◌-ℤ◌};
 ghost use Rattle.std.specs.Int.{IsInRange};
 ghost use Rattle.calendar.specs.Range.{julian_zero, IsYear};
@@ -6,10 +6,10 @@ ghost use Rattle.calendar.specs.Calendar.{day_at, ordinal_at, weekday_at, sunday
 ghost use Rattle.calendar.specs.Month.{month_number};
 ghost use Rattle.calendar.specs.Weekday.{days_from_monday};
 ghost use Rattle.calendar.specs.Time.{hour_at, minute_at, second_at, millisecond_at, microsecond_at, nanosecond_at};
-ghost use Rattle.datetime_wall.specs.Wall.{day_of, nanosecond_of};
+ghost use Rattle.datetime_wall.specs.Wall.{wall_clock, day_of, nanosecond_of};
 
-use crate::Timestamp;
-use calendar::{Month, Weekday};
+use crate::{Timestamp, WallClock};
+use calendar::{Date, Month, Time, Weekday};
 use calendar_count::range::JULIAN_ZERO;
 use datetime_wall::{
     clock_of_second, day_of_count, iso_week_of_count, monday_week_of_count, place_of_count,
@@ -231,5 +231,23 @@ impl Timestamp {
     {
         let (hour, minute, second) = self.as_hms();
         (hour, minute, second, self.nanosecond())
+    }
+
+    /// The same time of day on another date.
+    #[inline(always)]
+    pub fn replace_date(self, date: Date) -> Timestamp
+        ensures value { result ≡ wall_clock date (nanosecond_of self) }
+        ensures day { day_of result ≡ date }
+        ensures time { nanosecond_of result ≡ nanosecond_of self }
+    {
+        WallClock::replace_date(self, date)
+    }
+
+    /// Another time of day on the same date.
+    #[inline(always)]
+    pub fn replace_time(self, time: Time) -> Timestamp
+        ensures { result ≡ wall_clock (day_of self) time }
+    {
+        WallClock::replace_time(self, time)
     }
 }

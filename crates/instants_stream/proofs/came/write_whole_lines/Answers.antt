@@ -1,4 +1,4 @@
-use Rattle.std.proofs.Common.{rules, ◌≤◌, ◌≡◌, ℕ, ◌+◌, ◌-◌, ◌<◌, List, [], ◌∷◌, ◌++◌, length, get_or, take, drop, Option, refl, sym, ap, ◌∙◌, subst, arith, length-drop}
+use Rattle.std.proofs.Common.{◌≤◌, ◌≡◌, ℕ, ◌+◌, ◌-◌, ◌<◌, List, [], ◌∷◌, ◌++◌, length, get_or, take, drop, Option, refl, sym, ap, ◌∙◌, subst, arith, length-drop}
 use Rattle.std.proofs.KnownBytes.{Appends-nil, Appends-trans}
 use Rattle.std.proofs.lemmas.List.{drop-drop, take_all}
 use Rattle.std.proofs.lemmas.Result.{err_from_is_err_and}
@@ -23,9 +23,9 @@ loop-init g c =
       ended = rw start last_part_of_none;
       written = rw (start, whole_lines_none) (Appends-nil _);
       stands = rw (start, whole_lines_none) refl;
-      inside = omega (arith, c.line_end_after-len.ensures.within, c.if-len-rest.false);
-      before = c.line_end_after-len.ensures.before;
-      line_feed = c.line_end_after-len.ensures.line_feed (omega (arith, c.line_end_after-len.ensures.within, c.if-len-rest.false));
+      inside = omega (arith, c.line_end_noted-len.ensures.within, c.if-len-rest.false);
+      before = c.line_end_noted-len.ensures.before;
+      line_feed = c.line_end_noted-len.ensures.line_feed (omega (arith, c.line_end_noted-len.ensures.within, c.if-len-rest.false));
       works = refl;
     }
 
@@ -108,15 +108,15 @@ none : (bytes : List ℕ) (len : ℕ) → len ≡ length bytes → HasNoLineFeed
 none bytes len all before = free bytes bytes 0 len refl all before
 
 pub returns-then-len-rest-clause-rest : goal.returns-then-len-rest-clause-rest
-returns-then-len-rest-clause-rest g c = rest_is_last c.args.bytes.now 0 last_part_of_none (none c.args.bytes.now _ (omega (arith, c.if-len-rest.true)) c.line_end_after-len.ensures.before)
+returns-then-len-rest-clause-rest g c = rest_is_last c.args.bytes.now 0 last_part_of_none (none c.args.bytes.now _ (omega (arith, c.if-len-rest.true)) c.line_end_noted-len.ensures.before)
 
 pub returns-then-len-rest-clause-written : goal.returns-then-len-rest-clause-written
 unfolding written
-returns-then-len-rest-clause-written g c = rw (lines_are_all c.args.bytes.now 0 last_part_of_none (none c.args.bytes.now _ (omega (arith, c.if-len-rest.true)) c.line_end_after-len.ensures.before), whole_lines_none) (Appends-nil _)
+returns-then-len-rest-clause-written g c = rw (lines_are_all c.args.bytes.now 0 last_part_of_none (none c.args.bytes.now _ (omega (arith, c.if-len-rest.true)) c.line_end_noted-len.ensures.before), whole_lines_none) (Appends-nil _)
 
 pub returns-then-len-rest-clause-state : goal.returns-then-len-rest-clause-state
 unfolding after
-returns-then-len-rest-clause-state g c = rw (lines_are_all c.args.bytes.now 0 last_part_of_none (none c.args.bytes.now _ (omega (arith, c.if-len-rest.true)) c.line_end_after-len.ensures.before), whole_lines_none) refl
+returns-then-len-rest-clause-state g c = rw (lines_are_all c.args.bytes.now 0 last_part_of_none (none c.args.bytes.now _ (omega (arith, c.if-len-rest.true)) c.line_end_noted-len.ensures.before), whole_lines_none) refl
 
 -- ---- the last whole line is done
 pub returns-then-len-rest-2-clause-rest : goal.returns-then-len-rest-2-clause-rest
