@@ -2,7 +2,8 @@
 
 Each word of a text that is reached has to be one of these: a name that the text binds, the name of a field or of an implicit argument, a
 numeral, a word of the language, a name of the kit, or a definition or a declaration of this repository, which is then reached
-too. What is none of them is lost, and said with its place. Names are followed through `pub use` of names and of modules.
+too. What is none of them is lost, and said with its place. Names are followed through `pub use` of names and of modules. A bare
+word of a pattern that is no case of a type is a variable, as it is for the prover.
 
 A definition counts with its lines, but comments and fixities. Of a struct, an enum or a constant all lines count; of a type with a
 model also what the model says of it (`Value`, `view`, `invariant`); of a trait its ghost members and the calls that each type
@@ -222,14 +223,25 @@ class Binding:
             self.free.add(token)
 
 
-def free_words(text, is_case):
-    """Returns the words of a text that it does not bind."""
-    binding = Binding(text, is_case)
+def heads_in(pattern, scope):
+    """Returns the words of a pattern that are given something there, as `Some` in `(Some x)`, and are no case of a type."""
+    found = set()
+    for bracket, head, behind in zip(pattern, pattern[1:], pattern[2:]):
+        if bracket == "(" and head not in "(){}.;,@" and behind not in ("{", ")", ",") and behind not in scope.operators and not scope.is_case(head):
+            found.add(head)
+    return found
+
+
+def free_words(text, scope):
+    """Returns the words of a text that it does not bind, and those that have to be cases of a type and are not."""
+    binding = Binding(text, scope.is_case)
     at = end_of_pattern(binding.tokens)
-    binding.bind(binding.tokens[:at])
+    pattern = [it for it in binding.tokens[:at] if isinstance(it, str)]
+    heads = heads_in(pattern, scope)
+    binding.bind(pattern)
     while at < len(binding.tokens):
         at = binding.step(at) + 1
-    return binding.free
+    return binding.free, heads
 
 
 def is_of_language(word):
@@ -335,7 +347,10 @@ class Reached:
         words = set()
         for text in texts:
             try:
-                words |= free_words(text, scope.is_case)
+                free, heads = free_words(text, scope)
+                words |= free
+                for head in sorted(heads):
+                    self.lose(head, file, name, "no case of a type is called so")
             except Lost as fault:
                 self.lose("a word of a pattern", file, name, fault)
         if "do" in words:

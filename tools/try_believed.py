@@ -111,6 +111,7 @@ PLANTED = (
     ("a word of a clause that is nowhere", "crates/instants_timeline/src/program.rt", "result ≡", "results ≡", "instants_timeline/src/program.rt run_words: `results` stands nowhere"),
     ("a name that is no longer given on", TEXT, "pub use Rattle.base.specs.Bytes.{tab}\n", "", "run_words: `tab` stands nowhere: instants_stream/specs/Text.antt does not have it"),
     ("a module that is no longer given on", "crates/instants_stream/specs/Lib.antt", "pub use Rattle.base.specs.Bytes\n", "", "run_words: `space` stands nowhere"),
+    ("a case of a type that is no longer brought in", TEXT, "◌∷◌, [], ", "[], ", "prefix_of: `marked` stands nowhere: no case of a type is called so"),
     ("a name that is no longer brought in", TEXT, ", ◌+◌}", "}", "prefix_of: `+` stands nowhere"),
     ("a definition that is no longer there", TEXT, "abbrev pub marked : ℕ → ℕ\nmarked x = x then 1\n", "", "prefix_of: `marked` stands nowhere"),
     ("a declaration that is no longer there", "crates/instants_stream/src/device.rt", "pub enum Held {\n    All,\n}\n", "", "`Held` stands nowhere"),
