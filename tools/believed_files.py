@@ -1,12 +1,17 @@
 #!/usr/bin/env python3
-"""Says which definitions the contract of `run_words` rests on: file by file of the crates' specs/, how many lines of definitions
-are reached from its clauses, and writes the table into docs/CLAIMS.md, between the lines that name this tool, and how long all of
-them take to read into the sentence there that begins with their number. It also writes there how many checks `rt ci` counts: one for each
-crate of crates.txt, and one for each file in a `must-fail/`.
+"""Says what the contracts of the two programs rest on: which definitions of the crates' specs/ and which declarations of their src/
+are reached from the clauses of `run_words`, with their lines. It writes the tables into docs/CLAIMS.md, between the lines that
+name this tool: for `instants` all of them, for `instants-lines` those beyond. How long the first ones take to read stands in the
+sentence there that begins with their number.
+
+It also writes how many checks `rt ci` counts: one for each crate of crates.txt, and one for each file in a `must-fail/`; and how
+many mutations the gate tries of all: pairs of an old and a new text, in `must-fail/` and in both folders.
 
     tools/believed_files.py            writes it
     tools/believed_files.py --check    says whether it is as it would be written, with status 1 where it is not
     tools/believed_files.py --names    prints the names that are reached
+
+A word that is reached and stands nowhere (tools/rattle_words.py says which words do) is told with its place, and the status is 1.
 """
 
 import re
@@ -16,80 +21,115 @@ sys.dont_write_bytecode = True
 
 import program
 from program import ROOT
-from rattle_files import CRATES, definitions_in, imports_in, module_heads, words_of
+from rattle_files import CRATES, changes_of
+from rattle_words import reached_from_call
 
-PAGE = ROOT / "docs" / "CLAIMS.md"
-BEGIN, END = "<!-- tools/believed_files.py begins -->", "<!-- tools/believed_files.py ends -->"
+PAGE, FRONT = ROOT / "docs" / "CLAIMS.md", ROOT / "README.md"
+TABLE = re.compile(r"(<!-- tools/believed_files.py begins(?: [a-z ]+)? -->\n).*?(\n<!-- tools/believed_files.py ends -->)", re.S)
+# The calls that tables are of, each with the crates of its program.
+CALLS = tuple((CRATES / crate / "src" / "program.rt", "run_words") for crate in ("instants_timeline", "instants_lines"))
 LAYERS = {"instants": "lines and answers", "parsing": "reading", "description": "descriptions", "datetime": "date-times", "calendar": "calendar", "base": "bytes"}
-# How many lines of definitions are read in a minute, and the sentence with how long all of them take.
+# How many lines are read in a minute, and the sentence with how long all of them take.
 PACE = 15
-COUNTED = re.compile(r"\d+ lines of definitions in \d+ files, some \d+ hours? at \d+ lines a minute")
+COUNTED = re.compile(r"\d+ lines of definitions in \d+ files(?: and \d+ lines of declarations in \d+ files)?, some \d+ hours? at \d+ lines a minute")
 PASSED = re.compile(r"`\d+ passed, 0 failed`")
-def reached_from(text, imports, own, seen):
-    """Adds all definitions that a text rests on."""
-    for word in words_of(text, [*imports, *(definitions_in(own) if own else ())]):
-        head, _, tail = word.partition(".")
-        file, name = imports.get(word) or imports.get(head) or (None, None)
-        if f"{head}." in imports and tail:
-            file, name = imports[f"{head}."][0], tail.split(".")[0]
-        if file is None and own and head in definitions_in(own):
-            file, name = own, head
-        if file is None or (file, name) in seen:
-            continue
-        body = definitions_in(file).get(name)
-        if body:
-            take(file, name, body, seen)
+TRIED = re.compile(r"\b\d+ of [\d,]+ mutations\b")
 
 
-def take(file, name, body, seen):
-    """Adds a definition, and all that it rests on."""
-    seen[file, name] = body
-    head = module_heads(file).get(name)
-    if head and (file, head) not in seen:
-        take(file, head, [head], seen)
-    reached_from("\n".join(body), imports_in(file.read_text(), "use"), file, seen)
+def layer_of(crate):
+    return next((it for it in LAYERS if crate == it or crate.startswith(f"{it}_")), None)
 
 
-def believed():
-    source = (CRATES / "instants_timeline" / "src" / "program.rt").read_text()
-    clauses = source[source.index("pub fn run_words") : source.index("let said = read_words")]
-    seen = {}
-    reached_from(clauses, imports_in(source, "ghost use"), None, seen)
-    return seen
-
-
-def table(seen):
-    """Returns the table, and the sentence with how long its definitions take to read."""
+def counts_of(lines, part):
+    """Returns the files of each crate's specs/ or src/ that have some of the lines, each with how many."""
     crates = {}
-    for (file, _), body in seen.items():
-        crate, _, module = file.relative_to(CRATES).parts
-        crates.setdefault(crate, {}).setdefault(module.removesuffix(".antt"), set()).add("\n".join(body))
-    rows, files, count = ["| layer | in `specs/` of | files, with their lines of definitions |", "|---|---|---|"], 0, 0
-    for layer, told in LAYERS.items():
-        for crate in sorted(it for it in crates if it == layer or it.startswith(f"{layer}_")):
-            lines = {module: sum(len(it.split("\n")) for it in bodies) for module, bodies in sorted(crates[crate].items())}
-            rows.append(f"| {told} | `{crate}` | {', '.join(f'`{module}` {size}' for module, size in lines.items())} |")
-            files, count, told = files + len(lines), count + sum(lines.values()), ""
-    hours = max(1, round(count / PACE / 60))
-    counted = f"{count} lines of definitions in {files} files, some {hours} hour{'s' if hours > 1 else ''} at {PACE} lines a minute"
-    return "\n".join([*rows, f"| all | {len(rows) - 2} crates | {files} files, {count} lines |"]), counted
+    for (file, _), text in lines.items():
+        crate, folder, *_ = file.relative_to(CRATES).parts
+        if folder == part:
+            files = crates.setdefault(crate, {})
+            files[file] = files.get(file, 0) + len(text)
+    return crates
+
+
+def cell(files):
+    """Returns the links to some files, each with its number of lines."""
+    return ", ".join(f"[{it.stem}](../{it.relative_to(ROOT).as_posix()}) {files[it]}" for it in sorted(files))
+
+
+def told(files):
+    return f"{len(files)} files, {sum(files.values())} lines"
+
+
+def table(lines):
+    """Returns the table of definitions and declarations."""
+    rows = ["| layer | crate | `specs/`: files, with their lines of definitions | `src/`: files, with their lines of declarations |", "|---|---|---|---|"]
+    specs, src = counts_of(lines, "specs"), counts_of(lines, "src")
+    for layer, name in LAYERS.items():
+        for crate in sorted(it for it in {*specs, *src} if layer_of(it) == layer):
+            rows.append(f"| {name} | `{crate}` | {cell(specs.get(crate, {}))} | {cell(src.get(crate, {}))} |")
+            name = ""
+    sums = (told({file: size for files in part.values() for file, size in files.items()}) for part in (specs, src))
+    return "\n".join([*rows, f"| all | {len(rows) - 2} crates | {' | '.join(sums)} |"])
+
+
+def counted(lines):
+    """Returns the sentence with how long some lines take to read."""
+    sizes = [[size for files in counts_of(lines, part).values() for size in files.values()] for part in ("specs", "src")]
+    hours = max(1, round(sum(map(sum, sizes)) / PACE / 60))
+    (definitions, files), (declarations, others) = ((sum(it), len(it)) for it in sizes)
+    return (
+        f"{definitions} lines of definitions in {files} files and {declarations} lines of declarations in {others} files, "
+        f"some {hours} hour{'s' if hours > 1 else ''} at {PACE} lines a minute"
+    )
+
+
+def pairs_in(*folders):
+    """Returns how many pairs of an old and a new text the files of mutations have in some folders of all crates."""
+    return sum(len(changes_of(file)) for folder in folders for file in CRATES.glob(f"*/{folder}/*.edit"))
+
+
+def pages(first, beyond):
+    """Returns the pages as they are to be written, each with its file."""
+    checks = len(program.uses()) + len([*CRATES.glob("*/must-fail/*")])
+    tried = f"{pairs_in('must-fail')} of {pairs_in('must-fail', 'mutations'):,} mutations"
+    claims = PAGE.read_text()
+    for pattern, due in ((COUNTED, counted(first)), (PASSED, f"`{checks} passed, 0 failed`"), (TRIED, tried)):
+        claims = pattern.sub(due, claims)
+    tables = iter((table(first), table(beyond)))
+    claims = TABLE.sub(lambda it: f"{it[1]}\n{next(tables)}\n{it[2]}", claims)
+    return {PAGE: claims, FRONT: TRIED.sub(tried, FRONT.read_text())}
+
+
+def lacking():
+    """Returns which of the places that this tool writes a page does not have, or has more than once."""
+    claims, front = PAGE.read_text(), FRONT.read_text()
+    places = ((PAGE, "table", TABLE, 2), (PAGE, "sentence on reading", COUNTED, 1), (PAGE, "last line", PASSED, 1), (PAGE, "number of mutations", TRIED, 1), (FRONT, "number of mutations", TRIED, 1))
+    return [f"{page.relative_to(ROOT)} has its {what} {found} times, not {due}" for page, what, pattern, due in places if (found := len(pattern.findall(claims if page == PAGE else front))) != due]
 
 
 def main(words):
-    seen = believed()
+    first, second = (reached_from_call(*it) for it in CALLS)
+    beyond = {part: lines for part, lines in second.lines.items() if part not in first.lines}
     if words == ["--names"]:
-        print("\n".join(sorted(f"{file.relative_to(CRATES)} {name}" for file, name in seen)))
+        for lines in (first.lines, beyond):
+            print("\n".join([*sorted(f"{file.relative_to(CRATES)} {name}" for file, name in lines), ""]))
         return 0
-    text = PAGE.read_text()
-    rows, counted = table(seen)
-    before, behind = COUNTED.sub(counted, text.split(BEGIN)[0]), text.split(END)[1]
-    checks = len(program.uses()) + len([*CRATES.glob("*/must-fail/*")])
-    written = f"{PASSED.sub(f'`{checks} passed, 0 failed`', before)}{BEGIN}\n\n{rows}\n\n{END}{behind}"
-    if words == ["--check"]:
-        print(f"the table of {PAGE.relative_to(ROOT)} is {'as' if written == text else 'not as'} the definitions have it")
-        return int(written != text)
-    PAGE.write_text(written)
-    return 0
+    wrong = [*dict.fromkeys([*first.lost, *second.lost]), *lacking()]
+    wrong += sorted({f"{crate} is of no layer" for file, _ in second.lines if not layer_of(crate := file.relative_to(CRATES).parts[0])})
+    if wrong:
+        print("\n".join(wrong))
+        return 1
+    written = pages(first.lines, beyond)
+    if words != ["--check"]:
+        for page, text in written.items():
+            page.write_text(text)
+        return 0
+    other = [page for page, text in written.items() if page.read_text() != text]
+    for page in other:
+        print(f"{page.relative_to(ROOT)} is not as the definitions and the mutations have it")
+    if not other:
+        print("the tables and numbers of docs/CLAIMS.md and README.md are as the sources have them")
+    return int(bool(other))
 
 
 if __name__ == "__main__":

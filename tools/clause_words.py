@@ -22,7 +22,9 @@ sys.dont_write_bytecode = True
 import calls_page
 import rattle_files
 from program import ROOT
+from rattle_declarations import OF_KIT, Lost
 from rattle_files import CRATES
+from rattle_words import part_named
 
 DEFINITIONS, CLAIMS = ROOT / "docs" / "DEFINITIONS.md", ROOT / "docs" / "CLAIMS.md"
 NAME = r"[A-Za-z_]\w*"
@@ -61,9 +63,13 @@ def definition_of(word, imports):
     file, name = imports.get(word) or imports.get(head) or (None, None)
     if f"{head}." in imports and tail:
         file, name = imports[f"{head}."][0], tail.split(".")[0]
-    body = rattle_files.definitions_in(file).get(name) if file and name else None
-    if not body:
+    if not (file and name):
         return None
+    body = rattle_files.definitions_in(file).get(name)
+    if not body:
+        # (the file gives it on, or it is told that it does not have it)
+        part = part_named(file, name)
+        return part if part != OF_KIT and part[0].suffix == ".antt" else None
     of = re.match(r"(?:abbrev |unfoldable |opaque )?pub (?:record|data) (\S+)", body[0])
     return file, of[1] if of else name
 
@@ -167,7 +173,11 @@ def main(words):
     if words != ["--check"]:
         sys.exit(__doc__)
     sections = calls_page.sections()
-    missing = [*missing_words(sections), *missing_calls(sections), *missing_rows(sections), *missing_takers()]
+    try:
+        words_missing = missing_words(sections)
+    except Lost as fault:
+        words_missing = [f"a word of a clause stands nowhere: {fault}"]
+    missing = [*words_missing, *missing_calls(sections), *missing_rows(sections), *missing_takers()]
     print("\n".join([*missing, f"the pages lack {len(missing)} words of one another"]))
     return int(bool(missing))
 

@@ -2,9 +2,13 @@
 """Runs the gate and says where its time goes: processor seconds for each crate, of its proof, its tests and its mutations.
 
     tools/gate_times.py             runs `rt ci`, passes on what it prints, then prints the page, and the gate's last line again
-    tools/gate_times.py --write     also writes docs/gate.json and docs/GATE.md, where the gate passed
-    tools/gate_times.py --page      writes docs/GATE.md from docs/gate.json
-    tools/gate_times.py --check     says whether docs/GATE.md is as docs/gate.json has it, with status 1 where it is not
+    tools/gate_times.py --anew      runs `rt ci --anew`, which proves all from nothing in this one run
+    tools/gate_times.py --write     also writes docs/gate.json and the pages from it, where the gate passed
+    tools/gate_times.py --page      writes the pages from docs/gate.json
+    tools/gate_times.py --check     says whether the pages are as docs/gate.json has them, with status 1 where they are not
+
+The pages are docs/GATE.md, and the minutes of the last run with `--anew` that was written, which stand in README.md, docs/CLAIMS.md and
+CONTRIBUTING.md between fixed words; `N` stands there until there was one.
 
 What a process takes is read from /proc while it runs, since the landing needs no package; what is over between two looks is
 counted under `other`, as are rt itself and the programs that it runs. Machines differ, and so does one machine from day to day and within a run: all
@@ -13,7 +17,8 @@ one's, and the bounds are at the pace of the run that the first of these files t
 
 `rt ci` keeps what it passed on a machine, so a run may do little of the work. What it did not do of a crate whose sources
 are as they were is told as it took in the run of docs/gate.json, at this run's pace, and marked by a star: the table, the sum
-and the bounds are those of a run from nothing, but for the crates that the page says are not counted.
+and the bounds are those of a run from nothing, but for the crates that the page says are not counted. A run with `--anew` does
+all, so it has no star and lacks no crate; its minutes are kept in docs/gate.json until the next such run.
 """
 
 import argparse
@@ -35,12 +40,15 @@ sys.dont_write_bytecode = True
 from program import ENDED_WITH_CALLER, PARTS, ROOT, uses
 
 FIGURES, PAGE = ROOT / "docs" / "gate.json", ROOT / "docs" / "GATE.md"
+# Where the minutes of a run from nothing stand, each time once, and how.
+TOLD = (ROOT / "README.md", ROOT / "docs" / "CLAIMS.md", ROOT / "CONTRIBUTING.md")
+MINUTES = re.compile(r"\b(?:\d+|N) minutes by the clock, (?:\d+|N) of a processor\b")
 EVERY = 1
 TICKS = os.sysconf("SC_CLK_TCK")
 # What the gate does of a crate.
 WORK = ("proof", "tests", "mutations")
 # The bounds, in minutes of a processor: for everything, and for a crate with its tests and mutations.
-BOUND, CRATE_BOUND = 90, 6
+BOUND, CRATE_BOUND = 85, 6
 
 
 def work_of(words, folder):
@@ -83,7 +91,7 @@ def run_gate(command):
         while not is_over.wait(EVERY):
             look(child.pid, seen)
 
-    watching = threading.Thread(target=watch)
+    watching = threading.Thread(target=watch, daemon=True)
     watching.start()
     for line in child.stdout:
         print(line, end="", flush=True)
@@ -144,20 +152,22 @@ def pace_of(before, parts):
     return {"first": pace["first"], "times": times, "said": said}, now / was
 
 
-def figures_of(before, last, total, wall, parts):
-    """Returns the figures of a run from nothing, by this run and what was kept."""
+def figures_of(before, last, total, wall, parts, is_anew):
+    """Returns the figures of a run from nothing: this run, if it did all anew, and else this run with what was kept."""
     pace, times = pace_of(before, parts)
-    kept = kept_of(before, parts, times)
+    kept = {} if is_anew else kept_of(before, parts, times)
     run, whole = total, total + sum(kept.values())
     parts.update(kept)
     crates = {
         name: {**{work: round(parts[name, work]) for work in WORK}, "kept": [work for work in WORK if (name, work) in kept], "files": mutations_of(name), "sources": sum_of(name)}
-        for name in sorted({name for name, _ in parts}, key=lambda it: -sum(parts[it, work] for work in WORK))
+        for name in sorted({name for name, _ in parts} | (set(uses()) if is_anew else set()), key=lambda it: -sum(parts[it, work] for work in WORK))
     }
     said = lambda *words: subprocess.run(words, cwd=ROOT, capture_output=True, text=True, check=True).stdout.strip()
+    date, commit = str(datetime.date.today()), said("git", "rev-parse", "--short", "HEAD")
+    anew = {"date": date, "commit": commit, "minutes": round(wall / 60), "processor_minutes": round(run / 60)}
     return {
-        "date": str(datetime.date.today()),
-        "commit": said("git", "rev-parse", "--short", "HEAD"),
+        "date": date,
+        "commit": commit,
         "kit": said("rt", "version"),
         "last_line": last,
         "minutes": round(wall / 60),
@@ -167,6 +177,8 @@ def figures_of(before, last, total, wall, parts):
         "seconds_from_nothing": round(whole),
         # (kept from an earlier run, with other sources than in the run before)
         "lacking": sorted(name for name in uses() if name not in crates),
+        # (the last run that did all anew)
+        "from_nothing": anew if is_anew else before.get("from_nothing"),
         "pace": pace,
         "crates": crates,
     }
@@ -203,6 +215,12 @@ def table_of(figures):
     return lines
 
 
+def minutes_told(figures):
+    """Returns the minutes of the last run from nothing, as all pages have them."""
+    anew = figures.get("from_nothing") or {"minutes": "N", "processor_minutes": "N"}
+    return f"{anew['minutes']} minutes by the clock, {anew['processor_minutes']} of a processor"
+
+
 def page_of(figures):
     """Returns the page that the figures make."""
     run, whole = figures["seconds_of_the_run"], figures["seconds_from_nothing"]
@@ -215,14 +233,35 @@ Processor seconds of one `rt ci`, crate by crate, from `docs/gate.json`, both wr
 
 {figures['date']}, commit {figures['commit']}, {figures['kit']}: `{figures['last_line']}` after {figures['minutes']} minutes on {figures['processors']} processors (load {figures['load']} at the end), {run / 60:.0f} processor minutes.{stars}{lacks}
 """
+    anew = figures.get("from_nothing")
+    head += f"\nThe last run from nothing, `rt ci --anew`{' at ' + anew['commit'] + ' on ' + anew['date'] if anew else ''}: {minutes_told(figures)}.\n"
     return head + "\n" + bounds_told(figures) + "\n\n" + "\n".join(table_of(figures)) + "\n"
+
+
+def pages_of(figures):
+    """Returns the pages as the figures have them, each with its file."""
+    told = {page: MINUTES.sub(minutes_told(figures), page.read_text()) for page in TOLD}
+    return {PAGE: page_of(figures), **told}
+
+
+def write_pages(figures):
+    for page, text in pages_of(figures).items():
+        page.write_text(text)
+
+
+def check_pages(figures):
+    """Says which pages are not as the figures have them, and returns the status."""
+    wrong = [f"{page.relative_to(ROOT)} is not as docs/gate.json has it" for page, text in pages_of(figures).items() if page.read_text() != text]
+    wrong += [f"{page.relative_to(ROOT)} does not have the minutes of the gate once" for page in TOLD if len(MINUTES.findall(page.read_text())) != 1]
+    print("\n".join(wrong or ["docs/GATE.md, and the minutes in README.md, docs/CLAIMS.md and CONTRIBUTING.md, are as docs/gate.json has them"]))
+    return int(bool(wrong))
 
 
 def time_gate(command, is_written):
     """Runs the gate, prints the page on it, and writes it where that is asked for. Returns the gate's status."""
     status, last, total, wall, parts = run_gate(command)
     try:
-        figures = figures_of(json.loads(FIGURES.read_text()), last, total, wall, parts)
+        figures = figures_of(json.loads(FIGURES.read_text()), last, total, wall, parts, "--anew" in command)
     except (OSError, ValueError, KeyError, subprocess.SubprocessError) as fault:
         # What the gate says counts also where its times can't be told.
         print(f"gate_times.py: {fault}\n{last}")
@@ -230,25 +269,24 @@ def time_gate(command, is_written):
     print(f"{page_of(figures)}\n{last}")
     if is_written and status == 0 and re.fullmatch(r"\d+ passed, 0 failed", last):
         FIGURES.write_text(json.dumps(figures, indent=1) + "\n")
-        PAGE.write_text(page_of(figures))
+        write_pages(figures)
     return status
 
 
 def main():
     words = argparse.ArgumentParser(description=__doc__, formatter_class=argparse.RawDescriptionHelpFormatter)
+    words.add_argument("--anew", action="store_true", help="time rt ci --anew")
     words.add_argument("--write", action="store_true")
     words.add_argument("--page", action="store_true")
     words.add_argument("--check", action="store_true")
-    words.add_argument("command", nargs="*", default=["rt", "ci"], help="what to time in place of rt ci")
+    words.add_argument("command", nargs="*", help="what to time in place of rt ci")
     given = words.parse_args()
     if not given.page and not given.check:
-        return time_gate(given.command, given.write)
-    page = page_of(json.loads(FIGURES.read_text()))
+        return time_gate([*(given.command or ["rt", "ci"]), *(["--anew"] if given.anew else [])], given.write)
+    figures = json.loads(FIGURES.read_text())
     if given.check:
-        is_current = PAGE.read_text() == page
-        print(f"docs/GATE.md is {'as' if is_current else 'not as'} docs/gate.json has it")
-        return int(not is_current)
-    PAGE.write_text(page)
+        return check_pages(figures)
+    write_pages(figures)
     return 0
 
 

@@ -1,10 +1,12 @@
 #!/usr/bin/env python3
-"""Compares the numbers of include/instants.h with those of the sources, and with those that other languages have of it: the room
-that a line's answer needs, the greatest limit, the version, faults and components as numbers.
+"""Compares include/instants.h with the sources, and with what other languages have of it: the numbers (the room that a line's
+answer needs, the greatest limit, the version, faults and components), the fields of each struct and the arguments of each call with
+their names, order and types, and what each call returns.
 
-    tools/header_numbers.py --check    with status 1 where a number differs, or is not found
+    tools/header_numbers.py --check    with status 1 where one of them differs, or is not found
 """
 
+import ast
 import pathlib
 import re
 import sys
@@ -37,6 +39,42 @@ LISTS = (
     ("crates/instants_memory/src/numbers.rt", r"match name \{(.*?)_ => 0"),
     ("crates/instants_memory/specs/Numbers.antt", r"^names =\n(.*?) \[\]$"),
 )
+
+# Where the structs and calls of the header stand elsewhere.
+EXPORTS, SYS, PYTHON = ROOT / "crates" / "instants_c" / "src", "bindings/rust/sys/src/lib.rs", "bindings/python/instants/_library.py"
+# What a struct of the header is called there, and what its pointer is in C.
+STRUCTS = {"Moment": "instants_moment", "Handle": "instants_handle", "Opened": "instants_handle"}
+# An argument that goes by another name in the header, by its call.
+RENAMED = {("instants_sentence", "len"): "sentence_len"}
+# What a type of Rust is in C. A slice is two arguments: where it begins, and its length. The allocator is none.
+C_OF_RUST = {
+    "u8": "uint8_t",
+    "u32": "uint32_t",
+    "i64": "int64_t",
+    "usize": "size_t",
+    "*const u8": "const void *",
+    "*mut u8": "void *",
+    "*const c_void": "const void *",
+    "*mut c_void": "void *",
+    "&mut usize": "size_t *",
+    "*mut usize": "size_t *",
+    "&mut Handle": "struct instants_handle *",
+    "*mut Handle": "struct instants_handle *",
+    "*mut Moment": "struct instants_moment *",
+}
+SLICES = {"&[u8]": "const void *", "&'static [u8]": "const void *", "&mut [u8]": "void *", "&mut [Moment]": "struct instants_moment *"}
+# What a type of Python's ctypes may be in C.
+C_OF_PYTHON = {
+    "ctypes.c_char_p": ("const void *",),
+    "ctypes.c_void_p": ("void *", "const void *", "struct instants_moment *"),
+    "ctypes.c_size_t": ("size_t",),
+    "ctypes.POINTER(ctypes.c_size_t)": ("size_t *",),
+    "ctypes.POINTER(Opened)": ("struct instants_handle *",),
+    "ctypes.c_uint8": ("uint8_t",),
+    "ctypes.c_uint32": ("uint32_t",),
+    "None": ("void",),
+}
+SIZES = {"int64_t": 8, "uint32_t": 4, "void *": 8}
 
 
 def in_header(name):
@@ -75,11 +113,127 @@ def wrong_names():
     return wrong
 
 
+# ---- structs and calls
+
+
+def c_parts(text, sign):
+    """Returns the types and names of fields or arguments as C has them."""
+    parts = [re.fullmatch(r"(.+?)(\w+)", re.sub(r"\s+", " ", it).strip()) for it in text.split(sign) if it.strip() not in ("", "void")]
+    return [(it[1].strip(), it[2]) for it in parts]
+
+
+def of_header():
+    """Returns the structs of the header, each with its fields, and the calls, each with its arguments and what it returns."""
+    text = re.sub(r"/\*.*?\*/", "", HEADER.read_text(), flags=re.S).split("static __inline__")[0]
+    structs = {name: c_parts(fields, ";") for name, fields in re.findall(r"^struct (\w+) \{(.*?)^\};", text, re.M | re.S)}
+    calls = {name: (c_parts(takes, ","), returns) for returns, name, takes in re.findall(r"^(\w+) (instants_\w+)\(([^)]*)\);", text, re.M)}
+    return structs, calls
+
+
+def rust_parts(text, call=None):
+    """Returns the types and names of fields or arguments of Rust as C has them."""
+    parts = []
+    for name, it in re.findall(r"(?:^|,)\s*(?:pub )?(\w+): ([^,]+?)\s*(?=,|$)", text.strip()):
+        name = RENAMED.get((call, name), name)
+        if it in SLICES:
+            parts += [(SLICES[it], name), ("size_t", f"{name}_len")]
+        elif it != "Global":
+            parts.append((C_OF_RUST.get(it, it), name))
+    return parts
+
+
+def of_rust(text):
+    """Returns the structs and the calls of a text of Rust as C has them."""
+    text = re.sub(r"//[^\n]*", "", text)
+    structs = {}
+    for name, fields in re.findall(r"^#\[repr\(C\)\]\n(?:#\[[^\n]*\]\n)*pub struct (\w+) \{(.*?)^\}", text, re.M | re.S):
+        structs[STRUCTS.get(name, name)] = rust_parts(re.sub(r"^ *(?:pub )?ghost [^\n]*", "", fields, flags=re.M))
+    calls = {}
+    for name, takes, returns in re.findall(r'^(?:pub (?:unsafe )?extern "C"|    pub) fn (instants_\w+)\(([^)]*)\)(?: -> (\w+))?', text, re.M):
+        calls[name] = rust_parts(takes, name), C_OF_RUST.get(returns, returns) or "void"
+    return structs, calls
+
+
+def of_python(text):
+    """Returns the fields of each structure of ctypes, the types of each call's arguments with what it returns, and the bytes of an
+    entry."""
+    tree, structs, calls, values, size = ast.parse(text), {}, {}, {}, None
+
+    def said(node):
+        return ast.unparse(node) if not isinstance(node, ast.Name) else values.get(node.id, node.id)
+
+    for node in ast.walk(tree):
+        if isinstance(node, ast.ClassDef):
+            fields = [it.value for it in node.body if isinstance(it, ast.Assign) and ast.unparse(it.targets[0]) == "_fields_"]
+            structs.update({STRUCTS.get(node.name, node.name): [(said(it.elts[1]), it.elts[0].value) for it in list.elts] for list in fields})
+        elif isinstance(node, ast.Assign) and isinstance(node.targets[0], ast.Tuple) and isinstance(node.value, ast.Tuple):
+            values.update({ast.unparse(name): ast.unparse(it) for name, it in zip(node.targets[0].elts, node.value.elts)})
+        elif isinstance(node, ast.Assign) and ast.unparse(node.targets[0]) == "ENTRY":
+            size = node.value.value
+    for row in (row for node in ast.walk(tree) if isinstance(node, ast.For) and isinstance(node.iter, ast.Tuple) for row in node.iter.elts):
+        name, takes, returns = row.elts
+        calls[name.value] = [said(it) for it in takes.elts], said(returns)
+    return structs, calls, size
+
+
+def told(parts):
+    return ", ".join(f"{kind} {name}" for kind, name in parts) or "nothing"
+
+
+def wrong_in_rust(where, text, is_whole):
+    """Returns what a text of Rust has other than the header, and what it lacks, if it has to have all."""
+    wrong = []
+    for kind, due, found in zip(("struct", "call"), of_header(), of_rust(text)):
+        for name in {**found, **(due if is_whole else {})}:
+            if name not in found or name not in due:
+                wrong.append(f"{where if name not in found else HEADER.relative_to(ROOT)} does not have the {kind} {name}")
+            elif found[name] != due[name]:
+                shown = [told(it) if kind == "struct" else f"{told(it[0])} -> {it[1]}" for it in (found[name], due[name])]
+                wrong.append(f"{where} has {name} with {shown[0]}; the header has {shown[1]}")
+    return wrong
+
+
+def wrong_in_python(text):
+    """Returns what a text of Python has other than the header."""
+    wrong, (structs, calls) = [], of_header()
+    found, found_calls, size = of_python(text)
+    for name, fields in found.items():
+        due = structs.get(name, [])
+        if [it for _, it in fields] != [it for _, it in due] or any(c not in C_OF_PYTHON.get(kind, ()) for (kind, _), (c, _) in zip(fields, due)):
+            wrong.append(f"{PYTHON} has {name} with {told(fields)}; the header has {told(due)}")
+    if not found or not found_calls or size != sum(SIZES[kind] for kind, _ in structs["instants_moment"]):
+        wrong.append(f"{PYTHON} has {len(found)} structures, {len(found_calls)} calls, and entries of {size} bytes")
+    for name, (takes, returns) in found_calls.items():
+        due, result = calls.get(name, ([], None))
+        kinds = [*(it for it, _ in due), result]
+        if len(takes) != len(due) or any(c not in C_OF_PYTHON.get(kind, ()) for kind, c in zip([*takes, returns], kinds)):
+            wrong.append(f"{PYTHON} has {name} with {', '.join(takes)} -> {returns}; the header has {told(due)} -> {result}")
+    return wrong
+
+
+def wrong_declarations():
+    """Returns what is said of each struct and each call that is not as the header has it."""
+    structs = "\n".join(it.read_text() for it in sorted((ROOT / "crates").glob("*/src/**/*.rt")) if "repr(C)" in it.read_text() and EXPORTS not in it.parents)
+    exports = "\n".join(it.read_text() for it in sorted(EXPORTS.rglob("*.rt")))
+    return [
+        *wrong_in_rust("crates/", f"{exports}\n{structs}", is_whole=True),
+        *wrong_in_rust(SYS, (ROOT / SYS).read_text(), is_whole=True),
+        *wrong_in_python((ROOT / PYTHON).read_text()),
+    ]
+
+
+def wrong_places():
+    """Returns all that is not as the header has it."""
+    return wrong_numbers() + wrong_declarations()
+
+
 def main(words):
     if words != ["--check"]:
         sys.exit(__doc__)
-    wrong = wrong_numbers()
-    print("\n".join([*wrong, f"{len(PLACES) + len(LISTS) - len(wrong)} numbers and lists are as {HEADER.relative_to(ROOT)} has them, {len(wrong)} are not"]))
+    wrong = wrong_places()
+    structs, calls = of_header()
+    counted = f"{len(PLACES) + len(LISTS)} numbers and lists, {len(structs)} structs and {len(calls)} calls"
+    print("\n".join([*wrong, f"{counted}: {len(wrong)} are not as {HEADER.relative_to(ROOT)} has them"]))
     return int(bool(wrong))
 
 

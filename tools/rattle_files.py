@@ -136,6 +136,8 @@ def name_of(call):
 
 # ---- definitions
 
+# How an operator binds, as `infixl 10 ◌>>=◌`; a definition may be called `prefix`.
+FIXITY = re.compile(r"\s*(?:infix[lr]?|prefix|postfix) \d+ +\S*◌")
 WORD = r"[^\s(){}\[\].,;=:λ→]+(?:\.[^\s(){}\[\].,;=:λ→]+)*|◌[^\s(){},;]*◌"
 
 
@@ -195,7 +197,7 @@ def definitions_in(file):
     for block in re.split(r"\n(?=(?:abbrev |unfoldable |opaque )?pub )", text):
         head = re.match(r"(?:abbrev |unfoldable |opaque )?pub (?:record |data )?(\S+)", block)
         if head:
-            body = [it for it in block.split("\n") if it.strip() and not it.startswith(("infix", "prefix", "postfix"))]
+            body = [it for it in block.split("\n") if it.strip() and not FIXITY.match(it)]
             found[head[1]] = body
             # (the base of a data type and the fields of a record go with it)
             for name in re.findall(r"^  (?:pub )?(\S+) :", "\n".join(body), re.M):

@@ -8,7 +8,7 @@ python3-pandas libsqlite3-dev sqlite3. The program and the library are
 those that were built last; where they are not, or are older than their sources, they are proved and built first
 (tools/build_program.py, tools/build_library.py).
 
-- The numbers of the header are those of the sources and of the other languages (tools/header_numbers.py), it says how much
+- The numbers, structs and calls of the header are those of the sources and of the other languages (tools/header_numbers.py), it says how much
   stack a call needs, and it is valid C and C++ by itself. `bindings/c/answers.cc` calls it in C++, over strings.
 - C: `bindings/c/moments.c` prints the moments and faults of the same lines as numbers, at two targets; they are those that the
   program's answers tell, by Python's calendar and the header's numbers.
@@ -189,8 +189,8 @@ def compiled(name, library, flags=(), link=()):
 
 def try_header(library):
     """Tries the header by itself."""
-    wrong = header_numbers.wrong_numbers()
-    report("the header: its numbers", not wrong, "; ".join(wrong))
+    wrong = header_numbers.wrong_places()
+    report("the header: its numbers, structs and calls", not wrong, "; ".join(wrong))
     report("the header: it says how much stack a call needs", "@STACK@" not in header_numbers.HEADER.read_text(), "@STACK@ is no number")
     strict = ["-Wall", "-Wextra", "-Wpedantic", "-Werror"]
     for language in ("c", "c++"):

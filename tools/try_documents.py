@@ -76,6 +76,7 @@ CHECKS = (
     ("header_numbers.py", "--check"),
     ("pictures.py", "--check"),
     ("page_links.py", "--check"),
+    ("gate_times.py", "--check"),
     ("formats_page.py", "--check"),
 )
 SECONDS = 300

@@ -4,7 +4,7 @@
     tools/try_turned.py
 
 The crate has functions that promise their result, one that promises little, and one that no mutation turns. So some mutations are
-refused, one is spared, one applies more than once, and a function is named that none turns. It takes some minutes. The last line
+refused, one is spared, one applies more than once, and a function is named that none turns; a sample tells each pair. It takes some minutes. The last line
 counts what passed; the status is 1 where anything failed.
 """
 
@@ -17,7 +17,8 @@ import tempfile
 
 sys.dont_write_bytecode = True
 
-from program import ROOT
+import turned as tool
+from program import ROOT, uses
 from tries import report, summary
 
 TOOLS = ("turned.py", "program.py", "rattle_files.py")
@@ -81,6 +82,18 @@ def turned(room, *words):
     return ran.returncode, ran.stdout + ran.stderr
 
 
+def try_samples(room):
+    """Tries a sample of the small crate, in which one mutation of three is let through, and what a seed draws of this repository."""
+    status, said = turned(room, "--sample", "3", "--seed", "1")
+    told = re.findall(r"^small/(?:must-fail|mutations)/(\w+)\.edit, pair 1: \w+ is (refused|spared)$", said, re.M)
+    due = [("telling", "refused"), ("a_half", "refused"), ("another", "spared")]
+    report("a sample tells each pair, refused or not", status == 1 and sorted(told) == sorted(due) and "3 of 3 pairs, by seed 1: 2 refused, 1 not" in said, said)
+    status, said = turned(room, "--sample", "4", "--seed", "1")
+    report("a sample of more pairs than there are is refused", status == 2, said)
+    one, again, other = (tool.drawn(uses(), 40, seed) for seed in (1, 1, 2))
+    report("a seed draws the same pairs, and another one others", one == again != other and sum(map(len, one.values())) == 40, f"{one}")
+
+
 def main():
     with tempfile.TemporaryDirectory(prefix="small-") as folder:
         room = pathlib.Path(folder)
@@ -100,6 +113,7 @@ def main():
         (others / "another.edit").write_text(written(("a weaker clause", "ensures { result ≤ 255 }", "ensures { result ≤ 256 }")))
         status, said = turned(room, "--check")
         report("a mutation that the contract lets through is told", status == 1 and "loose (src/lib.rt:" in said and "is spared" in said, said)
+        try_samples(room)
     return summary()
 
 

@@ -4,6 +4,8 @@
     tools/turned.py CRATE..             the public functions that no mutation turns
     tools/turned.py --check CRATE..     also tries each mutation on a copy: each function that it turns must be refused
     tools/turned.py --changed [REV]     --check for the crates that differ from REV (none given: from the branch's remote)
+    tools/turned.py --sample N --seed S [CRATE..]
+                                        tries N pairs of an old and a new text, drawn by a seed from those of all crates, or of these
 
 A crate's mutations stand in two folders of files of one form: must-fail/ has those that tell most, which `rt ci` tries too,
 mutations/ all others, a file for each kind of mistake. A file turns several functions of the crate, whose mutated bodies call
@@ -12,6 +14,10 @@ the mutation; this says that each of its functions is, for what it does itself. 
 away (a proof file that no longer finds a name) is set apart, since it says little of the contract.
 
 It prints what it misses, and ends with status 1 if there is any. With --jobs N it works on N crates at a time.
+
+A pair that is drawn is tried with all of its file, as some only mean something together. Each function that it turns must be refused
+for what it does itself; where it turns none, as a line of `use`, its crate must be. Each pair is told, refused or not. The same
+seed draws the same pairs from the same files.
 """
 
 import argparse
@@ -19,6 +25,7 @@ import collections
 import concurrent.futures
 import os
 import pathlib
+import random
 import re
 import shutil
 import subprocess
@@ -28,7 +35,7 @@ import time
 
 sys.dont_write_bytecode = True
 
-from program import PARTS, ROOT, crates_for
+from program import PARTS, ROOT, crates_for, uses
 from rattle_files import changes_of, edited, functions_of, turned_by
 
 TIERS = ("must-fail", "mutations")
@@ -162,6 +169,62 @@ def tell(name, is_checked):
     return missed + len(left), lines
 
 
+def pairs_of(crates):
+    """Returns all pairs of the crates' mutations: each with its file, in the order of their paths."""
+    files = sorted(it for name in crates for tier in TIERS for it in (ROOT / "crates" / name / tier).glob("*.edit"))
+    return [(file, at) for file in files for at in range(len(changes_of(file)))]
+
+
+def drawn(crates, count, seed):
+    """Returns so many pairs of the crates' mutations, drawn by a seed: for each file which of its pairs, in order."""
+    found = collections.defaultdict(list)
+    for file, at in sorted(random.Random(seed).sample(pairs_of(crates), count)):
+        found[file].append(at)
+    return found
+
+
+def turned_by_pair(crate, changes, at, functions):
+    """Returns the functions that one pair turns, after those that stand before it in its file."""
+    file, old, new = changes[at]
+    before = edited(crate, changes[:at]).get(file, ("", (crate / file).read_text()))[1]
+    return turned_by({file: (before, before.replace(old, new))}, functions)
+
+
+def try_pairs(name, files):
+    """Tries the drawn pairs of a crate. Returns how many are not refused, and a line for each."""
+    lines, missed = [], 0
+    crate = ROOT / "crates" / name
+    functions = functions_of(crate)
+    with tempfile.TemporaryDirectory(prefix="turned-") as room:
+        copy = Copy(pathlib.Path(room), name)
+        if "logic=proved" not in copy.check({}):
+            return sum(map(len, files.values())), [f"{name}: not proved without any mutation"]
+        for file, places in files.items():
+            changes = changes_of(file)
+            said = copy.check(edited(crate, changes))
+            answers = answers_in(said, functions)
+            for at in places:
+                turns = turned_by_pair(crate, changes, at, functions)
+                told = [(it.path, answers.get(it, Refusal.SPARED)) for it in turns]
+                told = told or [("its crate", Refusal.REFUSED if "logic=not-proved" in said else Refusal.SPARED)]
+                lines.append(f"{file.relative_to(ROOT / 'crates')}, pair {at + 1}: {', '.join(f'{path} is {answer}' for path, answer in told)}")
+                missed += any(answer != Refusal.REFUSED for _, answer in told)
+    return missed, lines
+
+
+def try_sample(crates, count, seed, jobs):
+    """Tries a sample of the pairs of some crates, and returns the status."""
+    began, missed, of = time.monotonic(), 0, collections.defaultdict(dict)
+    for file, places in drawn(crates, count, seed).items():
+        of[file.parent.parent.name][file] = places
+    with concurrent.futures.ThreadPoolExecutor(jobs) as pool:
+        for not_refused, lines in pool.map(lambda name: try_pairs(name, of[name]), of):
+            print("\n".join(lines), flush=True)
+            missed += not_refused
+    print(f"{count} of {len(pairs_of(crates)):,} pairs, by seed {seed}: {count - missed} refused, {missed} not, in {time.monotonic() - began:.0f} s")
+    return int(bool(missed))
+
+
 def changed_since(revision):
     """Returns the crates with a file that differs from a revision, those that git does not track among them."""
     how = {"cwd": ROOT, "capture_output": True, "text": True, "check": True}
@@ -176,9 +239,18 @@ def main():
     words = argparse.ArgumentParser(description=__doc__, formatter_class=argparse.RawDescriptionHelpFormatter)
     words.add_argument("--check", action="store_true")
     words.add_argument("--changed", metavar="REV", nargs="?", const="@{upstream}")
+    words.add_argument("--sample", type=int, metavar="N")
+    words.add_argument("--seed", type=int, metavar="S")
     words.add_argument("--jobs", type=int, default=1, metavar="N")
     words.add_argument("crates", nargs="*", metavar="CRATE")
     given = words.parse_args()
+    if (given.sample is None) != (given.seed is None):
+        words.error("a sample has a number and a seed")
+    if given.sample is not None:
+        try:
+            return try_sample(given.crates or [*uses()], given.sample, given.seed, given.jobs)
+        except ValueError as error:
+            words.error(f"{given.sample}: {error}")
     try:
         crates = given.crates + (changed_since(given.changed) if given.changed else [])
     except subprocess.CalledProcessError as error:
