@@ -15,6 +15,8 @@ mod fields;
 #[cfg(test)]
 mod laws;
 #[cfg(test)]
+mod layouts;
+#[cfg(test)]
 mod moments;
 #[cfg(test)]
 mod page;

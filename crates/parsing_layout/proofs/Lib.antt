@@ -1,0 +1,2 @@
+pub mod LayoutLemmas
+pub mod RunLemmas

@@ -1,0 +1,97 @@
+-- Runs of digits, and what they are as a fraction.
+use Rattle.std.proofs.Common.{◌≡◌, ◌∙◌, ◌≤◌, ◌<◌, ◌+◌, ◌*◌, ◌^◌, ℕ, zero, suc, min, Bool, true, false, List, [], ◌∷◌, length, take, drop, Option, Some, None, refl, sym, ap, arith, lit<, cond}
+use Rattle.std.specs.Prelude.{◌==◌, nat_le, option_map}
+use Rattle.std.specs.Str.Parse.{digits_value}
+use Rattle.std.specs.Char.{is_ascii_digit}
+use Rattle.std.proofs.lemmas.Bool.Decides.{nat_tests}
+use Rattle.std.proofs.lemmas.List.{length-take-le, length-drop, take_all}
+use Rattle.std.proofs.Math.Nat.{pow-le-pow_right}
+use Rattle.parsing_combinator.specs.Pieces.{digit_count, digit_run, fraction, nanoseconds_of}
+use Rattle.parsing_combinator.specs.Shape.{taken, digits_between}
+use Rattle.parsing_combinator.proofs.Decimal.{digit_count_within}
+use Rattle.parsing_combinator.proofs.Longest.{taken_digits}
+use Rattle.parsing_combinator.proofs.WideLemmas.{Next, next_digit}
+use Rattle.parsing_layout.specs.Layout.{exact_fraction}
+
+inside : {A : Type 0} → (x y : A) → Some x ≡ Some y → x ≡ y
+inside x y e = cc
+
+-- what a run is: all digits at the start, at least one
+record IsRun (text run rest : List ℕ) : Type 0 where
+  some : 0 < digit_count text
+  all : take (digit_count text) text ≡ run
+  after : drop (digit_count text) text ≡ rest
+
+is_run : (none : Bool) (text run rest : List ℕ) → (digit_count text == 0) ≡ none → digit_run text ≡ Some (run, rest) → IsRun text run rest
+unfolding digit_run
+is_run true text run rest is e = absurd (let never : None ≡ Some (run, rest) = rw is at e in cc)
+is_run false text run rest is e =
+    let cut = inside (take (digit_count text) text, drop (digit_count text) text) (run, rest) (rw is at e) in
+    record { some = grind (arith, nat_tests, is); all = ap (λ (z : List ℕ × List ℕ). z.0) cut; after = ap (λ (z : List ℕ × List ℕ). z.1) cut }
+
+pub run_taken : (most : ℕ) (text run rest : List ℕ) → digit_run text ≡ Some (run, rest) → length run ≤ most → taken (digits_between 1 most) text ≡ Some (digits_value 10 run, rest)
+run_taken most text run rest e few =
+    let c = digit_count text in
+    let r = is_run _ text run rest refl e in
+    let long : length (take c text) ≡ c = length-take-le c text (digit_count_within text) in
+    let within : c ≤ most = omega (arith, long, (rw (sym r.all) at few)) in
+    let least : min c most ≡ c = omega arith in
+    let there : nat_le 1 c ≡ true = let some = r.some in grind (arith, nat_tests) in
+    taken_digits (digits_value 10) 1 most text (omega (arith, r.some, within)) ∙ rw (there, least, r.all, r.after) refl
+
+-- ---- a fraction of so many digits
+
+count_more : (b : Bool) (m n : ℕ) → m ≤ n → cond b (1 + m) 0 ≤ cond b (1 + n) 0
+count_more true m n le = omega arith
+count_more false m n le = omega arith
+
+count_in_prefix : (n : ℕ) (text : List ℕ) → digit_count (take n text) ≤ digit_count text
+count_in_prefix zero text = omega arith
+count_in_prefix (suc n) [] = omega arith
+count_in_prefix (suc n) (c ∷ cs) = count_more (is_ascii_digit c) (digit_count (take n cs)) (digit_count cs) (count_in_prefix n cs)
+
+-- what a fraction was read of
+fraction_said : (o : Option (List ℕ × List ℕ)) (v : ℕ) → option_map {U = ℕ × List ℕ} (λ p. (nanoseconds_of p.0, p.1)) o ≡ Some (v, []) → (run : List ℕ) × (o ≡ Some (run, [])) × (nanoseconds_of run ≡ v)
+fraction_said None v e = absurd cc
+fraction_said (Some p) v e =
+    let read = inside (nanoseconds_of p.0, p.1) (v, []) e in
+    let rest : p.1 ≡ [] = ap (λ (z : ℕ × List ℕ). z.1) read in
+    let value : nanoseconds_of p.0 ≡ v = ap (λ (z : ℕ × List ℕ). z.0) read in
+    (p.0, ap (λ (r : List ℕ). Some (p.0, r)) rest, value)
+
+empty : (xs : List ℕ) → (length xs == 0) ≡ true → xs ≡ []
+empty [] e = refl
+empty (x ∷ xs) e = absurd (let zero : length (x ∷ xs) ≡ 0 = grind (arith, nat_tests, e) in omega (arith, zero))
+
+pub exact_taken : (n v : ℕ) (text first left rest : List ℕ) → n ≤ length text → take n text ≡ first → drop n text ≡ rest → fraction first ≡ Some (v, left) → (length left == 0) ≡ true → exact_fraction n text ≡ Some (v, rest)
+unfolding exact_fraction fraction
+exact_taken n v text first left rest within before after e none_left =
+    let read : fraction first ≡ Some (v, []) = rw (empty left none_left) at e in
+    let said = fraction_said (digit_run first) v read in
+    let run = is_run _ first said.0 [] refl said.1 in
+    let long : length first ≡ n = rw (sym before) (length-take-le n text within) in
+    let none : length (drop (digit_count first) first) ≡ 0 = rw run.after refl in
+    let all : digit_count first ≡ n = omega (arith, long, none, length-drop (digit_count first) first, digit_count_within first) in
+    let whole : take (digit_count first) first ≡ first = take_all (digit_count first) first (omega (arith, all, long)) in
+    let value : nanoseconds_of first ≡ v = rw (sym whole) (rw (sym run.all) at said.2) in
+    let counted : digit_count (take n text) ≡ n = rw before all in
+    let enough : nat_le n (digit_count text) ≡ true = let more = count_in_prefix n text in grind (arith, nat_tests) in
+    rw (enough, before, after, value) refl
+
+-- ---- a number, digit by digit
+
+most_fits : (i value : ℕ) → i < 19 → value < 10 ^ i → value * 10 + 9 < 2 ^ 64
+most_fits i value lt below =
+    let most : 10 ^ i ≤ 1000000000000000000 = pow-le-pow_right {n = 10} (lit< tt) {i = i} {j = 18} (omega arith) in
+    omega (arith, most, below)
+
+-- what is needed at one more digit
+pub record More (run : List ℕ) (i value : ℕ) : Type 0 where
+  pub next : Next run i value
+  pub few : value * 10 + 9 < 2 ^ 64
+
+pub one_more : (run : List ℕ) (i value : ℕ) → length run ≤ 19 → digit_count run ≡ length run → i < length run → value ≡ digits_value 10 (take i run) → value < 10 ^ i → More run i value
+one_more run i value short all lt is below = record {
+  next = next_digit run i value (omega (arith, short)) all lt is below;
+  few = most_fits i value (omega (arith, short, lt)) below;
+}
