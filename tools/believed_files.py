@@ -26,7 +26,7 @@ from rattle_words import reached_from_call
 
 PAGE, FRONT = ROOT / "docs" / "CLAIMS.md", ROOT / "README.md"
 TABLE = re.compile(r"(<!-- tools/believed_files.py begins(?: [a-z ]+)? -->\n).*?(\n<!-- tools/believed_files.py ends -->)", re.S)
-# The calls that tables are of, each with the crates of its program.
+# The calls that the tables are of.
 CALLS = tuple((CRATES / crate / "src" / "program.rt", "run_words") for crate in ("instants_timeline", "instants_lines"))
 LAYERS = {"instants": "lines and answers", "parsing": "reading", "description": "descriptions", "datetime": "date-times", "calendar": "calendar", "base": "bytes"}
 # How many lines are read in a minute, and the sentence with how long all of them take.
