@@ -37,7 +37,7 @@ BELOW = {
     "parsing_values": set(),
     "parsing_places": {"read", "read_long"},
     "parsing_fields": {"Fields", "Fraction", "Year", "minute_of_day", "signed_minutes"},
-    "parsing_components": {"read_component", "read_component_v3", "read_usual"},
+    "parsing_components": {"Record", "read", "read_component", "read_component_v3"},
     "parsing_first_bytes": {"FirstBounds", "FirstBytes"},
     "parsing_steps": {"Steps"},
     "parsing_layouts": {"Places", "UnixTime"},

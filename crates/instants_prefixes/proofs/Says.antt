@@ -20,8 +20,8 @@ use Rattle.parsing_combinator.specs.Numbers.{padded, year, century, offset_hour,
 use Rattle.parsing_combinator.specs.Names.{named, period, short_months, long_months, short_weekdays, long_weekdays}
 use Rattle.parsing_components.specs.Ranged.{kept, says, between, up_to, under, since_epoch, counted, months, from_sunday, from_monday, greatest_century}
 use Rattle.parsing_components.specs.Component.{fraction_of, ignored, offset_piece, time_piece, year_piece, date_piece, component_name, at_end, begins_character, if_whole, reads_modern, reads_component, reads_component_v3}
-use Rattle.parsing_components.specs.Read.{Read}
-use Rattle.parsing_components.specs.Read as read
+use Rattle.parsing_components.specs.declared.said.Read.{Read}
+use Rattle.parsing_components.specs.declared.said.Read.TheVariants as read
 
 -- what a component may take its words from
 pub record Said : Type 0 where

@@ -7,7 +7,7 @@ use Rattle.parsing_combinator.specs.Fault.{Fault}
 use Rattle.parsing_combinator.specs.Readings.{then_read, give}
 use Rattle.parsing_components.specs.Component.{reads_component, reads_component_v3}
 use Rattle.parsing_components.specs.Put.{put}
-use Rattle.parsing_components.specs.Read.{Read}
+use Rattle.parsing_components.specs.declared.said.Read.{Read}
 use Rattle.parsing_record.specs.Record.{Record}
 use Rattle.parsing_record.specs.Reads.{Language}
 use Rattle.instants_prefixes.specs.Reading.{is_unix_time}

@@ -20,8 +20,8 @@ use Rattle.parsing_combinator.specs.Numbers.{padded, year, offset_hour}
 use Rattle.parsing_combinator.proofs.Components.{taken_padded_exactly, taken_year}
 use Rattle.parsing_combinator.proofs.SignLemmas.{under}
 use Rattle.parsing_components.specs.Ranged.{kept, between, up_to}
-use Rattle.parsing_components.specs.Read.{Read}
-use Rattle.parsing_components.specs.Read as read
+use Rattle.parsing_components.specs.declared.said.Read.{Read}
+use Rattle.parsing_components.specs.declared.said.Read.TheVariants as read
 use Rattle.parsing_components.specs.declared.slot.Slot.{Slot}
 use Rattle.parsing_components.specs.Slot.{IsSlotOf, slot_piece, slot_of_day, slot_of_subsecond}
 

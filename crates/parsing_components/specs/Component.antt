@@ -17,8 +17,8 @@ use Rattle.parsing_combinator.specs.Numbers.{padded, year, century, offset_hour,
 use Rattle.parsing_combinator.specs.Names.{named, period, short_months, long_months, short_weekdays, long_weekdays}
 use Rattle.calendar_count.specs.Range.{greatest_year}
 use Rattle.parsing_components.specs.Ranged.{greatest_century, says, between, up_to, since_epoch, counted, months, from_sunday, from_monday}
-use Rattle.parsing_components.specs.Read.{Read}
-use Rattle.parsing_components.specs.Read as read
+use Rattle.parsing_components.specs.declared.said.Read.{Read}
+use Rattle.parsing_components.specs.declared.said.Read.TheVariants as read
 
 -- one to 32 digits, or exactly so many
 abbrev pub fraction_of : SubsecondDigits → Shape ℕ

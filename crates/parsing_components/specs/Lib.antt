@@ -1,4 +1,3 @@
-pub mod Read
 pub mod Ranged
 pub mod Record
 pub mod Component

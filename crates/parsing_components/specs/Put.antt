@@ -1,12 +1,12 @@
 -- What a component sets in a record.
-use Rattle.std.specs.Prelude.{◌≡◌, ℕ, List, pos, Option, Some, None, Result, Ok, Err, option_map}
+use Rattle.std.specs.Prelude.{◌≡◌, ℕ, List, pos, Option, Some, Result, Ok, Err, option_map}
 use Rattle.std.specs.Borrow.{Bor}
 use Rattle.parsing_combinator.specs.Fault.{Fault}
 use Rattle.parsing_combinator.specs.FaultOf.{reading_fault}
 use Rattle.parsing_combinator.specs.Readings.{Reading, then_read, give}
 use Rattle.parsing_combinator.specs.declared.fault.ParseFromDescription.{ParseFromDescription}
-use Rattle.parsing_components.specs.Read.{Read}
-use Rattle.parsing_components.specs.Read as read
+use Rattle.parsing_components.specs.declared.said.Read.{Read}
+use Rattle.parsing_components.specs.declared.said.Read.TheVariants as read
 use Rattle.parsing_components.specs.declared.fields.Record.{Record}
 
 -- the parts of an offset, and Unix time
@@ -52,16 +52,6 @@ put other r = put_date other r
 abbrev pub set_by : Option (Read × List ℕ) → Record → Option (Record × List ℕ)
 set_by said r = option_map (λ x. (put x.0 r, x.1)) said
 
--- the rest, with the record of what is said; or nothing is said, and nothing changes
-abbrev pub Sets : Option (Bor (List ℕ)) → Record → Record → Option (Read × List ℕ) → Type 0
-Sets None old new said = (said ≡ None) × (new ≡ old)
-Sets (Some rest) old new said = set_by said old ≡ Some (new, rest.now)
-
--- the same where there is a rest; else nothing is said of the bytes
-abbrev pub MaySet : Option (Bor (List ℕ)) → Record → Record → Option (Read × List ℕ) → Type 0
-MaySet None old new said = new ≡ old
-MaySet (Some rest) old new said = set_by said old ≡ Some (new, rest.now)
-
 -- bytes that are passed over say nothing
 abbrev pub passed : Bor (List ℕ) → Read × List ℕ
 passed rest = (read.Nothing, rest.now)
@@ -83,8 +73,3 @@ putting reading r bytes = then_read (reading bytes) (λ said. give (put said r))
 abbrev pub Reads : Result (Bor (List ℕ)) ParseFromDescription → Record → Record → Answer → Type 0
 Reads (Ok rest) old new read = read ≡ Ok (new, rest.now)
 Reads (Err e) old new read = (read ≡ Err (reading_fault e)) × (new ≡ old)
-
--- the rest and the record after it where there is a rest; else nothing is said of the bytes, and the record is unchanged
-abbrev pub MayRead : Option (Bor (List ℕ)) → Record → Record → Answer → Type 0
-MayRead None old new read = new ≡ old
-MayRead (Some rest) old new read = read ≡ Ok (new, rest.now)

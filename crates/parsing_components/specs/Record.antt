@@ -1,8 +1,10 @@
 -- The range of each field of a record.
-use Rattle.std.specs.Prelude.{ℕ, ◌≤◌, ℤ, pos, neg_ℤ, ◌≤ℤ◌, Option, IfSome}
+use Rattle.std.specs.Prelude.{ℕ, ◌≤◌, ℤ, pos, neg_ℤ, ◌≤ℤ◌, Option, Some, IfSome}
 use Rattle.calendar_count.specs.Range.{greatest_year}
 use Rattle.parsing_components.specs.Ranged.{greatest_century, nanoseconds_before_epoch, nanoseconds_after_epoch}
 use Rattle.parsing_components.specs.declared.fields.Record.{Record}
+use Rattle.parsing_components.specs.declared.said.Read.{Read}
+use Rattle.parsing_components.specs.declared.said.Read.TheVariants as read
 
 abbrev pub InRange : ℕ → ℕ → Option ℕ → Type 0
 InRange low high o = IfSome o (λ v. (low ≤ v) × (v ≤ high))
@@ -13,6 +15,30 @@ InSigned low high o = IfSome o (λ v. (low ≤ℤ v) × (v ≤ℤ high))
 -- at most so far from 0
 abbrev pub Reaches : ℕ → Option ℤ → Type 0
 Reaches n o = InSigned (neg_ℤ (pos n)) (pos n) o
+
+-- what is said is in the range of its field
+abbrev pub IsInRange : Read → Type 0
+IsInRange (read.Year y) = Reaches greatest_year (Some y)
+IsInRange (read.YearCentury c negative) = Reaches greatest_century (Some c)
+IsInRange (read.YearLastTwo n) = n ≤ 99
+IsInRange (read.IsoYear y) = Reaches greatest_year (Some y)
+IsInRange (read.IsoYearCentury c negative) = Reaches greatest_century (Some c)
+IsInRange (read.IsoYearLastTwo n) = n ≤ 99
+IsInRange (read.SundayWeek n) = n ≤ 53
+IsInRange (read.MondayWeek n) = n ≤ 53
+IsInRange (read.IsoWeek n) = InRange 1 53 (Some n)
+IsInRange (read.Ordinal n) = InRange 1 366 (Some n)
+IsInRange (read.Day n) = InRange 1 31 (Some n)
+IsInRange (read.Hour24 n) = n ≤ 23
+IsInRange (read.Hour12 n) = InRange 1 12 (Some n)
+IsInRange (read.Minute n) = n ≤ 59
+IsInRange (read.Second n) = n ≤ 60
+IsInRange (read.Subsecond n) = n ≤ 999_999_999
+IsInRange (read.OffsetHour h negative) = Reaches 25 (Some h)
+IsInRange (read.OffsetMinute n) = n ≤ 59
+IsInRange (read.OffsetSecond n) = n ≤ 59
+IsInRange (read.Unix n) = InSigned (neg_ℤ (pos nanoseconds_before_epoch)) (pos nanoseconds_after_epoch) (Some n)
+IsInRange other = Unit {0}
 
 -- each field that is there is in its range
 pub record IsWithin (r : Record) : Type 0 where

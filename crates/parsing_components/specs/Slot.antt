@@ -14,8 +14,8 @@ use Rattle.parsing_combinator.specs.Numbers.{offset_hour}
 use Rattle.parsing_combinator.specs.Names.{named, short_months, short_weekdays}
 use Rattle.parsing_components.specs.Component.{reads_component, reads_component_v3}
 use Rattle.parsing_components.specs.Ranged.{says, between, up_to, under, counted, months}
-use Rattle.parsing_components.specs.Read.{Read}
-use Rattle.parsing_components.specs.Read as read
+use Rattle.parsing_components.specs.declared.said.Read.{Read}
+use Rattle.parsing_components.specs.declared.said.Read.TheVariants as read
 use Rattle.parsing_components.specs.declared.slot.Slot.{Slot}
 use Rattle.parsing_components.specs.declared.slot.Slot.TheVariants as slot
 

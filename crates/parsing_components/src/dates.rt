@@ -1,184 +1,32 @@
 //! The parts of a date but the year.
-ghost use Rattle.std.specs.Prelude.{◌≡◌, true, Some, option_map};
+ghost use Rattle.std.specs.Prelude.{◌≡◌, ℕ, List, true, IfSome, option_and_then};
+ghost use Rattle.parsing_combinator.specs.Pieces.{cut_view};
 ghost use Rattle.parsing_combinator.specs.Shape.{taken, digits_between};
 ghost use Rattle.parsing_combinator.specs.Numbers.{padded};
-ghost use Rattle.parsing_combinator.specs.Names.{named, short_months, long_months, short_weekdays, long_weekdays};
-ghost use Rattle.parsing_components.specs.Record.{IsWithin};
-ghost use Rattle.parsing_components.specs.Put.{Sets};
-ghost use Rattle.parsing_components.specs.Ranged.{says, entry, between, counted, months, from_sunday, from_monday};
+ghost use Rattle.calendar_count.specs.declared.weekday.Weekday.{Weekday};
+ghost use Rattle.parsing_components.specs.Record.{IsInRange};
+ghost use Rattle.parsing_components.specs.Ranged.{says, entry, counted, months, from_sunday, from_monday};
 ghost use Rattle.parsing_components.specs.Component as Components;
-ghost use Rattle.parsing_components.specs.Read as read;
 
-use crate::fields::Record;
+use crate::ranged::{three, two};
+use crate::said::Read;
 use crate::years::year_piece;
 use calendar_count::{Month, Weekday};
 use description_items::Component;
 use description_items::modifier::Padding;
-use parsing_combinator::{
-    digits_between, long_month, long_weekday, padded, padded_two, short_month, short_weekday,
-};
+use parsing_combinator::{digits_between, long_month, long_weekday, short_month, short_weekday};
 
-// The day of the month.
-#[inline(always)]
-pub(crate) fn day<'a>(padding: Padding, bytes: &'a [u8], fields: &mut Record) -> Option<&'a [u8]>
-    requires within { IsWithin fields.old }
-    ensures reads { Sets result fields.old fields.new
-        (says (between 1 31 read.Day) (taken (padded padding 2 2)) bytes.now) }
-    ensures within { IsWithin fields.new }
-{
-    let (n, rest) = padded_two(padding, bytes)?;
-    if n < 1 || n > 31 {
-        return None;
-    }
-    fields.day = Some(n);
-    Some(rest)
-}
-
-// The week of ISO 8601.
-#[inline(always)]
-fn iso_week<'a>(padding: Padding, bytes: &'a [u8], fields: &mut Record) -> Option<&'a [u8]>
-    requires within { IsWithin fields.old }
-    ensures reads { Sets result fields.old fields.new
-        (says (between 1 53 read.IsoWeek) (taken (padded padding 2 2)) bytes.now) }
-    ensures within { IsWithin fields.new }
-{
-    let (n, rest) = padded_two(padding, bytes)?;
-    if n < 1 || n > 53 {
-        return None;
-    }
-    fields.iso_week_number = Some(n);
-    Some(rest)
-}
-
-// The week of the year, where weeks begin on Sunday.
-#[inline(always)]
-fn sunday_week<'a>(padding: Padding, bytes: &'a [u8], fields: &mut Record) -> Option<&'a [u8]>
-    requires within { IsWithin fields.old }
-    ensures reads { Sets result fields.old fields.new
-        (says (between 0 53 read.SundayWeek) (taken (padded padding 2 2)) bytes.now) }
-    ensures within { IsWithin fields.new }
-{
-    let (n, rest) = padded_two(padding, bytes)?;
-    if n > 53 {
-        return None;
-    }
-    fields.sunday_week_number = Some(n);
-    Some(rest)
-}
-
-// The week of the year, where weeks begin on Monday.
-#[inline(always)]
-fn monday_week<'a>(padding: Padding, bytes: &'a [u8], fields: &mut Record) -> Option<&'a [u8]>
-    requires within { IsWithin fields.old }
-    ensures reads { Sets result fields.old fields.new
-        (says (between 0 53 read.MondayWeek) (taken (padded padding 2 2)) bytes.now) }
-    ensures within { IsWithin fields.new }
-{
-    let (n, rest) = padded_two(padding, bytes)?;
-    if n > 53 {
-        return None;
-    }
-    fields.monday_week_number = Some(n);
-    Some(rest)
-}
-
-// The day of the year.
-#[inline(always)]
-fn ordinal<'a>(padding: Padding, bytes: &'a [u8], fields: &mut Record) -> Option<&'a [u8]>
-    requires within { IsWithin fields.old }
-    ensures reads { Sets result fields.old fields.new
-        (says (between 1 366 read.Ordinal) (taken (padded padding 3 3)) bytes.now) }
-    ensures within { IsWithin fields.new }
-{
-    let (n, rest) = padded(padding, 3, 3, bytes)?;
-    if n < 1 || n > 366 {
-        return None;
-    }
-    fields.ordinal = Some(n as u16);
-    Some(rest)
-}
-
-// The first three letters of a month's name.
-#[inline(always)]
-pub(crate) fn month_short<'a>(
-    case_sensitive: bool,
-    bytes: &'a [u8],
-    fields: &mut Record,
-) -> Option<&'a [u8]>
-    requires within { IsWithin fields.old }
-    ensures reads { Sets result fields.old fields.new
-        (says (λ x. Some (read.Month x)) (taken (named case_sensitive short_months)) bytes.now) }
-    ensures within { IsWithin fields.new }
-{
-    let (month, rest) = short_month(case_sensitive, bytes)?;
-    fields.month = Some(month);
-    Some(rest)
-}
-
-// The first three letters of a weekday's name.
-#[inline(always)]
-pub(crate) fn weekday_short<'a>(
-    case_sensitive: bool,
-    bytes: &'a [u8],
-    fields: &mut Record,
-) -> Option<&'a [u8]>
-    requires within { IsWithin fields.old }
-    ensures reads { Sets result fields.old fields.new
-        (says (λ x. Some (read.Weekday x))
-        (taken (named case_sensitive short_weekdays)) bytes.now) }
-    ensures within { IsWithin fields.new }
-{
-    let (weekday, rest) = short_weekday(case_sensitive, bytes)?;
-    fields.weekday = Some(weekday);
-    Some(rest)
-}
-
-// A month's whole name.
-#[inline(always)]
-fn month_long<'a>(case_sensitive: bool, bytes: &'a [u8], fields: &mut Record) -> Option<&'a [u8]>
-    requires within { IsWithin fields.old }
-    ensures reads { Sets result fields.old fields.new
-        (says (λ x. Some (read.Month x)) (taken (named case_sensitive long_months)) bytes.now) }
-    ensures within { IsWithin fields.new }
-{
-    let (month, rest) = long_month(case_sensitive, bytes)?;
-    fields.month = Some(month);
-    Some(rest)
-}
-
-// A weekday's whole name.
-#[inline(always)]
-fn weekday_long<'a>(case_sensitive: bool, bytes: &'a [u8], fields: &mut Record) -> Option<&'a [u8]>
-    requires within { IsWithin fields.old }
-    ensures reads { Sets result fields.old fields.new
-        (says (λ x. Some (read.Weekday x)) (taken (named case_sensitive long_weekdays)) bytes.now) }
-    ensures within { IsWithin fields.new }
-{
-    let (weekday, rest) = long_weekday(case_sensitive, bytes)?;
-    fields.weekday = Some(weekday);
-    Some(rest)
-}
-
-// The number of a month.
+// The month of a number.
 #[inline(always)]
 #[tactic(auto, using(crate::proofs::Entries::month_entry, crate::proofs::Entries::no_month))]
-pub(crate) fn month_number<'a>(
-    padding: Padding,
-    bytes: &'a [u8],
-    fields: &mut Record,
-) -> Option<&'a [u8]>
-    requires within { IsWithin fields.old }
-    ensures reads { Sets result fields.old fields.new
-        (says (λ n. option_map read.Month (counted true months n))
-        (taken (padded padding 2 2)) bytes.now) }
-    ensures within { IsWithin fields.new }
+fn month_number(padding: Padding, bytes: &[u8]) -> Option<(Month, &[u8])>
+    ensures { cut_view result ≡ says (counted true months) (taken (padded padding 2 2)) bytes.now }
 {
-    let (n, rest) = padded_two(padding, bytes)?;
+    let (n, rest) = two(padding, 0, 99, bytes)?;
     if n < 1 || n > 12 {
         return None;
     }
-    fields.month = Some(Month::from_number(n));
-    Some(rest)
+    Some((Month::from_number(n), rest))
 }
 
 // The day of the week so many days after Sunday.
@@ -215,88 +63,78 @@ fn after_monday(n: u32) -> Option<Weekday>
     }
 }
 
-// The weekday of a number that counts from Sunday.
-#[inline(always)]
+// The days after the first one of the week that a number counts from 1 or from 0.
 #[tactic(auto, using(crate::proofs::Entries::counted_from_one, crate::proofs::Entries::counted_none))]
-fn sunday_counted(one_indexed: bool, n: u32) -> Option<Weekday>
-    ensures { result ≡ counted one_indexed from_sunday n }
+fn days_counted(one_indexed: bool, n: u32) -> Option<u32>
+    ensures { (days : List Weekday)
+        → counted one_indexed days n ≡ option_and_then (entry days) result }
 {
     if !one_indexed {
-        return after_sunday(n);
+        return Some(n);
     }
-    if n == 0 {
-        return None;
-    }
-    after_sunday(n - 1)
+    if n == 0 { None } else { Some(n - 1) }
 }
 
-// The number of a weekday, counted from Sunday.
-fn sunday_number<'a>(one_indexed: bool, bytes: &'a [u8], fields: &mut Record) -> Option<&'a [u8]>
-    requires within { IsWithin fields.old }
-    ensures reads { Sets result fields.old fields.new
-        (says (λ n. option_map read.Weekday (counted one_indexed from_sunday n))
-        (taken (digits_between 1 1)) bytes.now) }
-    ensures within { IsWithin fields.new }
+// The weekday of a number that counts from Sunday.
+fn sunday_number(one_indexed: bool, bytes: &[u8]) -> Option<(Weekday, &[u8])>
+    ensures { cut_view result ≡ says (counted one_indexed from_sunday) (taken (digits_between 1 1)) bytes.now }
 {
     let (n, rest) = digits_between(1, 1, bytes)?;
-    let weekday = sunday_counted(one_indexed, n)?;
-    fields.weekday = Some(weekday);
-    Some(rest)
+    let weekday = after_sunday(days_counted(one_indexed, n)?)?;
+    Some((weekday, rest))
 }
 
 // The weekday of a number that counts from Monday.
-#[inline(always)]
-#[tactic(auto, using(crate::proofs::Entries::counted_from_one, crate::proofs::Entries::counted_none))]
-fn monday_counted(one_indexed: bool, n: u32) -> Option<Weekday>
-    ensures { result ≡ counted one_indexed from_monday n }
-{
-    if !one_indexed {
-        return after_monday(n);
-    }
-    if n == 0 {
-        return None;
-    }
-    after_monday(n - 1)
-}
-
-// The number of a weekday, counted from Monday.
-fn monday_number<'a>(one_indexed: bool, bytes: &'a [u8], fields: &mut Record) -> Option<&'a [u8]>
-    requires within { IsWithin fields.old }
-    ensures reads { Sets result fields.old fields.new
-        (says (λ n. option_map read.Weekday (counted one_indexed from_monday n))
-        (taken (digits_between 1 1)) bytes.now) }
-    ensures within { IsWithin fields.new }
+fn monday_number(one_indexed: bool, bytes: &[u8]) -> Option<(Weekday, &[u8])>
+    ensures { cut_view result ≡ says (counted one_indexed from_monday) (taken (digits_between 1 1)) bytes.now }
 {
     let (n, rest) = digits_between(1, 1, bytes)?;
-    let weekday = monday_counted(one_indexed, n)?;
-    fields.weekday = Some(weekday);
-    Some(rest)
+    let weekday = after_monday(days_counted(one_indexed, n)?)?;
+    Some((weekday, rest))
 }
 
-// The parts of a date but the year.
+/// What a component that is of a newer form, and no end, says at the start of the bytes, and the bytes after it: the longest prefix
+/// of its shape, if its number is in range.
 #[tactic(auto, unfolding(crate::specs::Component::date_piece))]
-pub(crate) fn date_piece<'a>(
-    component: Component,
-    bytes: &'a [u8],
-    fields: &mut Record,
-) -> Option<&'a [u8]>
-    requires within { IsWithin fields.old }
-    ensures reads { Sets result fields.old fields.new (Components.date_piece component bytes.now) }
-    ensures within { IsWithin fields.new }
+pub fn read(component: Component, bytes: &[u8]) -> Option<(Read, &[u8])>
+    ensures reads { cut_view result ≡ Components.date_piece component bytes.now }
+    ensures range { IfSome result (λ x. IsInRange x.0) }
 {
     match component {
-        Component::Day(m) => day(m.padding, bytes, fields),
-        Component::MonthShort(m) => month_short(m.case_sensitive, bytes, fields),
-        Component::MonthLong(m) => month_long(m.case_sensitive, bytes, fields),
-        Component::MonthNumerical(m) => month_number(m.padding, bytes, fields),
-        Component::Ordinal(m) => ordinal(m.padding, bytes, fields),
-        Component::WeekdayShort(m) => weekday_short(m.case_sensitive, bytes, fields),
-        Component::WeekdayLong(m) => weekday_long(m.case_sensitive, bytes, fields),
-        Component::WeekdaySunday(m) => sunday_number(m.one_indexed, bytes, fields),
-        Component::WeekdayMonday(m) => monday_number(m.one_indexed, bytes, fields),
-        Component::WeekNumberIso(m) => iso_week(m.padding, bytes, fields),
-        Component::WeekNumberSunday(m) => sunday_week(m.padding, bytes, fields),
-        Component::WeekNumberMonday(m) => monday_week(m.padding, bytes, fields),
-        other => year_piece(other, bytes, fields),
+        Component::Day(m) => two(m.padding, 1, 31, bytes).map(|(n, rest)| (Read::Day(n), rest)),
+        Component::MonthShort(m) => {
+            short_month(m.case_sensitive, bytes).map(|(month, rest)| (Read::Month(month), rest))
+        }
+        Component::MonthLong(m) => {
+            long_month(m.case_sensitive, bytes).map(|(month, rest)| (Read::Month(month), rest))
+        }
+        Component::MonthNumerical(m) => {
+            month_number(m.padding, bytes).map(|(month, rest)| (Read::Month(month), rest))
+        }
+        Component::Ordinal(m) => {
+            three(m.padding, 1, 366, bytes).map(|(n, rest)| (Read::Ordinal(n), rest))
+        }
+        Component::WeekdayShort(m) => {
+            short_weekday(m.case_sensitive, bytes).map(|(day, rest)| (Read::Weekday(day), rest))
+        }
+        Component::WeekdayLong(m) => {
+            long_weekday(m.case_sensitive, bytes).map(|(day, rest)| (Read::Weekday(day), rest))
+        }
+        Component::WeekdaySunday(m) => {
+            sunday_number(m.one_indexed, bytes).map(|(day, rest)| (Read::Weekday(day), rest))
+        }
+        Component::WeekdayMonday(m) => {
+            monday_number(m.one_indexed, bytes).map(|(day, rest)| (Read::Weekday(day), rest))
+        }
+        Component::WeekNumberIso(m) => {
+            two(m.padding, 1, 53, bytes).map(|(n, rest)| (Read::IsoWeek(n), rest))
+        }
+        Component::WeekNumberSunday(m) => {
+            two(m.padding, 0, 53, bytes).map(|(n, rest)| (Read::SundayWeek(n), rest))
+        }
+        Component::WeekNumberMonday(m) => {
+            two(m.padding, 0, 53, bytes).map(|(n, rest)| (Read::MondayWeek(n), rest))
+        }
+        other => year_piece(other, bytes),
     }
 }

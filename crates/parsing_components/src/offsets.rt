@@ -1,82 +1,38 @@
 //! The parts of an offset, timestamps, and what is passed over.
-ghost use Rattle.std.specs.Prelude.{◌≡◌, ◌≤◌, ◌<◌, ◌*◌, ◌^◌, pos, neg_ℤ, option_map};
+ghost use Rattle.std.specs.Prelude.{◌≡◌, ◌≤◌, ◌<◌, ◌*◌, ◌^◌, pos, neg_ℤ, Some, IfSome, option_map};
+ghost use Rattle.parsing_combinator.specs.Pieces.{cut_view};
 ghost use Rattle.parsing_combinator.specs.Shape.{taken};
-ghost use Rattle.parsing_combinator.specs.Numbers.{padded, offset_hour, timestamp};
-ghost use Rattle.parsing_components.specs.Record.{IsWithin, InSigned};
-ghost use Rattle.parsing_components.specs.Put.{Sets, passed};
-ghost use Rattle.parsing_components.specs.Ranged.{nanoseconds_before_epoch, nanoseconds_after_epoch, says, between, up_to, since_epoch};
+ghost use Rattle.parsing_combinator.specs.Numbers as Numbers;
+ghost use Rattle.parsing_components.specs.Record.{InSigned, IsInRange, Reaches};
+ghost use Rattle.parsing_components.specs.Put.{passed};
+ghost use Rattle.parsing_components.specs.Ranged.{nanoseconds_before_epoch, nanoseconds_after_epoch, says, up_to, since_epoch};
 ghost use Rattle.parsing_components.specs.Component as Components;
-ghost use Rattle.parsing_components.specs.Read as read;
 
-use crate::fields::Record;
+use crate::ranged::two;
+use crate::said::Read;
 use description_items::Component;
 use description_items::modifier::Padding;
-use parsing_combinator::{offset_hour, padded_two, timestamp};
+use parsing_combinator::{offset_hour, timestamp};
 
-// The minutes of an offset.
+// The hours of an offset with their sign, and whether that is a minus.
 #[inline(always)]
-pub(crate) fn offset_minute<'a>(
-    padding: Padding,
-    bytes: &'a [u8],
-    fields: &mut Record,
-) -> Option<&'a [u8]>
-    requires within { IsWithin fields.old }
-    ensures reads { Sets result fields.old fields.new
-        (says (between 0 59 read.OffsetMinute) (taken (padded padding 2 2)) bytes.now) }
-    ensures within { IsWithin fields.new }
-{
-    let (n, rest) = padded_two(padding, bytes)?;
-    if n > 59 {
-        return None;
-    }
-    fields.offset_minute = Some(n as i8);
-    Some(rest)
-}
-
-// The seconds of an offset.
-#[inline(always)]
-fn offset_second<'a>(padding: Padding, bytes: &'a [u8], fields: &mut Record) -> Option<&'a [u8]>
-    requires within { IsWithin fields.old }
-    ensures reads { Sets result fields.old fields.new
-        (says (between 0 59 read.OffsetSecond) (taken (padded padding 2 2)) bytes.now) }
-    ensures within { IsWithin fields.new }
-{
-    let (n, rest) = padded_two(padding, bytes)?;
-    if n > 59 {
-        return None;
-    }
-    fields.offset_second = Some(n as i8);
-    Some(rest)
-}
-
-// The hours of an offset, with its sign.
-#[inline(always)]
-pub(crate) fn hour_of_offset<'a>(
-    padding: Padding,
-    mandatory: bool,
-    bytes: &'a [u8],
-    fields: &mut Record,
-) -> Option<&'a [u8]>
-    requires within { IsWithin fields.old }
-    ensures reads { Sets result fields.old fields.new
-        (says (up_to 25 (λ negative hour. read.OffsetHour hour negative))
-        (taken (offset_hour padding mandatory)) bytes.now) }
-    ensures within { IsWithin fields.new }
+fn hour_of_offset(padding: Padding, mandatory: bool, bytes: &[u8]) -> Option<((i8, bool), &[u8])>
+    ensures reads { cut_view result ≡ says (up_to 25 (λ negative hour. (hour, negative)))
+        (taken (Numbers.offset_hour padding mandatory)) bytes.now }
+    ensures range { IfSome result (λ x. Reaches 25 (Some x.0.0)) }
 {
     let ((negative, n), rest) = offset_hour(padding, mandatory, bytes)?;
     if n > 25 {
         return None;
     }
     let n = n as i8;
-    fields.offset_hour = Some(if negative { -n } else { n });
-    fields.offset_is_negative = negative;
-    Some(rest)
+    Some(((if negative { -n } else { n }, negative), rest))
 }
 
 // The nanoseconds of so many units before or after 1970, if the calendar has them.
 fn nanoseconds(is_negative: bool, count: u128, unit: u32) -> Option<i128>
     requires fits { count * unit < 2 ^ 128 }
-    ensures value { option_map read.Unix result ≡ since_epoch read.Unix unit (is_negative, count) }
+    ensures value { result ≡ since_epoch (λ n. n) unit (is_negative, count) }
     ensures bound { InSigned (neg_ℤ (pos nanoseconds_before_epoch))
         (pos nanoseconds_after_epoch) result }
 {
@@ -93,26 +49,20 @@ fn nanoseconds(is_negative: bool, count: u128, unit: u32) -> Option<i128>
     Some(if is_negative { -count } else { count })
 }
 
-// Unix time in a unit.
+// Unix time in a unit, as nanoseconds.
 #[tactic(auto, using(crate::proofs::Timestamps::product_fits))]
-fn unix<'a>(
-    mandatory: bool,
-    most: usize,
-    unit: u32,
-    bytes: &'a [u8],
-    fields: &mut Record,
-) -> Option<&'a [u8]>
+fn unix(mandatory: bool, most: usize, unit: u32, bytes: &[u8]) -> Option<(i128, &[u8])>
     requires some { 1 ≤ most }
     requires fits { most ≤ 23 }
     requires small { unit ≤ 1_000_000_000 }
-    requires within { IsWithin fields.old }
-    ensures reads { Sets result fields.old fields.new
-        (says (since_epoch read.Unix unit) (taken (timestamp mandatory most)) bytes.now) }
-    ensures within { IsWithin fields.new }
+    ensures reads { cut_view result
+        ≡ says (since_epoch (λ n. n) unit) (taken (Numbers.timestamp mandatory most)) bytes.now }
+    ensures range { IfSome result (λ x. InSigned (neg_ℤ (pos nanoseconds_before_epoch))
+        (pos nanoseconds_after_epoch) (Some x.0)) }
 {
     let ((is_negative, count), rest) = timestamp(mandatory, most, bytes)?;
-    fields.unix_timestamp_nanos = Some(nanoseconds(is_negative, count, unit)?);
-    Some(rest)
+    let nanoseconds = nanoseconds(is_negative, count, unit)?;
+    Some((nanoseconds, rest))
 }
 
 // What follows so many bytes.
@@ -145,45 +95,46 @@ const NANOSECONDS_BEFORE_EPOCH: u128 = 31_619_087_596_800_000_000_000;
 
 const NANOSECONDS_AFTER_EPOCH: u128 = 31_494_784_780_799_999_999_999;
 
-// The parts of an offset, timestamps, and what is passed over.
+// What the parts of an offset, timestamps and passed bytes say.
 #[tactic(auto, unfolding(crate::specs::Component::offset_piece))]
-pub(crate) fn offset_piece<'a>(
-    component: Component,
-    bytes: &'a [u8],
-    fields: &mut Record,
-) -> Option<&'a [u8]>
-    requires within { IsWithin fields.old }
-    ensures reads { Sets result fields.old fields.new
-        (Components.offset_piece component bytes.now) }
-    ensures within { IsWithin fields.new }
+pub(crate) fn offset_piece(component: Component, bytes: &[u8]) -> Option<(Read, &[u8])>
+    ensures reads { cut_view result ≡ Components.offset_piece component bytes.now }
+    ensures range { IfSome result (λ x. IsInRange x.0) }
 {
     match component {
-        Component::OffsetHour(m) => hour_of_offset(m.padding, m.sign_is_mandatory, bytes, fields),
-        Component::OffsetMinute(m) => offset_minute(m.padding, bytes, fields),
-        Component::OffsetSecond(m) => offset_second(m.padding, bytes, fields),
+        Component::OffsetHour(m) => hour_of_offset(m.padding, m.sign_is_mandatory, bytes).map(|(
+            (hour, negative),
+            rest,
+        )| (Read::OffsetHour(hour, negative), rest)),
+        Component::OffsetMinute(m) => two(m.padding, 0, 59, bytes).map(|(n, rest)| (
+            Read::OffsetMinute(n),
+            rest,
+        )),
+        Component::OffsetSecond(m) => two(m.padding, 0, 59, bytes).map(|(n, rest)| (
+            Read::OffsetSecond(n),
+            rest,
+        )),
         Component::UnixTimestampSecond(m) => unix(
             m.sign_is_mandatory,
             14,
             1_000_000_000,
             bytes,
-            fields,
-        ),
+        ).map(|(n, rest)| (Read::Unix(n), rest)),
         Component::UnixTimestampMillisecond(m) => unix(
             m.sign_is_mandatory,
             17,
             1_000_000,
             bytes,
-            fields,
-        ),
-        Component::UnixTimestampMicrosecond(m) => unix(
-            m.sign_is_mandatory,
-            20,
-            1_000,
-            bytes,
-            fields,
-        ),
-        Component::UnixTimestampNanosecond(m) => unix(m.sign_is_mandatory, 23, 1, bytes, fields),
-        Component::Ignore(m) => ignored(m.count, bytes),
+        ).map(|(n, rest)| (Read::Unix(n), rest)),
+        Component::UnixTimestampMicrosecond(m) => unix(m.sign_is_mandatory, 20, 1_000, bytes).map(|(
+            n,
+            rest,
+        )| (Read::Unix(n), rest)),
+        Component::UnixTimestampNanosecond(m) => unix(m.sign_is_mandatory, 23, 1, bytes).map(|(
+            n,
+            rest,
+        )| (Read::Unix(n), rest)),
+        Component::Ignore(m) => ignored(m.count, bytes).map(|rest| (Read::Nothing, rest)),
         _ => None,
     }
 }

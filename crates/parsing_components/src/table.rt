@@ -3,11 +3,9 @@ ghost use Rattle.std.specs.Prelude.{◌≡◌};
 ghost use Rattle.parsing_combinator.specs.FaultOf.{Gives, reading_fault};
 ghost use Rattle.parsing_components.specs.Record.{IsWithin};
 ghost use Rattle.parsing_components.specs.Put.{Reads, putting, passed};
-ghost use Rattle.parsing_combinator.specs.Fault as fault;
-ghost use Rattle.parsing_combinator.specs.Readings.{◌or◌};
 ghost use Rattle.parsing_components.specs.Component as Components;
 
-use crate::dates::date_piece;
+use crate::dates::read;
 use crate::fields::Record;
 use crate::offsets::ignored_characters;
 use description_items::Component;
@@ -71,28 +69,7 @@ fn at_end(trailing: TrailingInput, bytes: &[u8]) -> Result<&[u8], ParseFromDescr
     }
 }
 
-// What a component reads that is not the end.
-#[inline(always)]
-#[tactic(auto, using(crate::proofs::Settings::said, crate::proofs::Settings::unsaid))]
-fn read_piece<'a>(
-    component: Component,
-    bytes: &'a [u8],
-    fields: &mut Record,
-) -> Result<&'a [u8], ParseFromDescription>
-    requires within { IsWithin fields.old }
-    ensures reads { Reads result fields.old fields.new
-        (putting (Components.date_piece component or fault.component
-        (Components.component_name component)) fields.old bytes.now) }
-    ensures within { IsWithin fields.new }
-{
-    match date_piece(component, bytes, fields) {
-        Some(rest) => Ok(rest),
-        None => Err(ParseFromDescription::InvalidComponent(component_name(component))),
-    }
-}
-
 // What a component of a newer form reads.
-#[inline(always)]
 #[tactic(auto, unfolding(crate::specs::Component::reads_modern))]
 fn read_modern<'a>(
     component: Component,
@@ -104,9 +81,15 @@ fn read_modern<'a>(
         (putting (Components.reads_modern component) fields.old bytes.now) }
     ensures within { IsWithin fields.new }
 {
-    match component {
-        Component::End(end) => at_end(end.trailing_input, bytes),
-        other => read_piece(other, bytes, fields),
+    if let Component::End(end) = component {
+        return at_end(end.trailing_input, bytes);
+    }
+    match read(component, bytes) {
+        Some((said, rest)) => {
+            fields.put(said);
+            Ok(rest)
+        }
+        None => Err(ParseFromDescription::InvalidComponent(component_name(component))),
     }
 }
 

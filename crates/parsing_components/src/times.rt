@@ -1,116 +1,24 @@
 //! The parts of a time.
-ghost use Rattle.std.specs.Prelude.{Some};
+ghost use Rattle.std.specs.Prelude.{◌≡◌, ◌<◌, IfSome};
+ghost use Rattle.parsing_combinator.specs.Pieces.{cut_view};
 ghost use Rattle.parsing_combinator.specs.Shape.{taken};
-ghost use Rattle.parsing_combinator.specs.Numbers.{padded};
-ghost use Rattle.parsing_combinator.specs.Names.{period};
-ghost use Rattle.parsing_components.specs.Record.{IsWithin};
-ghost use Rattle.parsing_components.specs.Put.{Sets};
-ghost use Rattle.parsing_components.specs.Ranged.{says, between};
+ghost use Rattle.parsing_components.specs.Record.{IsInRange};
 ghost use Rattle.parsing_components.specs.Component as Components;
-ghost use Rattle.parsing_components.specs.Read as read;
 
-use crate::fields::Record;
 use crate::offsets::offset_piece;
+use crate::ranged::two;
+use crate::said::Read;
 use description_items::Component;
-use description_items::modifier::{Padding, SubsecondDigits};
-use parsing_combinator::{fraction_between, padded_two, period};
+use description_items::modifier::SubsecondDigits;
+use parsing_combinator::{fraction_between, period};
 
-// The hour of half a day, from 1 to 12.
+// The nanoseconds of the digits of a fraction of a second.
 #[inline(always)]
-fn hour_12<'a>(padding: Padding, bytes: &'a [u8], fields: &mut Record) -> Option<&'a [u8]>
-    requires within { IsWithin fields.old }
-    ensures reads { Sets result fields.old fields.new
-        (says (between 1 12 read.Hour12) (taken (padded padding 2 2)) bytes.now) }
-    ensures within { IsWithin fields.new }
+fn subsecond(digits: SubsecondDigits, bytes: &[u8]) -> Option<(u32, &[u8])>
+    ensures reads { cut_view result ≡ taken (Components.fraction_of digits) bytes.now }
+    ensures range { IfSome result (λ x. x.0 < 1_000_000_000) }
 {
-    let (n, rest) = padded_two(padding, bytes)?;
-    if n < 1 || n > 12 {
-        return None;
-    }
-    fields.hour_12 = Some(n);
-    Some(rest)
-}
-
-// The hour of a whole day.
-#[inline(always)]
-pub(crate) fn hour_24<'a>(
-    padding: Padding,
-    bytes: &'a [u8],
-    fields: &mut Record,
-) -> Option<&'a [u8]>
-    requires within { IsWithin fields.old }
-    ensures reads { Sets result fields.old fields.new
-        (says (between 0 23 read.Hour24) (taken (padded padding 2 2)) bytes.now) }
-    ensures within { IsWithin fields.new }
-{
-    let (n, rest) = padded_two(padding, bytes)?;
-    if n > 23 {
-        return None;
-    }
-    fields.hour_24 = Some(n);
-    Some(rest)
-}
-
-// The minute.
-#[inline(always)]
-pub(crate) fn minute<'a>(padding: Padding, bytes: &'a [u8], fields: &mut Record) -> Option<&'a [u8]>
-    requires within { IsWithin fields.old }
-    ensures reads { Sets result fields.old fields.new
-        (says (between 0 59 read.Minute) (taken (padded padding 2 2)) bytes.now) }
-    ensures within { IsWithin fields.new }
-{
-    let (n, rest) = padded_two(padding, bytes)?;
-    if n > 59 {
-        return None;
-    }
-    fields.minute = Some(n);
-    Some(rest)
-}
-
-// The second.
-#[inline(always)]
-pub(crate) fn second<'a>(padding: Padding, bytes: &'a [u8], fields: &mut Record) -> Option<&'a [u8]>
-    requires within { IsWithin fields.old }
-    ensures reads { Sets result fields.old fields.new
-        (says (between 0 60 read.Second) (taken (padded padding 2 2)) bytes.now) }
-    ensures within { IsWithin fields.new }
-{
-    let (n, rest) = padded_two(padding, bytes)?;
-    if n > 60 {
-        return None;
-    }
-    fields.second = Some(n);
-    Some(rest)
-}
-
-// `AM` or `PM`.
-#[inline(always)]
-fn half_of_day<'a>(
-    is_uppercase: bool,
-    case_sensitive: bool,
-    bytes: &'a [u8],
-    fields: &mut Record,
-) -> Option<&'a [u8]>
-    requires within { IsWithin fields.old }
-    ensures reads { Sets result fields.old fields.new
-        (says (λ x. Some (read.Afternoon x))
-        (taken (period is_uppercase case_sensitive)) bytes.now) }
-    ensures within { IsWithin fields.new }
-{
-    let (afternoon, rest) = period(is_uppercase, case_sensitive, bytes)?;
-    fields.hour_12_is_pm = Some(afternoon);
-    Some(rest)
-}
-
-// The digits of a fraction of a second.
-#[inline(always)]
-fn subsecond<'a>(digits: SubsecondDigits, bytes: &'a [u8], fields: &mut Record) -> Option<&'a [u8]>
-    requires within { IsWithin fields.old }
-    ensures reads { Sets result fields.old fields.new
-        (says (λ n. Some (read.Subsecond n)) (taken (Components.fraction_of digits)) bytes.now) }
-    ensures within { IsWithin fields.new }
-{
-    let (n, rest) = match digits {
+    match digits {
         SubsecondDigits::OneOrMore => fraction_between(1, 32, bytes),
         SubsecondDigits::One => fraction_between(1, 1, bytes),
         SubsecondDigits::Two => fraction_between(2, 2, bytes),
@@ -121,29 +29,42 @@ fn subsecond<'a>(digits: SubsecondDigits, bytes: &'a [u8], fields: &mut Record) 
         SubsecondDigits::Seven => fraction_between(7, 7, bytes),
         SubsecondDigits::Eight => fraction_between(8, 8, bytes),
         SubsecondDigits::Nine => fraction_between(9, 9, bytes),
-    }?;
-    fields.subsecond = Some(n);
-    Some(rest)
+    }
 }
 
-// The parts of a time.
+// What the parts of a time say.
 #[tactic(auto, unfolding(crate::specs::Component::time_piece))]
-pub(crate) fn time_piece<'a>(
-    component: Component,
-    bytes: &'a [u8],
-    fields: &mut Record,
-) -> Option<&'a [u8]>
-    requires within { IsWithin fields.old }
-    ensures reads { Sets result fields.old fields.new (Components.time_piece component bytes.now) }
-    ensures within { IsWithin fields.new }
+pub(crate) fn time_piece(component: Component, bytes: &[u8]) -> Option<(Read, &[u8])>
+    ensures reads { cut_view result ≡ Components.time_piece component bytes.now }
+    ensures range { IfSome result (λ x. IsInRange x.0) }
 {
     match component {
-        Component::Hour12(m) => hour_12(m.padding, bytes, fields),
-        Component::Hour24(m) => hour_24(m.padding, bytes, fields),
-        Component::Minute(m) => minute(m.padding, bytes, fields),
-        Component::Period(m) => half_of_day(m.is_uppercase, m.case_sensitive, bytes, fields),
-        Component::Second(m) => second(m.padding, bytes, fields),
-        Component::Subsecond(m) => subsecond(m.digits, bytes, fields),
-        other => offset_piece(other, bytes, fields),
+        Component::Hour12(m) => two(m.padding, 1, 12, bytes).map(|(n, rest)| (
+            Read::Hour12(n),
+            rest,
+        )),
+        Component::Hour24(m) => two(m.padding, 0, 23, bytes).map(|(n, rest)| (
+            Read::Hour24(n),
+            rest,
+        )),
+        Component::Minute(m) => two(m.padding, 0, 59, bytes).map(|(n, rest)| (
+            Read::Minute(n),
+            rest,
+        )),
+        Component::Period(m) => {
+            period(m.is_uppercase, m.case_sensitive, bytes).map(|(is_later, rest)| (
+                Read::Afternoon(is_later),
+                rest,
+            ))
+        }
+        Component::Second(m) => two(m.padding, 0, 60, bytes).map(|(n, rest)| (
+            Read::Second(n),
+            rest,
+        )),
+        Component::Subsecond(m) => subsecond(m.digits, bytes).map(|(n, rest)| (
+            Read::Subsecond(n),
+            rest,
+        )),
+        other => offset_piece(other, bytes),
     }
 }

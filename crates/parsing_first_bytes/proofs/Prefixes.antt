@@ -12,7 +12,7 @@ use Rattle.parsing_combinator.specs.Pieces.{Piece}
 use Rattle.parsing_combinator.specs.Readings.{piece_or, then_read, give}
 use Rattle.parsing_combinator.specs.Shape.{is_sign}
 use Rattle.parsing_components.specs.Ranged.{kept}
-use Rattle.parsing_components.specs.Read.{Read}
+use Rattle.parsing_components.specs.declared.said.Read.{Read}
 use Rattle.parsing_components.specs.Put.{put}
 use Rattle.parsing_record.specs.Meaning.{literally, unchanged}
 use Rattle.parsing_record.specs.Reads.{Language, reading, reads}

@@ -6,7 +6,7 @@ use Rattle.parsing_combinator.specs.Readings.{piece_or}
 use Rattle.parsing_combinator.specs.Shape.{taken, fraction_between}
 use Rattle.parsing_components.specs.Component.{reads_component, reads_component_v3}
 use Rattle.parsing_components.specs.Ranged.{kept}
-use Rattle.parsing_components.specs.Read as read
+use Rattle.parsing_components.specs.declared.said.Read.TheVariants as read
 use Rattle.parsing_layouts.specs.declared.items.Step.{Step}
 use Rattle.parsing_layouts.specs.declared.layout.Layout.{Layout}
 use Rattle.parsing_layouts.specs.Steps.{IsStep, IsStepOf, IsStepOfPart}
@@ -15,7 +15,7 @@ use Rattle.std.proofs.lemmas.Slice.Eq.{bytes_eq-Decides}
 use Rattle.description_items.specs.declared.component.Component.{Component}
 use Rattle.description_items.specs.Tree.{Literal, Part}
 use Rattle.parsing_components.specs.Put.{put}
-use Rattle.parsing_components.specs.Read.{Read}
+use Rattle.parsing_components.specs.declared.said.Read.{Read}
 use Rattle.parsing_nodes.specs.Meaning.{Meaning, literally}
 use Rattle.parsing_nodes.specs.Reads.{Language, reading, reads}
 use Rattle.parsing_nodes.specs.Record.{Record}

@@ -22,7 +22,7 @@ use Rattle.parsing_combinator.specs.Names.{named, found, begins, short_months, s
 use Rattle.parsing_combinator.proofs.Components.{taken_offset_hour, taken_padded_exactly}
 use Rattle.parsing_combinator.proofs.NameLemmas.{apart, taken_named}
 use Rattle.parsing_components.specs.Ranged.{kept, between}
-use Rattle.parsing_components.specs.Read as read
+use Rattle.parsing_components.specs.declared.said.Read.TheVariants as read
 use Rattle.parsing_components.proofs.Entries.{month_entry}
 use Rattle.parsing_combinator.proofs.Decimal.{count_drop}
 use Rattle.parsing_combinator.proofs.Fixed.{digits_one}

@@ -7,7 +7,7 @@ use Rattle.calendar_count.specs.Calendar.{days_in_month}
 use Rattle.calendar_count.specs.declared.month.Month.TheVariants as month
 use Rattle.calendar_count.specs.declared.weekday.Weekday.TheVariants as weekday
 use Rattle.parsing_combinator.specs.Pieces.{digits}
-use Rattle.parsing_components.specs.Read as read
+use Rattle.parsing_components.specs.declared.said.Read.TheVariants as read
 use Rattle.parsing_nodes.specs.Whole.{offset_named}
 use Rattle.parsing_nodes.proofs.Offsets.{sign_named, no_second}
 use Rattle.parsing_layouts.specs.declared.layout.Layout.{Layout}

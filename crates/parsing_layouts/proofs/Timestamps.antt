@@ -12,7 +12,7 @@ use Rattle.datetime_wall.specs.Wall.{is_wall_clock, second_nanos}
 use Rattle.description_items.specs.declared.component.Component.{Component}
 use Rattle.description_items.specs.Tree.{Part}
 use Rattle.parsing_components.specs.Ranged.{kept, since_epoch, nanoseconds_after_epoch}
-use Rattle.parsing_components.specs.Read as read
+use Rattle.parsing_components.specs.declared.said.Read.TheVariants as read
 use Rattle.parsing_fields.specs.declared.fields.Fields.{Fields}
 use Rattle.parsing_fields.specs.Moment.{moment_of}
 use Rattle.parsing_fields.specs.Written.{WriteFraction}

@@ -1,8 +1,8 @@
 -- Layouts: what stands at each place of a line, and what a line that has it sets in a record.
 use Rattle.std.specs.Prelude.{◌≡◌, ◌≤◌, ◌<◌, ◌&&◌, ℕ, ◌+◌, pos, Bool, true, false, not, List, drop, get_or, Option, Some, None, IfSome, is_none, set}
 use Rattle.parsing_components.specs.Ranged.{under}
-use Rattle.parsing_components.specs.Read.{Read}
-use Rattle.parsing_components.specs.Read as read
+use Rattle.parsing_components.specs.declared.said.Read.{Read}
+use Rattle.parsing_components.specs.declared.said.Read.TheVariants as read
 use Rattle.parsing_nodes.specs.Record.{Record}
 use Rattle.parsing_components.specs.Slot.{Values, slot_piece, value_in, width}
 use Rattle.parsing_layouts.specs.declared.layout.Layout.{Layout}

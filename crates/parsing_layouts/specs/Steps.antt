@@ -4,7 +4,7 @@ use Rattle.description_items.specs.declared.component.Component.{Component}
 use Rattle.description_items.specs.Tree.{Tree, listed, Part}
 use Rattle.parsing_components.specs.Component.{reads_component, reads_component_v3}
 use Rattle.parsing_combinator.specs.Shape.{taken, fraction_between}
-use Rattle.parsing_components.specs.Read.{Read}
+use Rattle.parsing_components.specs.declared.said.Read.{Read}
 use Rattle.parsing_components.specs.Put.{put}
 use Rattle.parsing_nodes.specs.Meaning.{Meaning}
 use Rattle.parsing_nodes.specs.Reads.{Language, reading, reading_of_all}

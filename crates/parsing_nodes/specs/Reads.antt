@@ -3,7 +3,7 @@ use Rattle.std.specs.Prelude.{ℕ, List, [], ◌∷◌}
 use Rattle.description_items.specs.declared.component.Component.{Component}
 use Rattle.description_items.specs.Tree.{Tree, Trees, Literal, Part, Compound, Optional, First, none, also}
 use Rattle.parsing_combinator.specs.Readings.{Reading}
-use Rattle.parsing_components.specs.Read.{Read}
+use Rattle.parsing_components.specs.declared.said.Read.{Read}
 use Rattle.parsing_nodes.specs.Record.{Record}
 use Rattle.parsing_nodes.specs.Meaning.{Meaning, Counted, meaning, alone, more, literally, unchanged, all_of, optionally, first_of}
 pub use Rattle.parsing_components.specs.Put.{putting}

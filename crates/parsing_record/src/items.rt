@@ -1,5 +1,4 @@
 //! Reading by the items of a description.
-ghost use Rattle.std.specs.Prelude.{◌≡◌, Ok, IfSome};
 ghost use Rattle.description_items.specs.Tree.{tree_of, trees, listed};
 ghost use Rattle.parsing_combinator.specs.FaultOf.{Gives, reading_fault};
 ghost use Rattle.parsing_components.specs.Component.{reads_component, reads_component_v3};
@@ -12,7 +11,7 @@ use crate::reading::{read_node, read_nodes};
 use crate::tally::{NoTally, Tally};
 use description_items::{BorrowedFormatItem, Component};
 use parsing_combinator::ParseFromDescription;
-use parsing_components::{read_component, read_component_v3, read_usual};
+use parsing_components::{read_component, read_component_v3};
 
 impl Parsed {
     /// The bytes after the literal, which have to begin with it: `InvalidLiteral` where they do not.
@@ -133,18 +132,6 @@ impl Parsed {
     }
 }
 
-// The bytes after a literal of one byte: `None` says nothing of others.
-#[inline(always)]
-#[tactic(auto, unfolding(parsing_nodes::specs::Meaning::literally))]
-pub(crate) fn after_byte<'a>(literal: &[u8], input: &'a [u8]) -> Option<&'a [u8]>
-    ensures { IfSome result (λ rest. literally literal.now input.now ≡ Ok (tt, rest.now)) }
-{
-    match (literal, input) {
-        ([byte], [first, rest @ ..]) if byte == first => Some(rest),
-        _ => None,
-    }
-}
-
 impl ReadsNode for BorrowedFormatItem<'_> {
     #[inline(always)]
     fn read_component<'a>(
@@ -156,20 +143,5 @@ impl ReadsNode for BorrowedFormatItem<'_> {
             (putting (reads_component component) parsed.old input.now) }
     {
         parsed.parse_component(input, component)
-    }
-
-    #[inline(always)]
-    #[tactic(auto, unfolding(parsing_nodes::specs::Reads::reads))]
-    fn read_fast<'a>(&self, input: &'a [u8], parsed: &mut Parsed) -> Option<&'a [u8]> {
-        match self {
-            BorrowedFormatItem::Literal(literal) => after_byte(literal, input),
-            BorrowedFormatItem::StringLiteral(literal) => after_byte(literal.as_bytes(), input),
-            BorrowedFormatItem::Component(component) => read_usual(
-                component,
-                input,
-                &mut parsed.fields,
-            ),
-            _ => None,
-        }
     }
 }

@@ -10,27 +10,6 @@ use crate::tally::Tally;
 use parsing_combinator::ParseFromDescription;
 use parsing_nodes::NodeStep;
 
-// Reads by one node, the fast way where it has one.
-#[inline(always)]
-#[cycle(reading)]
-fn read_next<'a, N: ReadsNode, T: Tally>(
-    node: &N,
-    input: &'a [u8],
-    parsed: &mut Parsed,
-    tally: &mut T,
-) -> Result<&'a [u8], ParseFromDescription>
-    ensures answer { Answers result parsed.new
-        (reading N.language (N.tree node.now) parsed.old input.now) }
-    ensures tally { T.grows tally.old tally.new
-        (tried N.language (N.tree node.now) parsed.old input.now) }
-{
-    if let Some(rest) = node.read_fast(input, parsed) {
-        tally.begin();
-        return Ok(rest);
-    }
-    read_node(node, input, parsed, tally)
-}
-
 /// Reads by one node, and tells the tally; a refusal leaves what was read before it in the record.
 #[tactic(auto, unfolding(parsing_nodes::specs::Reads::reads, parsing_nodes::specs::Meaning::optionally))]
 #[cycle(reading)]
@@ -94,7 +73,7 @@ pub(crate) fn read_nodes<'a, N: ReadsNode, T: Tally>(
 {
     let mut rest = input;
     for node in nodes {
-        rest = read_next(node, rest, parsed, tally)?;
+        rest = read_node(node, rest, parsed, tally)?;
     }
     Ok(rest)
 }

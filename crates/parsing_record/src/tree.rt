@@ -1,13 +1,9 @@
 //! Reading by the nodes of a tree.
-ghost use Rattle.std.specs.Prelude.{◌≡◌, IfSome};
-ghost use Rattle.description_items.specs.Tree.{Part};
 ghost use Rattle.description_tree.specs.Description.{v3_tree};
-ghost use Rattle.description_tree.specs.Inner.{inner_tree};
 ghost use Rattle.parsing_components.specs.Component.{reads_component_v3};
 ghost use Rattle.parsing_nodes.specs.Meaning.{Reads};
 ghost use Rattle.parsing_nodes.specs.Reads.{putting, reading, tried};
 
-use crate::items::after_byte;
 use crate::node::ReadsNode;
 use crate::parsed::Parsed;
 use crate::reading::read_node;
@@ -15,7 +11,6 @@ use crate::tally::Tally;
 use description_items::Component;
 use description_tree::{FormatDescriptionV3, FormatDescriptionV3Inner as Inner};
 use parsing_combinator::ParseFromDescription;
-use parsing_components::read_usual;
 
 /// Reads by the description into the record, tells the tally of each node that is begun, and returns the bytes after
 /// what was read.
@@ -38,28 +33,6 @@ pub fn parse_tree<'a, T: Tally>(
     answer
 }
 
-// The component of a node, where most descriptions have it.
-#[inline(always)]
-fn usual_component(node: &Inner<'_>) -> Option<Component>
-    ensures { IfSome result (λ component. inner_tree node.now ≡ Part component) }
-{
-    let component = match node {
-        Inner::Day(m) => Component::Day(*m),
-        Inner::MonthShort(m) => Component::MonthShort(*m),
-        Inner::MonthNumerical(m) => Component::MonthNumerical(*m),
-        Inner::WeekdayShort(m) => Component::WeekdayShort(*m),
-        Inner::CalendarYearFullExtendedRange(m) => Component::CalendarYearFullExtendedRange(*m),
-        Inner::CalendarYearFullStandardRange(m) => Component::CalendarYearFullStandardRange(*m),
-        Inner::Hour24(m) => Component::Hour24(*m),
-        Inner::Minute(m) => Component::Minute(*m),
-        Inner::Second(m) => Component::Second(*m),
-        Inner::OffsetHour(m) => Component::OffsetHour(*m),
-        Inner::OffsetMinute(m) => Component::OffsetMinute(*m),
-        _ => return None,
-    };
-    Some(component)
-}
-
 impl ReadsNode for Inner<'_> {
     #[inline(always)]
     fn read_component<'a>(
@@ -71,15 +44,5 @@ impl ReadsNode for Inner<'_> {
             (putting (reads_component_v3 component) parsed.old input.now) }
     {
         parsed.parse_component_v3(input, component)
-    }
-
-    #[inline(always)]
-    #[tactic(auto, unfolding(parsing_nodes::specs::Reads::reads))]
-    fn read_fast<'a>(&self, input: &'a [u8], parsed: &mut Parsed) -> Option<&'a [u8]> {
-        if let Inner::BorrowedLiteral(text) = self {
-            return after_byte(text.as_bytes(), input);
-        }
-        let component = usual_component(self)?;
-        read_usual(&component, input, &mut parsed.fields)
     }
 }

@@ -11,8 +11,8 @@ use Rattle.parsing_combinator.specs.Numbers.{padded, offset_hour, timestamp}
 use Rattle.parsing_combinator.specs.Names.{named, periods, short_months, long_months, short_weekdays, long_weekdays}
 use Rattle.parsing_components.specs.Put.{set_by}
 use Rattle.parsing_components.specs.Ranged.{kept, says, between, up_to, since_epoch, counted, months}
-use Rattle.parsing_components.specs.Read.{Read}
-use Rattle.parsing_components.specs.Read as read
+use Rattle.parsing_components.specs.declared.said.Read.{Read}
+use Rattle.parsing_components.specs.declared.said.Read.TheVariants as read
 use Rattle.parsing_nodes.specs.Record.{Record}
 use Rattle.parsing_steps.specs.Parts.{part_piece, padding_of}
 use Rattle.parsing_steps.specs.Steps.{Taken, part_reads, after_or, reads_after, step_reads, steps_read}

@@ -8,7 +8,7 @@ use Rattle.parsing_combinator.specs.Shape.{taken}
 use Rattle.parsing_combinator.proofs.NameLemmas.{taken_named}
 use Rattle.parsing_components.specs.Put.{set_by}
 use Rattle.parsing_components.specs.Ranged.{says, counted, months}
-use Rattle.parsing_components.specs.Read as read
+use Rattle.parsing_components.specs.declared.said.Read.TheVariants as read
 use Rattle.parsing_components.proofs.Entries.{month_entry}
 use Rattle.parsing_nodes.specs.Record.{Record}
 use Rattle.parsing_steps.proofs.StepLemmas.{cut_byte}

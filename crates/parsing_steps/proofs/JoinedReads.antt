@@ -12,8 +12,8 @@ use Rattle.parsing_combinator.specs.Places.{IsBetween, HasPair, HasClock}
 use Rattle.parsing_combinator.proofs.AtPlaces.{byte_there, digit_between, two_there}
 use Rattle.parsing_combinator.proofs.Components.{taken_padded_exactly}
 use Rattle.parsing_components.specs.Ranged.{between, counted, months}
-use Rattle.parsing_components.specs.Read.{Read}
-use Rattle.parsing_components.specs.Read as read
+use Rattle.parsing_components.specs.declared.said.Read.{Read}
+use Rattle.parsing_components.specs.declared.said.Read.TheVariants as read
 use Rattle.parsing_nodes.specs.Record.{Record}
 use Rattle.parsing_steps.specs.Found.{record_of, Reads, Finds}
 use Rattle.parsing_steps.specs.Joined.{HasStamp, after_year, first_of, others_of, after_byte}

@@ -13,8 +13,8 @@ use Rattle.parsing_combinator.specs.Readings.{piece_or}
 use Rattle.parsing_combinator.specs.Shape.{taken, fraction_between}
 use Rattle.parsing_components.specs.Component.{fraction_of}
 use Rattle.parsing_components.specs.Ranged.{kept, since_epoch}
-use Rattle.parsing_components.specs.Read.{Read}
-use Rattle.parsing_components.specs.Read as read
+use Rattle.parsing_components.specs.declared.said.Read.{Read}
+use Rattle.parsing_components.specs.declared.said.Read.TheVariants as read
 use Rattle.parsing_steps.specs.Parts.{IsPartOf, by_padding}
 use Rattle.parsing_steps.specs.declared.parts.Part.{Part}
 

@@ -3,7 +3,7 @@ use Rattle.std.specs.Prelude.{◌≡◌, ℕ, List, Option, Some, None, ℤ, pos
 use Rattle.std.specs.Borrow.{Bor}
 use Rattle.parsing_components.specs.Put.{set_by}
 use Rattle.parsing_components.specs.Ranged.{under, counted, months}
-use Rattle.parsing_components.specs.Read.{Read}
+use Rattle.parsing_components.specs.declared.said.Read.{Read}
 use Rattle.parsing_nodes.specs.Record.{Record}
 use Rattle.parsing_nodes.specs.Prefix.{beginning}
 use Rattle.parsing_steps.specs.declared.found.Found.{Found}

@@ -10,8 +10,8 @@ use Rattle.parsing_combinator.specs.Numbers.{padded, offset_hour, timestamp}
 use Rattle.parsing_combinator.specs.Names.{named, short_months, long_months, short_weekdays, long_weekdays, periods}
 use Rattle.parsing_components.specs.Component.{reads_component, reads_component_v3}
 use Rattle.parsing_components.specs.Ranged.{says, between, up_to, since_epoch, counted, months}
-use Rattle.parsing_components.specs.Read.{Read}
-use Rattle.parsing_components.specs.Read as read
+use Rattle.parsing_components.specs.declared.said.Read.{Read}
+use Rattle.parsing_components.specs.declared.said.Read.TheVariants as read
 use Rattle.parsing_steps.specs.declared.parts.Part.{Part}
 use Rattle.parsing_steps.specs.declared.parts.Part.TheVariants as part
 

@@ -8,7 +8,7 @@ ghost use Rattle.parsing_combinator.specs.Names.{named, periods, short_months, l
 ghost use Rattle.description_date_modifiers.specs.declared.choices.Padding.TheVariants as Padding;
 ghost use Rattle.description_time_modifiers.specs.declared.choices.SubsecondDigits.TheVariants as SubsecondDigits;
 ghost use Rattle.parsing_components.specs.Ranged.{says, between, up_to, since_epoch, counted, months};
-ghost use Rattle.parsing_components.specs.Read as read;
+ghost use Rattle.parsing_components.specs.declared.said.Read.TheVariants as read;
 ghost use Rattle.parsing_steps.specs.Found.{Finds, Reads};
 ghost use Rattle.parsing_steps.specs.Parts.{padding_of, by_padding, number, IsPartOf};
 ghost use Rattle.parsing_steps.specs.Steps.{all_read};

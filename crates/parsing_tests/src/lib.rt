@@ -7,6 +7,8 @@ mod alternatives;
 #[cfg(test)]
 mod bounds;
 #[cfg(test)]
+mod components;
+#[cfg(test)]
 mod dates;
 #[cfg(test)]
 mod errors;

@@ -17,8 +17,8 @@ use Rattle.parsing_combinator.specs.Shape.{Shape, greatest, or_before, prefix, t
 use Rattle.parsing_combinator.specs.Names.{named, period, short_months, long_months, short_weekdays, long_weekdays}
 use Rattle.parsing_components.specs.Ranged.{kept, says}
 use Rattle.parsing_components.specs.Component.{fraction_of, ignored, offset_piece, time_piece, year_piece, date_piece, component_name, time_name, at_end, begins_character, if_whole, reads_modern, reads_component, reads_component_v3}
-use Rattle.parsing_components.specs.Read.{Read}
-use Rattle.parsing_components.specs.Read as read
+use Rattle.parsing_components.specs.declared.said.Read.{Read}
+use Rattle.parsing_components.specs.declared.said.Read.TheVariants as read
 
 prefix_leaves : {A : Type 0} (k : ℕ) (bytes : List ℕ) (o : Option A) → Leaves bytes (option_map (λ x. (x, drop k bytes)) o)
 prefix_leaves k bytes None = tt

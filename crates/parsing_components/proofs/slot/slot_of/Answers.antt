@@ -3,7 +3,7 @@ use Rattle.std.specs.Prelude.{option_map}
 use Rattle.description_items.specs.declared.component.Component.TheVariants as component
 use Rattle.parsing_components.specs.Component.{reads_component, reads_component_v3, reads_modern, date_piece, year_piece, time_piece, offset_piece}
 use Rattle.parsing_components.specs.Ranged.{between, up_to, counted, months}
-use Rattle.parsing_components.specs.Read as read
+use Rattle.parsing_components.specs.declared.said.Read.TheVariants as read
 use Rattle.parsing_components.specs.declared.slot.Slot.TheVariants as slot
 use Rattle.parsing_components.specs.Slot.{ReadsSlot, slot_piece}
 use Rattle.parsing_components.proofs.Slots.{chosen, two_read, name_read, weekday_read, day_read, subsecond_read, both_slots, four_read, hour_read}

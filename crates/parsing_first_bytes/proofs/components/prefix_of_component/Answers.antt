@@ -6,7 +6,7 @@ use Rattle.parsing_combinator.specs.Numbers.{padded}
 use Rattle.parsing_combinator.specs.Names.{named, short_months, short_weekdays, long_months, long_weekdays}
 use Rattle.parsing_components.specs.Component.{reads_component, reads_component_v3, reads_modern, date_piece}
 use Rattle.parsing_components.specs.Ranged.{between, counted, months, from_sunday, from_monday}
-use Rattle.parsing_components.specs.Read as read
+use Rattle.parsing_components.specs.declared.said.Read.TheVariants as read
 use Rattle.parsing_first_bytes.proofs.Prefixes.{kept_prefix}
 use Rattle.parsing_first_bytes.proofs.Shapes.{name_prefix}
 use Rattle.parsing_first_bytes.proofs.components.prefix_of_component.Goals as goal

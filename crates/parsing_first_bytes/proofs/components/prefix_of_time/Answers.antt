@@ -4,7 +4,7 @@ use Rattle.parsing_combinator.specs.Numbers.{padded, offset_hour}
 use Rattle.parsing_combinator.specs.Names.{period, periods}
 use Rattle.parsing_components.specs.Component.{fraction_of, reads_component, reads_component_v3, reads_modern, date_piece, year_piece, time_piece, offset_piece}
 use Rattle.parsing_components.specs.Ranged.{between, up_to}
-use Rattle.parsing_components.specs.Read as read
+use Rattle.parsing_components.specs.declared.said.Read.TheVariants as read
 use Rattle.parsing_first_bytes.proofs.Prefixes.{kept_prefix}
 use Rattle.parsing_first_bytes.proofs.Shapes.{fraction_prefix, name_prefix}
 use Rattle.parsing_first_bytes.proofs.components.prefix_of_time.Goals as goal

@@ -3,7 +3,7 @@ use Rattle.parsing_combinator.specs.Shape.{taken}
 use Rattle.parsing_combinator.specs.Numbers.{padded, timestamp}
 use Rattle.parsing_components.specs.Component.{reads_component, reads_component_v3, reads_modern, date_piece, year_piece, time_piece, offset_piece}
 use Rattle.parsing_components.specs.Ranged.{since_epoch}
-use Rattle.parsing_components.specs.Read as read
+use Rattle.parsing_components.specs.declared.said.Read.TheVariants as read
 use Rattle.parsing_first_bytes.proofs.Prefixes.{kept_prefix}
 use Rattle.parsing_first_bytes.proofs.components.prefix_of_timestamp.Goals as goal
 

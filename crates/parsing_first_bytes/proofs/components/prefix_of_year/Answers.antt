@@ -4,7 +4,7 @@ use Rattle.parsing_combinator.specs.Shape.{taken}
 use Rattle.parsing_combinator.specs.Numbers.{padded, year, century}
 use Rattle.parsing_components.specs.Component.{reads_component, reads_component_v3, reads_modern, date_piece, year_piece}
 use Rattle.parsing_components.specs.Ranged.{between, greatest_century, up_to}
-use Rattle.parsing_components.specs.Read as read
+use Rattle.parsing_components.specs.declared.said.Read.TheVariants as read
 use Rattle.parsing_first_bytes.proofs.Prefixes.{kept_prefix}
 use Rattle.parsing_first_bytes.proofs.components.prefix_of_year.Goals as goal
 

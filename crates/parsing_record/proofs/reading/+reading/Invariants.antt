@@ -19,9 +19,6 @@ invariant-read_nodes-loop-node g l =
     (reading_of_all g.N.Node.language (from g.N.Node.tree l.fn.nodes 0) l.fn.parsed l.fn.input ≡ reading_of_all g.N.Node.language (from g.N.Node.tree l.nodes l.node-index) l.parsed l.rest)
     × (n : ℕ) × g.T.Tally.grows l.fn.tally l.tally n × (tried_in_all g.N.Node.language (from g.N.Node.tree l.fn.nodes 0) l.fn.parsed l.fn.input ≡ n + tried_in_all g.N.Node.language (from g.N.Node.tree l.nodes l.node-index) l.parsed l.rest)
 
-abbrev pub decreases-read_next : goal.decreases-read_next
-decreases-read_next g l = 3 * size (g.N.Node.tree l.node.now) + 1
-
 abbrev pub decreases-read_node : goal.decreases-read_node
 decreases-read_node g l = 3 * size (g.N.Node.tree l.node.now)
 

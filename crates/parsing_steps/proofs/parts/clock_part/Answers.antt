@@ -2,7 +2,7 @@ use Rattle.description_date_modifiers.specs.declared.choices.Padding.TheVariants
 use Rattle.description_items.specs.declared.component.Component.TheVariants as component
 use Rattle.parsing_components.specs.Component.{reads_component, reads_component_v3, reads_modern, date_piece, year_piece, time_piece, offset_piece}
 use Rattle.parsing_components.specs.Ranged.{between, up_to}
-use Rattle.parsing_components.specs.Read as read
+use Rattle.parsing_components.specs.declared.said.Read.TheVariants as read
 use Rattle.parsing_components.proofs.Slots.{hour_read}
 use Rattle.parsing_steps.specs.Parts.{part_piece}
 use Rattle.parsing_steps.specs.declared.parts.Part.TheVariants as part

@@ -5,7 +5,7 @@ use Rattle.description_items.specs.declared.component.Component.TheVariants as c
 use Rattle.parsing_combinator.specs.Names.{short_months, long_months, short_weekdays, long_weekdays}
 use Rattle.parsing_components.specs.Component.{reads_component, reads_component_v3, reads_modern, date_piece, year_piece, time_piece, offset_piece}
 use Rattle.parsing_components.specs.Ranged.{between, counted, months}
-use Rattle.parsing_components.specs.Read as read
+use Rattle.parsing_components.specs.declared.said.Read.TheVariants as read
 use Rattle.parsing_components.proofs.Slots.{four_read}
 use Rattle.parsing_steps.specs.Parts.{part_piece}
 use Rattle.parsing_steps.specs.declared.parts.Part.TheVariants as part

@@ -1,0 +1,82 @@
+//! Numbers in their ranges.
+ghost use Rattle.std.specs.Prelude.{◌≡◌, ◌≤◌, ◌<◌, Some, IfSome};
+ghost use Rattle.calendar_count.specs.Range.{greatest_year};
+ghost use Rattle.parsing_combinator.specs.Pieces.{cut_view};
+ghost use Rattle.parsing_combinator.specs.Shape.{taken};
+ghost use Rattle.parsing_combinator.specs.Numbers as Numbers;
+ghost use Rattle.parsing_components.specs.Record.{Reaches};
+ghost use Rattle.parsing_components.specs.Ranged.{greatest_century, says, between, up_to};
+ghost use Rattle.parsing_components.specs.Ranged as Ranged;
+
+use description_items::modifier::Padding;
+use parsing_combinator::{century, padded, padded_two, year};
+
+/// A number of two digits under a padding, in its range.
+#[inline(always)]
+pub(crate) fn two(padding: Padding, low: u8, high: u8, bytes: &[u8]) -> Option<(u8, &[u8])>
+    ensures reads { cut_view result
+        ≡ says (between low high (λ n. n)) (taken (Numbers.padded padding 2 2)) bytes.now }
+    ensures range { IfSome result (λ x. (low ≤ x.0) × (x.0 ≤ high)) }
+{
+    let (n, rest) = padded_two(padding, bytes)?;
+    if n < low || n > high {
+        return None;
+    }
+    Some((n, rest))
+}
+
+/// A number of three digits under a padding, in its range.
+#[inline(always)]
+pub(crate) fn three(padding: Padding, low: u16, high: u16, bytes: &[u8]) -> Option<(u16, &[u8])>
+    ensures reads { cut_view result
+        ≡ says (between low high (λ n. n)) (taken (Numbers.padded padding 3 3)) bytes.now }
+    ensures range { IfSome result (λ x. (low ≤ x.0) × (x.0 ≤ high)) }
+{
+    let (n, rest) = padded(padding, 3, 3, bytes)?;
+    if n < u32::from(low) || n > u32::from(high) {
+        return None;
+    }
+    Some((n as u16, rest))
+}
+
+// The number under its sign.
+#[inline(always)]
+fn under(negative: bool, n: u32) -> i32
+    requires { n < 1_000_000 }
+    ensures value { result ≡ Ranged.under negative n }
+{
+    if negative { -(n as i32) } else { n as i32 }
+}
+
+/// A year, with the sign that it may have.
+#[inline(always)]
+pub(crate) fn full_year(
+    padding: Padding,
+    mandatory: bool,
+    extended: bool,
+    bytes: &[u8],
+) -> Option<(i32, &[u8])>
+    ensures reads { cut_view result ≡ says (up_to greatest_year (λ negative y. y))
+        (taken (Numbers.year padding mandatory extended)) bytes.now }
+    ensures range { IfSome result (λ x. Reaches greatest_year (Some x.0)) }
+{
+    let ((negative, n), rest) = year(padding, mandatory, extended, bytes)?;
+    Some((under(negative, n), rest))
+}
+
+/// A century, with the sign that it may have, and whether that is a minus.
+#[inline(always)]
+pub(crate) fn full_century(
+    padding: Padding,
+    mandatory: bool,
+    extended: bool,
+    bytes: &[u8],
+) -> Option<((i16, bool), &[u8])>
+    ensures reads { cut_view result ≡ says (up_to greatest_century (λ negative c. (c, negative)))
+        (taken (Numbers.century padding mandatory extended)) bytes.now }
+    ensures range { IfSome result (λ x. Reaches greatest_century (Some x.0.0)) }
+{
+    let ((negative, n), rest) = century(padding, mandatory, extended, bytes)?;
+    let n = n as i16;
+    Some(((if negative { -n } else { n }, negative), rest))
+}

@@ -1,0 +1,92 @@
+//! What single components say, and what that sets in a record.
+
+use calendar::Month;
+use description::Component;
+use description::modifier::{
+    Day, Hour24, MonthShort, OffsetHour, Padding, UnixTimestampMillisecond,
+};
+use parsing_components::{Read, Record, read};
+
+const DAY: Component = Component::Day(Day {
+    padding: Padding::Space,
+});
+
+const MONTH: Component = Component::MonthShort(MonthShort {
+    case_sensitive: false,
+});
+
+const HOUR: Component = Component::Hour24(Hour24 {
+    padding: Padding::None,
+});
+
+const OFFSET: Component = Component::OffsetHour(OffsetHour {
+    sign_is_mandatory: true,
+    padding: Padding::Zero,
+});
+
+const UNIX: Component = Component::UnixTimestampMillisecond(UnixTimestampMillisecond {
+    sign_is_mandatory: false,
+});
+
+// Whether the component says this of the text, and leaves the rest, or says nothing of it.
+fn is_said(component: Component, text: &[u8], said: Option<(Read, &[u8])>) -> bool {
+    read(component, text) == said
+}
+
+#[test]
+fn says(rt: HostRuntime) {
+    let september = Read::Month(Month::September);
+    let minus = Read::OffsetHour(0, true);
+    assert!(rt; is_said(DAY, b" 7T", Some((Read::Day(7), b"T"))));
+    assert!(rt; is_said(DAY, b"32", None));
+    assert!(rt; is_said(MONTH, b"sEpt", Some((september, b"t"))));
+    assert!(rt; is_said(HOUR, b"9:30", Some((Read::Hour24(9), b":30"))));
+    assert!(rt; is_said(HOUR, b"24:00", None));
+    assert!(rt; is_said(OFFSET, b"-0030", Some((minus, b"30"))));
+    assert!(rt; is_said(UNIX, b"-1500 ", Some((Read::Unix(-1_500_000_000), b" "))));
+}
+
+// No component was read.
+fn empty() -> Record {
+    Record {
+        year: None,
+        year_century: None,
+        year_century_is_negative: false,
+        year_last_two: None,
+        iso_year: None,
+        iso_year_century: None,
+        iso_year_century_is_negative: false,
+        iso_year_last_two: None,
+        month: None,
+        sunday_week_number: None,
+        monday_week_number: None,
+        iso_week_number: None,
+        weekday: None,
+        ordinal: None,
+        day: None,
+        hour_24: None,
+        hour_12: None,
+        hour_12_is_pm: None,
+        minute: None,
+        second: None,
+        subsecond: None,
+        offset_hour: None,
+        offset_minute: None,
+        offset_second: None,
+        unix_timestamp_nanos: None,
+        offset_is_negative: false,
+        leap_second_is_permitted: false,
+    }
+}
+
+#[test]
+fn sets(rt: HostRuntime) {
+    let mut record = empty();
+    record.put(Read::OffsetHour(-5, true));
+    record.put(Read::OffsetMinute(30));
+    record.put(Read::Day(31));
+    assert!(rt;
+        (record.offset_hour, record.offset_minute, record.day) == (Some(-5), Some(30), Some(31))
+    );
+    assert!(rt; record.offset_is_negative && record.minute.is_none());
+}
