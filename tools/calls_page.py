@@ -69,7 +69,7 @@ MODULES = {
     "parsing_rfc3339::laws": ("parsing_rfc3339/src/laws.rt",),
     "parsing_rfc2822::laws": ("parsing_rfc2822/src/laws.rt",),
     "parsing_parsable::laws": ("parsing_parsable/src/laws.rt",),
-    "instants::laws": ("instants_laws/src/lines.rt", "instants_laws/src/moments.rt", "instants_answers/src/laws.rt", "instants_stream/src/laws.rt"),
+    "instants::laws": ("instants/src/laws/lines.rt", "instants/src/laws/moments.rt", "instants_answers/src/laws.rt", "instants_stream/src/laws.rt"),
     "instants_formats::laws": ("instants_formats/src/laws.rt",),
     "instants_found::laws": ("instants_found/src/laws.rt",),
     "instants_lines_words::laws": ("instants_lines_words/src/laws.rt",),

@@ -41,10 +41,11 @@
 //!   proof.
 #![tactic(auto)]
 
+pub mod laws;
+
 pub use instants_answers::{
     Answer, fits_line, fits_utc_line, rfc3339_line, utc_line_by_timestamp, utc_line_by_utc,
 };
-pub use instants_laws as laws;
 pub use instants_sources::{Described, Named, Source};
 pub use instants_stream::{
     BlockWriter, ByteReader, ByteWriter, CutReader, CutWriter, DeviceFailed, RunFault, StdReader,

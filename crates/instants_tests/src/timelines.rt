@@ -1,12 +1,12 @@
 //! What a timeline is made of, and the laws of lines.
 
 use calendar::UtcOffset;
-use instants::{SourceText, Timeline, asked_timeline, rfc3339_line};
-use instants_answers::is_target;
-use instants_laws::{
+use instants::laws::{
     appended, difference, difference_added, embedding, fixed_point, joined_streams,
     lines_read_again, order_of_lines, two_targets,
 };
+use instants::{SourceText, Timeline, asked_timeline, rfc3339_line};
+use instants_answers::is_target;
 use std::alloc::Global;
 
 // Whether adding the difference of two places to the one leads to the other and back, and whether the line of the one is
