@@ -1,20 +1,20 @@
 -- Runs of digits, and what they are as a fraction.
-use Rattle.std.proofs.Common.{◌≡◌, ◌∙◌, ◌≤◌, ◌<◌, ◌+◌, ◌*◌, ◌^◌, ℕ, zero, suc, min, Bool, true, false, List, [], ◌∷◌, length, take, drop, Option, Some, None, refl, sym, ap, arith, lit<, cond}
+use Rattle.std.proofs.Common.{◌≡◌, ◌∙◌, ◌≤◌, ◌<◌, ◌+◌, ◌-◌, ◌*◌, ◌^◌, ℕ, zero, suc, min, Bool, true, false, List, [], ◌∷◌, length, take, drop, Option, Some, None, refl, sym, ap, arith, lit<, cond}
 use Rattle.std.specs.Prelude.{◌==◌, nat_le, option_map}
 use Rattle.std.specs.Str.Parse.{digits_value}
 use Rattle.std.specs.Char.{is_ascii_digit}
 use Rattle.std.proofs.lemmas.Bool.Decides.{nat_tests}
-use Rattle.std.proofs.lemmas.List.{length-take-le, length-drop, take_all}
+use Rattle.std.proofs.lemmas.List.{length-take-le, length-drop, take_all, take-take}
 use Rattle.std.proofs.Math.Nat.{pow-le-pow_right}
 use Rattle.parsing_combinator.specs.Pieces.{digit_count, digit_run, fraction, nanoseconds_of}
 use Rattle.parsing_combinator.specs.Shape.{taken, digits_between}
-use Rattle.parsing_combinator.proofs.Decimal.{digit_count_within}
+use Rattle.parsing_combinator.proofs.Decimal.{digit_count_within, count_drop, count_prefix}
+use Rattle.parsing_combinator.proofs.FractionDigits.{long_fraction, short_fraction}
+use Rattle.parsing_fields.specs.Written.{WriteFraction}
 use Rattle.parsing_combinator.proofs.Longest.{taken_digits}
 use Rattle.parsing_combinator.proofs.WideLemmas.{Next, next_digit}
 use Rattle.parsing_layout.specs.Layout.{exact_fraction}
-
-inside : {A : Type 0} → (x y : A) → Some x ≡ Some y → x ≡ y
-inside x y e = cc
+use Rattle.parsing_layout.proofs.PieceLemmas.{inside, exact_said}
 
 -- what a run is: all digits at the start, at least one
 record IsRun (text run rest : List ℕ) : Type 0 where
@@ -77,6 +77,22 @@ exact_taken n v text first left rest within before after e none_left =
     let counted : digit_count (take n text) ≡ n = rw before all in
     let enough : nat_le n (digit_count text) ≡ true = let more = count_in_prefix n text in grind (arith, nat_tests) in
     rw (enough, before, after, value) refl
+
+-- a fraction of more than nine digits, by the first nine
+pub long_written : (bytes first left : List ℕ) (count n : ℕ) → 9 < count → take 9 bytes ≡ first → fraction first ≡ Some (n, left) → (length left == 0) ≡ true → count ≤ 9 + digit_count (drop 9 bytes) → WriteFraction bytes count n
+long_written bytes first left count n many before e none_left more =
+    let within : 9 ≤ length bytes = omega (arith, digit_count_within (drop 9 bytes), length-drop 9 bytes, many, more) in
+    let nine = exact_said _ bytes _ 9 n refl (exact_taken 9 n bytes first left (drop 9 bytes) within before refl e none_left) in
+    let enough : count ≤ digit_count bytes = omega (arith, count_drop 9 bytes nine.0, more) in
+    let run = take count bytes in
+    let long : length run ≡ count = length-take-le count bytes (omega (arith, enough, digit_count_within bytes)) in
+    let all : digit_count run ≡ length run = count_prefix bytes count enough in
+    let same : take 9 run ≡ take 9 bytes = take-take 9 count bytes (omega (arith, many)) in
+    let all_of : digits_value 10 (take 9 bytes) ≡ nanoseconds_of (take count bytes) = rw (← same) (long_fraction run (omega (arith, long, many)) all) in
+    let nine_long : length (take 9 bytes) ≡ 9 = length-take-le 9 bytes within in
+    let power : 9 - length (take 9 bytes) ≡ 0 = omega (arith, nine_long) in
+    let last : digits_value 10 (take 9 bytes) ≡ nanoseconds_of (take 9 bytes) = let short = rw power at (short_fraction (take 9 bytes) (omega (arith, nine_long))) in omega (arith, short) in
+    record { enough = enough; value = sym nine.1 ∙ sym last ∙ all_of }
 
 -- ---- a number, digit by digit
 

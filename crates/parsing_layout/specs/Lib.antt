@@ -1,2 +1,6 @@
 pub mod Found
 pub mod Layout
+pub mod Moment
+pub mod Shape
+pub mod Tail
+pub mod Windows

@@ -14,7 +14,7 @@ use Rattle.parsing_fields.specs.DigitsBack.{digits_below}
 use Rattle.parsing_fields.specs.Digits.{nine_digits, AreNineDigits}
 use Rattle.parsing_places.specs.Lanes.{above}
 use Rattle.parsing_places.specs.End.{HasOffset, HasZulu, HasSigned, HasFraction, SaysOffset, width_of}
-use Rattle.parsing_places.specs.Numbers.{WritesTwo, WritesOne, WritesNumber, HasNumbers}
+use Rattle.parsing_places.specs.Numbers.{LieIn, WritesTwo, WritesOne, WritesNumber, HasNumbers}
 use Rattle.parsing_places.specs.Shape.{Takes, TakesPair, TakesNumber, TakesNothing}
 use Rattle.parsing_places.specs.Tail.{LetsByte, TakesSigned, TakesZulu, offset_at, is_fraction, is_written, is_zulu, other_end}
 use Rattle.parsing_places.specs.Whole.{IsTextDigit, IsFree, HaveLanes, HasSums, end_in}
@@ -61,11 +61,11 @@ end_small Zulu = lit< tt
 end_small Colon = lit< tt
 end_small Plain = lit< tt
 
-pub has_fraction : (shape : Shape) (tail : Tail) (text v f : List ℕ) → HaveLanes shape tail text v f → ((k : ℕ) → get_or text k 0 < 256) → is_zulu tail.ending ≡ (get_or text (length text - 1) 0 == 90) → is_fraction tail.fraction ≡ true
-has_fraction shape tail text v f h small zulu =
-    let last : length text - 16 + 15 ≡ length text - 1 = omega (arith, h.has_shape.room) in
+pub has_fraction : (tail : Tail) (text : List ℕ) → 16 ≤ length text → LieIn tail.window text (length text - 16) → ((k : ℕ) → get_or text k 0 < 256) → is_zulu tail.ending ≡ (get_or text (length text - 1) 0 == 90) → is_fraction tail.fraction ≡ true
+has_fraction tail text long lies small zulu =
+    let last : length text - 16 + 15 ≡ length text - 1 = omega (arith, long) in
     possible tail.ending (is_fraction tail.fraction) (get_or text (length text - 16 + 15) 0) (get_or text (length text - 1) 0) (ap (λ k. get_or text k 0) last) zulu
-    (λ none. let lets = tail.never none in exact _ (other_end tail.ending) (small _) (end_small tail.ending) (omega (arith, rw (lets.low, lets.high) at (h.lies 15 lets.inside))))
+    (λ none. let lets = tail.never none in exact _ (other_end tail.ending) (small _) (end_small tail.ending) (omega (arith, rw (lets.low, lets.high) at (lies 15 lets.inside))))
 
 module _ (shape : Shape) (tail : Tail) (text v f n : List ℕ) (h : HaveLanes shape tail text v f) (paired : Paired v n) (small : (k : ℕ) → get_or text k 0 < 256) (ok : is_fraction tail.fraction ≡ true) where
   prefix_pair : (j place most : ℕ) → j < 8 → most ≤ 9 → 128 ≤ get_or tail.window.taken.lanes (2 * j) 0 → 128 ≤ get_or tail.window.taken.lanes (2 * j + 1) 0 → TakesPair shape.prefix shape.back shape.back_at (2 * j) place most → Pair text place (get_or n (2 * j) 0) most

@@ -4,6 +4,14 @@ use Rattle.parsing_places.specs.Lanes.{above}
 use Rattle.parsing_places.specs.Numbers.{IsDigitAt, LieIn}
 use Rattle.parsing_places.specs.Shape.{Takes}
 use Rattle.parsing_places.specs.declared.last.LastBytes.{LastBytes}
+use Rattle.parsing_places.specs.declared.shape.Window.{Window}
+
+-- lanes v have what a window takes of the sixteen bytes before an end of a text
+pub record HaveEnd (window : Window) (text : List ℕ) (end : ℕ) (v : List ℕ) : Type 0 where
+  pub lies : LieIn window text (end - 16)
+  pub taken : (lane place most : ℕ) → lane < 16 → most ≤ 9 → Takes window lane place most → IsDigitAt v lane text (end - 16 + place) most
+  pub none : (lane : ℕ) → lane < 16 → 128 ≤ get_or window.taken.lanes lane 0 → get_or v lane 0 ≡ 0
+  pub raw : (lane place : ℕ) → lane < 16 → place < 16 → get_or window.taken.lanes lane 0 ≡ place → get_or v lane 0 ≡ above (get_or text (end - 16 + place) 0) (get_or window.low place 0)
 
 -- the first lanes are so many digits that stand at a place, and the others 0
 pub record HaveFraction (text : List ℕ) (place count : ℕ) (digits : List ℕ) : Type 0 where

@@ -11,9 +11,3 @@ use Rattle.parsing_places.specs.declared.shape.Shape.{Shape}
 pub record SaysNumbers (shape : Shape) (text : List ℕ) (n : Numbers) : Type 0 where
   pub year_is : digits 4 (drop shape.year text) ≡ Some (n.year, drop (shape.year + 4) text)
   pub names : Names shape text n.high n.low n.minute n.second n.offset n.fraction
-
--- the same where they are those of fields, whose month and day are the numbers of the date
-pub record Says (shape : Shape) (text : List ℕ) (f : Fields) : Type 0 where
-  pub said : Numbers
-  pub says : SaysNumbers shape text said
-  pub numbers : HaveNumbers f said.year said.high said.low said.minute said.second said.fraction said.offset

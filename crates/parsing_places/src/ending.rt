@@ -4,7 +4,7 @@ ghost use Rattle.parsing_places.specs.Tail.{is_written, is_zulu};
 
 /// How the offset at the end of a text is written.
 #[derive(Clone, Copy)]
-pub(crate) enum Ending {
+pub enum Ending {
     /// `Z`, for UTC.
     Zulu,
     /// A sign, hours and minutes, as `+0530`.
@@ -15,7 +15,7 @@ pub(crate) enum Ending {
 
 /// How the offset can be written that a byte ends, with a colon or without.
 #[inline(always)]
-pub(crate) fn ending_of(last: u8, has_colon: bool) -> Ending
+pub fn ending_of(last: u8, has_colon: bool) -> Ending
     ensures written { is_written has_colon result ≡ true }
     ensures zulu { is_zulu result ≡ (last == 90) }
 {

@@ -30,9 +30,9 @@ fn offset_length(last: u8, has_colon: bool) -> usize
     if has_colon { 6 } else { 5 }
 }
 
-// Whether all bytes from a place to another one are digits.
+/// Whether all bytes from a place to another one are digits.
 #[inline(always)]
-fn are_digits(text: &[u8], from: usize, end: usize) -> bool
+pub fn are_digits(text: &[u8], from: usize, end: usize) -> bool
     requires within { end ≤ length text.now }
     requires some { from ≤ end }
     ensures { result ≡ true → end ≤ from + digit_count (drop from text.now) }

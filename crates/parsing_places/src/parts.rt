@@ -4,11 +4,10 @@ ghost use Rattle.parsing_values.specs.Resolution.{signed_offset_of};
 ghost use Rattle.parsing_places.specs.Tail.{offset_at, is_fraction, is_zulu};
 ghost use Rattle.parsing_places.specs.Whole.{HaveLanes, HasSums};
 
-use crate::lanes::{
-    LANES, all_above, are_at_most, as_text, first_nine, joined, paired, sixteen_from, sums,
-};
+use crate::lanes::{LANES, as_text, first_nine, joined, paired, sums};
 use crate::shape::Shape;
 use crate::tail::Tail;
+use crate::whole::digits_of_whole;
 use std::simd::prelude::*;
 
 // Whether a text has the shape and the tail, the digits that lanes take, and nine digits of a fraction.
@@ -17,27 +16,15 @@ fn lanes_of(shape: &Shape, tail: &Tail, text: &[u8]) -> (bool, u8x16, u8x16)
     requires { shape.now.back_at + LANES ≤ length text.now }
     ensures { result.0 ≡ true → HaveLanes shape.now tail.now text.now result.1 result.2 }
 {
-    let first = all_above(sixteen_from(text, 0), u8x16::from_array(shape.prefix.low));
-    let second = all_above(
-        sixteen_from(text, shape.back_at),
-        u8x16::from_array(shape.back.low),
+    let (fits, front, last, fraction) = digits_of_whole(
+        &shape.prefix,
+        &shape.back,
+        shape.back_at,
+        &tail.window,
+        &tail.digits,
+        text,
     );
-    let last = all_above(
-        sixteen_from(text, text.len() - LANES),
-        u8x16::from_array(tail.window.low),
-    );
-    let fits = are_at_most(
-        first,
-        u8x16::from_array(shape.prefix.high),
-        second,
-        u8x16::from_array(shape.back.high),
-        last,
-        u8x16::from_array(tail.window.high),
-    );
-    let prefix = joined(shape.prefix.taken.of(first), shape.back.taken.of(second));
-    let digits = joined(prefix, tail.window.taken.of(last));
-    let fraction = as_text(tail.digits.of(last));
-    (fits, digits, fraction)
+    (fits, joined(front, last), as_text(fraction))
 }
 
 /// The first number of the date with 64 times the second one, the minute of the day, the offset's minutes, the sign with 64

@@ -2,7 +2,7 @@
 ghost use Rattle.std.specs.Prelude.{◌≡◌, ◌≤◌, ◌+◌, ◌-◌, ◌==◌, length, drop, get_or, IfSome, Some, true, false};
 ghost use Rattle.parsing_combinator.specs.Pieces.{digits};
 ghost use Rattle.parsing_places.specs.Numbers.{HasShape};
-ghost use Rattle.parsing_places.specs.Says.{Says, SaysNumbers};
+ghost use Rattle.parsing_places.specs.Says.{SaysNumbers};
 ghost use Rattle.parsing_places.specs.Tail.{offset_at, is_fraction, is_written, is_zulu};
 
 use crate::ending::ending_of;
@@ -12,7 +12,7 @@ use crate::parts::{signed, totals};
 use crate::shape::Shape;
 use crate::tail::Tail;
 use crate::tails::tail_of;
-use parsing_fields::{Fields, Fraction, Year};
+use parsing_fields::{Fraction, Year};
 
 #[inline(always)]
 fn year_of(shape: &Shape, text: &[u8]) -> Year
@@ -68,14 +68,4 @@ pub fn read_numbers(shape: &Shape, text: &[u8]) -> Option<Numbers>
         return None;
     }
     read_with(shape, &tail, text)
-}
-
-/// The fields that such a text names, where the numbers of its date are a month and a day of it.
-#[inline(always)]
-pub fn read(shape: &Shape, text: &[u8]) -> Option<Fields>
-    ensures { IfSome result (λ f. Says shape.now text.now f) }
-{
-    let numbers = read_numbers(shape, text)?;
-    let fields = numbers.on_day(numbers.high, numbers.low)?;
-    Some(fields)
 }

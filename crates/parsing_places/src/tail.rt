@@ -10,14 +10,14 @@ use crate::shape::Window;
 
 /// The last sixteen bytes of a text. Where no fraction has as many bytes as are left for one, no text has them.
 #[derive(Clone, Copy)]
-pub(crate) struct Tail {
+pub struct Tail {
     /// Their bounds; its lanes take the numbers of the offset, and its sign.
-    pub(crate) window: Window,
+    pub window: Window,
     /// Its lanes take the digits of the fraction.
-    pub(crate) digits: Moves,
+    pub digits: Moves,
     /// How many bytes are left for the fraction, its point among them.
-    pub(crate) fraction: usize,
-    pub(crate) ending: Ending,
+    pub fraction: usize,
+    pub ending: Ending,
     ghost first_free: { (k : ℕ) → k < 8 → 128 ≤ get_or window.taken.lanes k 0 },
     ghost second_free: { 128 ≤ get_or window.taken.lanes 14 0 },
     ghost last_free: { 128 ≤ get_or window.taken.lanes 15 0 },

@@ -346,9 +346,9 @@ fn row_of(ending: Ending) -> usize
     }
 }
 
-// How many bytes an offset has.
+/// How many bytes an offset has.
 #[inline(always)]
-fn length_of(ending: Ending) -> usize
+pub fn length_of(ending: Ending) -> usize
     ensures length { result + offset_at ending ≡ LANES }
     ensures bound { result ≤ 6 }
 {
@@ -383,7 +383,7 @@ fn tail_at(ending: Ending, bytes: usize) -> Tail
 
 /// The tail of so many bytes, if there can be one, with a fraction of at most nine digits.
 #[inline(always)]
-pub(crate) fn tail_of(ending: Ending, bytes: usize) -> Option<Tail>
+pub fn tail_of(ending: Ending, bytes: usize) -> Option<Tail>
     ensures ending { IfSome result (λ t. t.ending ≡ ending) }
     ensures bytes { IfSome result (λ t. is_fraction t.fraction ≡ true
         → bytes + offset_at ending ≡ LANES + t.fraction) }

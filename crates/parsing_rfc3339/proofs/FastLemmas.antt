@@ -47,17 +47,6 @@ pub fields_read : (f : Fields) (b0 b1 b2 b3 b4 : List ℕ) (d t : ℕ × ℕ × 
 fields_read f b0 b1 b2 b3 b4 d t fraction o in_date between in_clock in_subsecond in_offset numbers hour minute bound =
     rw (← moment_is f, numbers.same_offset) (moment_read b0 b1 b2 b3 b4 d t fraction (pos 60 *ℤ o) (day_of_fields f) (time_of_fields f) in_date between in_clock in_subsecond in_offset (fields_date f _ _ _ _ _ _ _ numbers) (fields_time f _ _ _ _ _ _ _ _ numbers hour minute bound))
 
--- `05:30`, and nothing after it
-pub record AreHoursAndMinutes (bytes : List ℕ) (hours minutes : ℕ) : Type 0 where
-  pub hour_digits : digits 2 bytes ≡ Some (hours, drop 2 bytes)
-  pub colon_there : byte colon (drop 2 bytes) ≡ Some (tt, drop 3 bytes)
-  pub minute_digits : digits 2 (drop 3 bytes) ≡ Some (minutes, [])
-
--- an offset of these hours and minutes
-pub signed_read : (bytes rest : List ℕ) (mark hours minutes : ℕ) → sign bytes ≡ Some (mark, rest) → AreHoursAndMinutes rest hours minutes → hours ≤ 23 → signed_offset false bytes ≡ Ok (record { is_named = false; is_negative = mark == hyphen; hours = hours; minutes = minutes }, [])
-unfolding signed_offset
-signed_read bytes rest mark hours minutes there r le = rw (there, r.hour_digits, le-leb hours 23 le, r.colon_there, r.minute_digits) refl
-
 -- a text without four digits before has no year
 pub no_year : (bytes : List ℕ) → digits 4 bytes ≡ None → direct bytes ≡ Err (component (codes "year"))
 unfolding direct moment rfc3339 date

@@ -1,6 +1,5 @@
 //! The moment that a text names.
-ghost use Rattle.std.specs.Prelude.{◌≡◌, ◌<◌, ◌-◌, false, codes, Err, IfErr, IfSome, Ok, get_or, length};
-ghost use Rattle.base.specs.Bytes.{lower_z};
+ghost use Rattle.std.specs.Prelude.{◌≡◌, ◌<◌, false, codes, Err, IfErr, IfSome, Ok};
 ghost use Rattle.parsing_combinator.specs.Fault.{component};
 ghost use Rattle.parsing_combinator.specs.FaultOf.{Gives, fault_of};
 ghost use Rattle.parsing_combinator.specs.ShortName.{HasShortName};
@@ -13,7 +12,7 @@ use crate::reading::parse_prefix;
 use crate::shape::shape;
 use parsing_combinator::{Parse, ParseFromDescription, four_digits};
 use parsing_fields::Fields;
-use parsing_places::{read, read_long};
+use parsing_layout::{read_long_moment, read_moment, read_small_moment};
 use parsing_values::{OffsetDateTime, leap_checked, resolve};
 
 // The moment of the numbers that a text has, with what follows them.
@@ -39,9 +38,6 @@ fn resolved(parts: Rfc3339Parts, rest: &[u8]) -> Result<OffsetDateTime, Parse>
 // The bytes of a text without a fraction, in UTC: no text has fewer.
 const SHORTEST: usize = 20;
 
-// The bytes of a text with nine digits of a fraction, in UTC.
-const LONGEST_IN_UTC: usize = 30;
-
 /// The fields of a text with at most nine digits of a fraction, and a big `Z` or an offset in digits, where its numbers are in
 /// range and its second is no leap second: `None` says nothing of the text.
 #[inline(always)]
@@ -52,33 +48,7 @@ pub fn read_usual_fields(input: &[u8]) -> Option<Fields>
     if input.len() < SHORTEST || input[4] != b'-' {
         return None;
     }
-    let fields = read(&shape(), input)?;
-    Some(fields)
-}
-
-// The fields of a text with more than nine digits of a fraction.
-#[inline(always)]
-fn read_long_fields(input: &[u8]) -> Option<Fields>
-    ensures { IfSome result (λ fields. direct input.now ≡ Ok (Moment.moment_of fields)) }
-{
-    let numbers = read_long(&shape(), input)?;
-    let fields = numbers.on_day(numbers.high, numbers.low)?;
-    Some(fields)
-}
-
-// The fields of a text with a small `z` and at most nine digits of a fraction: those of the same text with a big one.
-#[inline(always)]
-fn read_small_zulu(input: &[u8]) -> Option<Fields>
-    requires { get_or input.now (length input.now - 1) 0 ≡ lower_z }
-    ensures { IfSome result (λ fields. direct input.now ≡ Ok (Moment.moment_of fields)) }
-{
-    if input.len() < SHORTEST || input.len() > LONGEST_IN_UTC {
-        return None;
-    }
-    let mut text = [0; LONGEST_IN_UTC];
-    text[..input.len()].copy_from_slice(input);
-    text[input.len() - 1] = b'Z';
-    let fields = read(&shape(), &text[..input.len()])?;
+    let fields = read_moment(&shape(), true, input)?;
     Some(fields)
 }
 
@@ -87,9 +57,10 @@ fn read_small_zulu(input: &[u8]) -> Option<Fields>
 pub fn read_rare_fields(input: &[u8]) -> Option<Fields>
     ensures { IfSome result (λ fields. direct input.now ≡ Ok (Moment.moment_of fields)) }
 {
+    let shape = shape();
     match input {
-        [.., b'z'] => read_small_zulu(input),
-        _ => read_long_fields(input),
+        [.., b'z'] => read_small_moment(&shape, input),
+        _ => read_long_moment(&shape, true, input),
     }
 }
 

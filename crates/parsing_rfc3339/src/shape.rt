@@ -1,47 +1,45 @@
-//! Where the parts of a text stand.
-ghost use Rattle.parsing_rfc3339.specs.Shape.{IsShape};
+//! Where lanes take the parts of a text.
+ghost use Rattle.std.specs.Prelude.{◌≡◌, false, true};
+ghost use Rattle.parsing_layout.specs.Shape.{fits};
+ghost use Rattle.parsing_rfc3339.specs.Layout.{front_parts};
 
-use parsing_places::{Moves, Number, Shape, Window};
+use parsing_layout::Shape;
+use parsing_places::{Moves, Window, Windows};
 
 /// The shape of `1985-04-12T23:20:50`, where any byte separates date and time.
 #[inline(always)]
 pub(crate) fn shape() -> Shape
-    ensures { IsShape result }
+    ensures tail { result.has_tail ≡ true }
+    ensures numbered { result.month_is_named ≡ false }
+    ensures fits { fits result front_parts ≡ true }
 {
     Shape {
-        prefix: Window {
-            low: *b"0000-00-00\x0000:00",
-            high: [9, 9, 9, 9, 0, 1, 9, 0, 3, 9, 255, 2, 9, 0, 5, 9],
-            taken: Moves {
-                lanes: [
-                    5, 6, 8, 9, 11, 12, 14, 15, 128, 128, 128, 128, 128, 128, 128, 128,
-                ],
+        windows: Windows {
+            prefix: Window {
+                low: *b"0000-00-00\x0000:00",
+                high: [9, 9, 9, 9, 0, 1, 9, 0, 3, 9, 255, 2, 9, 0, 5, 9],
+                taken: Moves {
+                    lanes: [
+                        5, 6, 8, 9, 11, 12, 14, 15, 128, 128, 128, 128, 128, 128, 128, 128,
+                    ],
+                },
             },
-        },
-        back: Window {
-            low: *b"0-00-00\x0000:00:00",
-            high: [9, 0, 1, 9, 0, 3, 9, 255, 2, 9, 0, 5, 9, 0, 5, 9],
-            taken: Moves {
-                lanes: [
-                    128, 128, 128, 128, 128, 128, 128, 128, 128, 128, 128, 128, 128, 128, 14, 15,
-                ],
+            back: Window {
+                low: *b"0-00-00\x0000:00:00",
+                high: [9, 0, 1, 9, 0, 3, 9, 255, 2, 9, 0, 5, 9, 0, 5, 9],
+                taken: Moves {
+                    lanes: [
+                        128, 128, 128, 128, 128, 128, 128, 128, 128, 128, 128, 128, 128, 128, 14,
+                        15,
+                    ],
+                },
             },
+            back_at: 3,
         },
         length: 19,
-        back_at: 3,
+        has_tail: true,
         year: 0,
-        high: Number {
-            has_tens: true,
-            place: 6,
-        },
-        low: Number {
-            has_tens: true,
-            place: 9,
-        },
-        hour: 11,
-        minute: 14,
-        has_second: true,
-        second: 17,
-        has_colon: true,
+        month_is_named: false,
+        month: 0,
     }
 }

@@ -9,8 +9,7 @@ use parsing_combinator::digit_chunk;
 use parsing_fields::{Fields, Fraction, Year, digit_pair, minute_of_day, signed_minutes};
 use parsing_nodes::assumed_minutes;
 use parsing_places::{
-    Moves, NamedShape, Number, Numbers, Shape, Window, Windows, read, read_long, read_numbers,
-    read_stamp,
+    Moves, NamedShape, Number, Numbers, Shape, Window, Windows, read_long, read_numbers, read_stamp,
 };
 use parsing_plan::Plan;
 use parsing_steps::Steps;
@@ -138,12 +137,10 @@ fn basic() -> Shape {
     }
 }
 
-// The fields of a text, at once and from its numbers.
-fn shaped(text: &[u8]) -> Option<[Option<(i64, u32)>; 2]> {
-    let shape = basic();
-    let numbers: Numbers = read_numbers(&shape, text)?;
-    let on_day = numbers.on_day(numbers.high, numbers.low);
-    Some([instant(read(&shape, text)), instant(on_day)])
+// The fields of a text, from its numbers.
+fn shaped(text: &[u8]) -> Option<Option<(i64, u32)>> {
+    let numbers: Numbers = read_numbers(&basic(), text)?;
+    Some(instant(numbers.on_day(numbers.high, numbers.low)))
 }
 
 // The same of a text with more than nine digits of a fraction.
@@ -155,8 +152,8 @@ fn shaped_long(text: &[u8]) -> Option<Option<(i64, u32)>> {
 #[test]
 fn fields_of_a_shape(rt: HostRuntime) {
     assert!(rt; shaped_long(b"20210102T030405.50000000099+01:00") == Some(HALF));
-    assert!(rt; shaped(b"20210102T030405.5+01:00") == Some([HALF, HALF]));
-    assert!(rt; shaped(b"20210132T030405Z") == Some([None, None]));
+    assert!(rt; shaped(b"20210102T030405.5+01:00") == Some(HALF));
+    assert!(rt; shaped(b"20210132T030405Z") == Some(None));
 }
 
 // What the windows of `basic` let, take and spare.

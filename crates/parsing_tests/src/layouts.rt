@@ -1,6 +1,10 @@
 //! Layouts: lists of parts, and what is read by them.
 
-use parsing_layout::{Field, Found, Names, Part, read};
+use parsing_fields::Fields;
+use parsing_layout::{
+    Field, Found, Names, Part, Shape, read, read_long_moment, read_moment, read_small_moment,
+};
+use parsing_places::{Moves, Window, Windows};
 
 // A date in words, after which anything may follow.
 static DATE: [Part; 6] = [
@@ -38,4 +42,50 @@ fn parts_one_after_another(rt: HostRuntime) {
     let clock = [Field::Hour, Field::Nanosecond, Field::Sign];
     assert!(rt; numbers(&CLOCK, b"3:04250+01", clock) == Some(([3, 250_000_000, 43], 0)));
     assert!(rt; numbers(&CLOCK, b"3:0425+01", clock) == None);
+}
+
+// `20210102T030405`.
+fn basic() -> Shape {
+    Shape {
+        windows: Windows {
+            prefix: Window {
+                low: *b"00000000T000000\x00",
+                high: [9, 9, 9, 9, 1, 9, 3, 9, 0, 2, 9, 5, 9, 5, 9, 255],
+                taken: Moves {
+                    lanes: [
+                        4, 5, 6, 7, 9, 10, 11, 12, 128, 128, 128, 128, 128, 128, 13, 14,
+                    ],
+                },
+            },
+            back: Window {
+                low: [0; 16],
+                high: [255; 16],
+                taken: Moves { lanes: [128; 16] },
+            },
+            back_at: 0,
+        },
+        length: 15,
+        has_tail: true,
+        year: 0,
+        month_is_named: false,
+        month: 0,
+    }
+}
+
+// The second since 1970 of the moment of fields, and its nanosecond.
+fn instant(fields: Option<Fields>) -> Option<(i64, u32)> {
+    let moment = fields?.moment();
+    Some((moment.unix_timestamp(), moment.nanosecond()))
+}
+
+// 2021-01-02T02:04:05.5Z.
+const HALF: Option<(i64, u32)> = Some((1_609_553_045, 500_000_000));
+
+#[test]
+fn parts_at_once(rt: HostRuntime) {
+    let plain = read_moment(&basic(), false, b"20210102T030405.5+0100");
+    let small = read_small_moment(&basic(), b"20210102T020405.5z");
+    let long = read_long_moment(&basic(), true, b"20210102T030405.50000000099+01:00");
+    assert!(rt; [instant(plain), instant(small), instant(long)] == [HALF; 3]);
+    assert!(rt; instant(read_moment(&basic(), true, b"20210132T030405Z")) == None);
 }

@@ -11,6 +11,6 @@ returns c =
     let h = c.lanes_of-fits.ensures c.if-not-fits.false in
     let s = c.sums-day.ensures in
     let small : (k : ℕ) → get_or c.args.text.now k 0 < 256 = λ k. (omega (arith, c.type_inv.text k)) in
-    let ok = has_fraction shape c.args.tail.now c.args.text.now c.lanes_of-fits.result.1 c.lanes_of-fits.result.2 h small c.requires.last in
+    let ok = has_fraction c.args.tail.now c.args.text.now (omega (arith, c.requires.room)) h.lies small c.requires.last in
     let nine = c.first_nine-first.ensures in
     sums_read shape c.args.tail.now c.args.text.now c.lanes_of-fits.result.1 c.lanes_of-fits.result.2 c.paired.result h c.paired.ensures small ok _ _ _ _ _ _ s.first s.second s.third s.fourth nine.long nine.small nine.first nine.last (c.requires.bytes ok)

@@ -1,5 +1,6 @@
 use Rattle.std.proofs.Common.{arith}
-use Rattle.parsing_places.proofs.ReadLemmas.{Seen, digit_taken, none_taken, window_lies, raw_taken}
+use Rattle.parsing_places.proofs.ReadLemmas.{Seen}
+use Rattle.parsing_places.proofs.WholeLemmas.{have_digits}
 use Rattle.parsing_places.proofs.stamp.digits_of.Goals as goal
 
 pub returns : goal.returns
@@ -20,10 +21,4 @@ returns c = λ e.
       taken = c.of-2.ensures.taken;
       none = c.of-2.ensures.none;
     } in
-    record {
-      prefix_lies = window_lies _ _ _ _ _ prefix;
-      back_lies = window_lies _ _ _ _ _ back;
-      taken = λ lane place most lt few takes. digit_taken _ _ _ _ _ _ _ _ c.joined-digits.result lane place most prefix back c.joined-digits.ensures lt few takes;
-      none = λ lane lt free. none_taken _ _ _ (c.joined-digits.ensures lane lt) (c.of.ensures.none lane lt free.prefix_free) (c.of-2.ensures.none lane lt free.back_free);
-      raw = λ lane place lt free inside is. raw_taken _ _ _ _ _ _ c.joined-digits.result lane place (c.joined-digits.ensures lane lt) (c.of.ensures.none lane lt free) back lt inside is;
-    }
+    have_digits _ _ _ _ _ _ _ _ c.joined-digits.result prefix back c.joined-digits.ensures

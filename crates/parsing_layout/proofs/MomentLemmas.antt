@@ -1,0 +1,172 @@
+-- A text that two windows and one over its end take says a layout, a fraction and a zone, and fields are those of its sums.
+use Rattle.std.proofs.Common.{◌≡◌, ◌≤◌, ◌<◌, ◌+◌, ◌-◌, ◌*◌, ◌%◌, ◌∙◌, ◌&&◌, ◌==◌, ℕ, Bool, true, false, List, [], ◌++◌, get_or, length, drop, refl, sym, arith, lit<, lit≤, inl, inr}
+use Rattle.std.specs.Prelude.{◌⊎◌, nat_eq}
+use Rattle.std.proofs.lemmas.Bool.{cases_lt}
+use Rattle.std.proofs.lemmas.Bool.Decides.{nat_tests}
+use Rattle.std.proofs.lemmas.List.{drop_all}
+use Rattle.base.specs.Bytes.{dot, hyphen}
+use Rattle.parsing_fields.specs.Written.{WriteFraction}
+use Rattle.parsing_fields.specs.declared.fields.Fields.{Fields}
+use Rattle.parsing_places.specs.Windows.{SpareTwo}
+use Rattle.parsing_places.specs.declared.lanes.Moves.{Moves}
+use Rattle.parsing_places.specs.declared.shape.Window.{Window}
+use Rattle.parsing_places.proofs.ReadLemmas.{or_zero, zero_or}
+use Rattle.parsing_layout.specs.Layout.{Part, Values, length_of}
+use Rattle.parsing_layout.specs.Moment.{AreTaken, AreInRange, AreOfSums, HasOffset, SaysTailed}
+use Rattle.parsing_layout.specs.Shape.{fits, of_clock, own, lane_values}
+use Rattle.parsing_layout.specs.Tail.{FitsEnd, SparesOffset, IsEnd, fraction_parts}
+use Rattle.parsing_layout.specs.Windows.{spares_two, is_bounded, is_offset_bounded}
+use Rattle.parsing_layout.specs.declared.shape.Shape.{Shape}
+use Rattle.parsing_layout.proofs.LayoutLemmas.{says_both}
+use Rattle.parsing_layout.proofs.TakenLemmas.{lanes_say, bounded}
+use Rattle.parsing_layout.proofs.TailLemmas.{fraction_says, none_written, end_says, end_few, end_none}
+use Rattle.parsing_layout.proofs.WindowLemmas.{both, spare_two, year_pairs}
+
+-- what is known of the lanes that a shape bounds, where a tail has the offset
+record AreBounded (s : Shape) : Type 0 where
+  month : is_bounded s.windows 0 5 ≡ true
+  day : is_bounded s.windows 2 9 ≡ true
+  minute : is_bounded s.windows 6 5 ≡ true
+  second : is_bounded s.windows 14 5 ≡ true
+  offset_hour : SpareTwo s.windows 8
+  offset_minute : SpareTwo s.windows 10
+  sign : SpareTwo s.windows 12
+
+are_there : (s : Shape) → s.has_tail ≡ true → AreBounded s
+are_there s tail =
+    let w = s.windows in
+    let a = both (is_bounded w 0 5) (is_bounded w 2 9 && (is_bounded w 6 5 && (is_bounded w 14 5 && is_offset_bounded w s.has_tail))) s.bounded in
+    let day = both (is_bounded w 2 9) (is_bounded w 6 5 && (is_bounded w 14 5 && is_offset_bounded w s.has_tail)) a.1 in
+    let b = both (is_bounded w 6 5) (is_bounded w 14 5 && is_offset_bounded w s.has_tail) day.1 in
+    let c = both (is_bounded w 14 5) (is_offset_bounded w s.has_tail) b.1 in
+    let d = both (spares_two w 8) (spares_two w 10 && spares_two w 12) (rw tail at c.1) in
+    let e = both (spares_two w 10) (spares_two w 12) d.1 in
+    record { month = a.0; day = day.0; minute = b.0; second = c.0; offset_hour = spare_two w 8 d.0; offset_minute = spare_two w 10 e.0; sign = spare_two w 12 e.1 }
+
+spare_of : (s : Shape) → AreBounded s → (j : ℕ) → 4 ≤ j → j ≤ 6 → SpareTwo s.windows (2 * j)
+spare_of s b j low high = elim (cases_lt j 5) [
+  | inl lt ↦ let is : j ≡ 4 = omega (arith, lt, low) in rw is b.offset_hour
+  | inr ge ↦ elim (cases_lt j 6) [
+    | inl lt ↦ let is : j ≡ 5 = omega (arith, lt, ge) in rw is b.offset_minute
+    | inr ge2 ↦ let is : j ≡ 6 = omega (arith, high, ge2) in rw is b.sign
+  ]
+]
+
+clock_lanes : (j : ℕ) → of_clock j ≡ true → (j < 4) ⊎ (j ≡ 7)
+clock_lanes j e = elim (cases_lt j 4) [ inl lt ↦ inl lt | inr le ↦ inr (grind (arith, nat_tests)) ]
+
+same_sign : (t n : ℕ) → t % 4 ≡ n → n ≤ 2 → n % 2 ≡ 0 → nat_eq (t % 4) 2 ≡ (n + 43 == hyphen)
+same_sign t n is few even = elim (cases_lt n 1) [
+  | inl lt ↦ let zero : n ≡ 0 = omega arith in rw (is, zero) refl
+  | inr ge ↦ let two : n ≡ 2 = omega (arith, ge, few, even) in rw (is, two) refl
+]
+
+module _ (s : Shape) (w : Window) (moves : Moves) (text digits : List ℕ) (d m o t : ℕ) (tail : s.has_tail ≡ true) (is_end : IsEnd w)
+    (x : AreTaken s w moves text d m o t digits) (small : (k : ℕ) → get_or text k 0 < 256) where
+  first_lane : (k : ℕ) → k < 16 → 128 ≤ get_or w.taken.lanes k 0 → get_or x.both k 0 ≡ get_or x.front k 0
+  first_lane k lt free = x.joined k lt ∙ rw (x.end_taken.none k lt free) (or_zero (get_or x.front k 0))
+
+  clock_lane : (j : ℕ) → j < 8 → (j < 4) ⊎ (j ≡ 7) → (get_or x.both (2 * j) 0 ≡ get_or x.front (2 * j) 0) × (get_or x.both (2 * j + 1) 0 ≡ get_or x.front (2 * j + 1) 0)
+  clock_lane j lt (inl low) = (first_lane (2 * j) (omega arith) (is_end.no_clock (2 * j) (omega arith)), first_lane (2 * j + 1) (omega arith) (is_end.no_clock (2 * j + 1) (omega arith)))
+  clock_lane j lt (inr is) = rw is (first_lane 14 (lit< tt) is_end.no_tens, first_lane 15 (lit< tt) is_end.no_ones)
+
+  own_lane : (j : ℕ) → j < 8 → own s.has_tail j ≡ true → (get_or x.both (2 * j) 0 ≡ get_or x.front (2 * j) 0) × (get_or x.both (2 * j + 1) 0 ≡ get_or x.front (2 * j + 1) 0)
+  own_lane j lt mine = clock_lane j lt (clock_lanes j (rw tail at mine))
+
+  second_lane : (k : ℕ) → k < 16 → get_or x.front k 0 ≡ 0 → get_or x.both k 0 ≡ get_or x.end k 0
+  second_lane k lt zero = x.joined k lt ∙ rw zero (zero_or (get_or x.end k 0))
+
+  end_lane : (j : ℕ) → 4 ≤ j → j ≤ 6 → (get_or x.both (2 * j) 0 ≡ get_or x.end (2 * j) 0) × (get_or x.both (2 * j + 1) 0 ≡ get_or x.end (2 * j + 1) 0)
+  end_lane j low high =
+      let free = spare_of s (are_there s tail) j low high in (
+        second_lane (2 * j) (omega (arith, high)) (x.front_taken.none (2 * j) (omega (arith, high)) (record { prefix_free = free.first_prefix; back_free = free.first_back })),
+        second_lane (2 * j + 1) (omega (arith, high)) (x.front_taken.none (2 * j + 1) (omega (arith, high)) (record { prefix_free = free.second_prefix; back_free = free.second_back })),
+      )
+
+  -- the bounds of numbers, and so of sums
+  pub record AreFew : Type 0 where
+    month : get_or x.n 0 0 ≤ 59
+    day : get_or x.n 2 0 ≤ 99
+    minute : get_or x.n 6 0 ≤ 59
+    second : get_or x.n 14 0 ≤ 59
+    offset_hour : get_or x.n 8 0 ≤ 19
+    offset_minute : get_or x.n 10 0 ≤ 59
+    sign : get_or x.n 12 0 ≤ 2
+
+  are_few : AreFew
+  are_few =
+      let b = are_there s tail in
+      let clock = λ (j most : ℕ) (lt : j < 8) (few : most ≤ 9) (is : of_clock j ≡ true) (e : is_bounded s.windows (2 * j) most ≡ true). bounded s text x.front x.both x.n x.front_taken own_lane x.paired j most lt few (rw tail is) e in
+      let ends = end_few w text (length text) x.end x.both x.n x.end_taken end_lane x.paired small is_end in
+      record {
+        month = clock 0 5 (lit< tt) (lit≤ tt) refl b.month;
+        day = clock 1 9 (lit< tt) (lit≤ tt) refl b.day;
+        minute = clock 3 5 (lit< tt) (lit≤ tt) refl b.minute;
+        second = clock 7 5 (lit< tt) (lit≤ tt) refl b.second;
+        offset_hour = ends.0;
+        offset_minute = ends.1;
+        sign = ends.2;
+      }
+
+  pub in_range : s.length ≤ length text → AreInRange text s.year d o t
+  in_range long =
+      let f = are_few in
+      let year = year_pairs s.windows text x.front s.length s.year x.front_taken small s.year_is long in
+      record {
+        century = year.0;
+        last_two = year.1;
+        days_few = omega (arith, x.days_are, f.month, f.day);
+        offsets_few = omega (arith, x.offsets_are, f.offset_hour, f.offset_minute);
+        seconds_few = omega (arith, x.seconds_are, f.sign, f.second);
+      }
+
+  module _ (nanosecond bytes : ℕ) (f : Fields) (front zone : List Part) (y : AreOfSums f text s.year d m o t nanosecond) (numbered : s.month_is_named ≡ false)
+      (fits_front : fits s front ≡ true) (fits_end : FitsEnd w zone) (sixteen : 16 ≤ length text) (all : s.length + bytes + length_of zone ≡ length text)
+      (point : 0 < bytes → get_or text s.length 0 ≡ dot) (written : WriteFraction (drop (length text - length_of zone - (bytes - 1)) text) (bytes - 1) nanosecond) (bound : nanosecond < 1_000_000_000) where
+    abbrev pub values : Values
+    values = lane_values f.year (get_or x.n 0 0) nanosecond x.n
+
+    pub offset_said : (is_utc : Bool) → (is_utc ≡ true → SparesOffset w) → HasOffset is_utc values f.offset
+    offset_said true utc =
+        let none = end_none w text (length text) x.end x.both x.n x.end_taken end_lane x.paired small (utc refl) in
+        let plain : nat_eq (t % 4) 2 ≡ false = let zero : t % 4 ≡ 0 = omega (arith, x.seconds_are, none) in rw zero refl in
+        rw plain at (y.value 0 0 (omega (arith, x.offsets_are, none)) (lit≤ tt) (lit≤ tt))
+    offset_said false utc =
+        let few = are_few in
+        let sign : t % 4 ≡ get_or x.n 12 0 = omega (arith, x.seconds_are, few.sign) in
+        let same = same_sign t (get_or x.n 12 0) sign few.sign (omega (arith, x.seconds_are, y.even)) in
+        (omega (arith, few.offset_hour), rw same at (y.value (get_or x.n 8 0) (get_or x.n 10 0) x.offsets_are (omega (arith, few.offset_hour)) few.offset_minute))
+
+    -- the central lemma of texts with a tail
+    pub tail_said : (is_utc : Bool) → (bytes ≡ 1 → ⊥) → (is_utc ≡ true → SparesOffset w) → SaysTailed front is_utc zone text f
+    tail_said is_utc more utc =
+        let few = are_few in
+        let even : get_or x.n 12 0 % 2 ≡ 0 = omega (arith, x.seconds_are, y.even) in
+        let end = length text - length_of zone in
+        let nothing : drop (length text) text ≡ [] = drop_all (length text) text (omega arith) in
+        let first = lanes_say s text x.front x.both x.n f.year (get_or x.n 0 0) nanosecond x.front_taken own_lane x.paired small (omega (arith, all)) y.year_is (λ e. refl) (λ e. absurd (let bad : true ≡ false = sym e ∙ numbered in cc)) even front fits_front in
+        let second = fraction_says text s.length end bytes nanosecond values refl (omega (arith, all)) (λ some. (omega (arith, all, some))) point written in
+        let third = rw nothing at (end_says w text (length text) x.end x.both x.n f.year (get_or x.n 0 0) nanosecond x.end_taken end_lane x.paired small sixteen (omega arith) even zone fits_end) in
+        let h = y.numbers in
+        record {
+          bytes = bytes;
+          more = more;
+          moment = record {
+            values = values;
+            says = says_both front (fraction_parts bytes ++ zone) text (drop s.length text) [] values first (says_both (fraction_parts bytes) zone (drop s.length text) (drop end text) [] values second third);
+            numbers = record {
+              same_year = h.same_year;
+              same_month = h.same_month ∙ (omega (arith, x.days_are, few.month));
+              same_day = h.same_day ∙ (omega (arith, x.days_are, few.month));
+              same_minute = omega (arith, h.same_minute, x.minutes_are);
+              same_second = h.same_second ∙ (omega (arith, x.seconds_are, few.sign));
+              same_fraction = h.same_fraction;
+              same_offset = refl;
+            };
+            hour_few = omega (arith, x.minutes_are, h.same_minute, f.within_a_day);
+            minute_few = few.minute;
+            fraction_few = bound;
+            offset_is = offset_said is_utc utc;
+          };
+          none = λ e. none_written _ (bytes - 1) nanosecond (omega (arith, e)) written;
+        }

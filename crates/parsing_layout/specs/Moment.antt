@@ -1,0 +1,70 @@
+-- What lanes take of a whole text, and the moment that it says.
+use Rattle.std.specs.Prelude.{◌≡◌, ◌≤◌, ◌<◌, ◌==◌, nat_eq, Ok, ℤ, pos, ◌*ℤ◌, ◌+◌, ◌*◌, ◌/◌, ◌%◌, ℕ, Bool, true, false, List, [], ◌++◌, get_or, length, drop, Some, bit_or}
+use Rattle.base.specs.Bytes.{hyphen}
+use Rattle.parsing_combinator.specs.Pieces.{digits}
+use Rattle.parsing_combinator.specs.Places.{HasPair}
+use Rattle.parsing_fields.specs.Numbers.{HaveNumbers}
+use Rattle.parsing_fields.specs.declared.fields.Fields.{Fields}
+use Rattle.parsing_places.specs.Last.{HaveEnd}
+use Rattle.parsing_places.specs.Shape.{with_moves}
+use Rattle.parsing_places.specs.Windows.{Taken}
+use Rattle.parsing_places.specs.declared.lanes.Moves.{Moves}
+use Rattle.parsing_places.specs.declared.shape.Window.{Window}
+use Rattle.parsing_values.specs.Resolution.{signed_offset_of}
+use Rattle.parsing_layout.specs.Layout.{Part, Values, Says}
+use Rattle.parsing_layout.specs.Tail.{fraction_parts}
+use Rattle.parsing_layout.specs.declared.parts.Field.TheVariants as field
+use Rattle.parsing_layout.specs.declared.shape.Shape.{Shape}
+
+-- four sums of the numbers n that lanes take of a text, and the digits that others take of its end
+pub record AreTaken (s : Shape) (last : Window) (moves : Moves) (text : List ℕ) (days minutes offsets seconds : ℕ) (fraction : List ℕ) : Type 0 where
+  pub front : List ℕ
+  pub end : List ℕ
+  pub both : List ℕ
+  pub n : List ℕ
+  pub front_taken : Taken s.windows text front
+  pub end_taken : HaveEnd last text (length text) end
+  pub fraction_taken : HaveEnd (with_moves last moves) text (length text) fraction
+  pub joined : (k : ℕ) → k < 16 → get_or both k 0 ≡ bit_or (get_or front k 0) (get_or end k 0)
+  pub paired : (j : ℕ) → j < 8 → get_or both (2 * j) 0 ≤ 9 → get_or both (2 * j + 1) 0 ≤ 9 → get_or n (2 * j) 0 ≡ get_or both (2 * j) 0 * 10 + get_or both (2 * j + 1) 0
+  pub days_are : days ≡ get_or n 0 0 + 64 * get_or n 2 0
+  pub minutes_are : minutes ≡ 60 * get_or n 4 0 + get_or n 6 0
+  pub offsets_are : offsets ≡ 60 * get_or n 8 0 + get_or n 10 0
+  pub seconds_are : seconds ≡ get_or n 12 0 + 64 * get_or n 14 0
+
+-- the digits of a year stand at a place, and sums are within what lanes give
+pub record AreInRange (text : List ℕ) (year days offsets seconds : ℕ) : Type 0 where
+  pub century : HasPair text year
+  pub last_two : HasPair text (year + 2)
+  pub days_few : days < 16_384
+  pub offsets_few : offsets < 1440
+  pub seconds_few : seconds < 3840
+
+-- fields are those of four sums, of the year at a place, and of a fraction
+pub record AreOfSums (f : Fields) (text : List ℕ) (year days minutes offsets seconds nanosecond : ℕ) : Type 0 where
+  pub year_is : digits 4 (drop year text) ≡ Some (f.year, drop (year + 4) text)
+  pub numbers : HaveNumbers f f.year (days % 64) (days / 64) minutes (seconds / 64) nanosecond f.offset
+  pub even : seconds % 2 ≡ 0
+  pub value : (hour minute : ℕ) → offsets ≡ 60 * hour + minute → hour ≤ 23 → minute ≤ 59 → signed_offset_of (nat_eq (seconds % 4) 2) hour minute ≡ Ok (pos 60 *ℤ f.offset)
+
+-- the minutes of an offset, which are none in UTC
+abbrev pub HasOffset : Bool → Values → ℤ → Type 0
+HasOffset true v o = signed_offset_of false 0 0 ≡ Ok (pos 60 *ℤ o)
+HasOffset false v o = (v field.OffsetHour ≤ 23) × (signed_offset_of (v field.Sign == hyphen) (v field.OffsetHour) (v field.OffsetMinute) ≡ Ok (pos 60 *ℤ o))
+
+-- fields are those of a text that says a layout
+pub record SaysMoment (is_utc : Bool) (parts : List Part) (text : List ℕ) (f : Fields) : Type 0 where
+  pub values : Values
+  pub says : Says parts text values []
+  pub numbers : HaveNumbers f (values field.Year) (values field.Month) (values field.Day) (values field.Hour * 60 + values field.Minute) (values field.Second) (values field.Nanosecond) f.offset
+  pub hour_few : values field.Hour ≤ 23
+  pub minute_few : values field.Minute ≤ 59
+  pub fraction_few : values field.Nanosecond < 1_000_000_000
+  pub offset_is : HasOffset is_utc values f.offset
+
+-- after the layout there is a point with digits, or none of them, and then a zone
+pub record SaysTailed (front : List Part) (is_utc : Bool) (zone : List Part) (text : List ℕ) (f : Fields) : Type 0 where
+  pub bytes : ℕ
+  pub more : bytes ≡ 1 → ⊥
+  pub moment : SaysMoment is_utc (front ++ (fraction_parts bytes ++ zone)) text f
+  pub none : bytes ≡ 0 → moment.values field.Nanosecond ≡ 0

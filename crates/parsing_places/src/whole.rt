@@ -1,0 +1,44 @@
+//! What lanes take of a whole text.
+ghost use Rattle.std.specs.Prelude.{◌≡◌, ◌≤◌, ◌+◌, length, true};
+ghost use Rattle.parsing_places.specs.Digits.{HaveDigits};
+ghost use Rattle.parsing_places.specs.Last.{HaveEnd};
+ghost use Rattle.parsing_places.specs.Shape.{with_moves};
+
+use crate::lanes::{LANES, Moves, all_above, are_at_most, joined, sixteen_from};
+use crate::shape::Window;
+use std::simd::prelude::*;
+
+/// Whether a text lies within two windows over its start and one over its end; the digits that lanes take of the first two, and
+/// what they take of the last one; and the digits of a fraction that other lanes take of that.
+#[inline(always)]
+pub fn digits_of_whole(
+    prefix: &Window,
+    back: &Window,
+    back_at: usize,
+    last: &Window,
+    fraction: &Moves,
+    text: &[u8],
+) -> (bool, u8x16, u8x16, u8x16)
+    requires { back_at + LANES ≤ length text.now }
+    ensures front { result.0 ≡ true → HaveDigits prefix.now back.now back_at text.now result.1 }
+    ensures last { result.0 ≡ true → HaveEnd last.now text.now (length text.now) result.2 }
+    ensures fraction { result.0 ≡ true → HaveEnd (with_moves last.now fraction.now) text.now
+        (length text.now) result.3 }
+{
+    let first = all_above(sixteen_from(text, 0), u8x16::from_array(prefix.low));
+    let second = all_above(sixteen_from(text, back_at), u8x16::from_array(back.low));
+    let third = all_above(
+        sixteen_from(text, text.len() - LANES),
+        u8x16::from_array(last.low),
+    );
+    let fits = are_at_most(
+        first,
+        u8x16::from_array(prefix.high),
+        second,
+        u8x16::from_array(back.high),
+        third,
+        u8x16::from_array(last.high),
+    );
+    let digits = joined(prefix.taken.of(first), back.taken.of(second));
+    (fits, digits, last.taken.of(third), fraction.of(third))
+}
