@@ -128,8 +128,8 @@ pub fn run_words<'a, R: ByteReader, W: ByteWriter>(
     ensures before { IfErr result (λ fault.
         IsBeforeRun fault → (reader.new ≡ reader.old) × (writer.new ≡ writer.old)) }
     // After a read that failed nothing is held back.
-    ensures handed_on { result ≡ Err (LinesFault.Program (ProgramFault.Run RunFault.Read))
-        → W.failed writer.new ≡ false → Keeps (W.held writer.new) (W.handed_on writer.new) }
+    ensures handed_on { IfSome (run_of result) (λ ended. ended ≡ Err RunFault.Read
+        → W.failed writer.new ≡ false → Keeps (W.held writer.new) (W.handed_on writer.new)) }
 {
     let (asked, filled) = read_mode_words(alloc, words)?;
     let (timeline, limit) = asked_timeline(alloc, filled.as_slice())?;

@@ -92,8 +92,8 @@ pub fn run_words<'a, R: ByteReader, W: ByteWriter>(
     ensures memory { IfErr result (λ fault.
         IsMemory fault → IsOk (words_said (map (λ word. word.now) words.now))) }
     // After a read that failed nothing is held back.
-    ensures handed_on { result ≡ Err (ProgramFault.Run RunFault.Read)
-        → W.failed writer.new ≡ false → Keeps (W.held writer.new) (W.handed_on writer.new) }
+    ensures handed_on { IfSome (run_of result) (λ ended. ended ≡ Err RunFault.Read
+        → W.failed writer.new ≡ false → Keeps (W.held writer.new) (W.handed_on writer.new)) }
 {
     let (timeline, limit) = asked_timeline(alloc, words)?;
     run_program(&timeline, alloc, limit, reader, writer)?;
@@ -140,8 +140,8 @@ pub fn run_program<P: RunsLines, R: ByteReader, W: ByteWriter>(
     ensures memory { result ≡ Err RunsFault.Memory
         → (reader.new ≡ reader.old) × (writer.new ≡ writer.old) }
     // After a read that failed nothing is held back.
-    ensures handed_on { result ≡ Err (RunsFault.Run RunFault.Read)
-        → W.failed writer.new ≡ false → Keeps (W.held writer.new) (W.handed_on writer.new) }
+    ensures handed_on { IfSome (ended_of result) (λ ended. ended ≡ Err RunFault.Read
+        → W.failed writer.new ≡ false → Keeps (W.held writer.new) (W.handed_on writer.new)) }
 {
     let mut buffer = vec![in alloc; 0; limit + BLOCK]?;
     run_and_flush(program, limit, buffer.as_mut_slice(), reader, writer)?;

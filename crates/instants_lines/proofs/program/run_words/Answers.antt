@@ -1,7 +1,9 @@
-use Rattle.std.proofs.Common.{◌≡◌, Result, None, Some, Ok, map, sym, ap, ◌∙◌, rules}
+use Rattle.std.proofs.Common.{◌≡◌, false, Result, None, Some, Ok, Err, map, sym, ap, ◌∙◌, rules}
+use Rattle.std.specs.Io.KnownBytes.{Keeps}
 use Rattle.std.proofs.lemmas.Result.{err_from_is_err_and}
 use Rattle.instants_stream.specs.Ran.{IsThrough, RanAndFlushed}
 use Rattle.instants_stream.specs.declared.run.RunFault.{RunFault}
+use Rattle.instants_stream.specs.declared.run.RunFault.TheVariants.{Read}
 use Rattle.instants_words.specs.Words.{words_said}
 use Rattle.instants_timeline.specs.Settings.{setting_of}
 use Rattle.instants_lines_words.specs.Asked.{asking_of}
@@ -47,6 +49,12 @@ returns-in_err-run_program-clause-ran g c =
       written_so (asking_of c.in_ok-asked.asked) (setting_of c.in_ok-timeline.timeline) c.in_ok-timeline.limit
           (λ w. RanAndFlushed w g.R.ByteReader c.args.reader.now c.run_program.new.reader g.W.ByteWriter c.args.writer.now c.run_program.new.writer ended) _ (searched g at) ran,
     )) _ c.in_err-run_program.ensures.ran)
+
+pub returns-in_err-run_program-clause-handed_on : goal.returns-in_err-run_program-clause-handed_on
+returns-in_err-run_program-clause-handed_on g c =
+    let p = err_from_is_err_and c.from_residual-in_err-run_program.result c.from_residual-in_err-run_program.ensures.1 in
+    let P : Result (Unit {0}) RunFault → Type 0 = λ ended. ended ≡ Err Read → g.W.ByteWriter.failed c.run_program.new.writer ≡ false → Keeps (g.W.ByteWriter.held c.run_program.new.writer) (g.W.ByteWriter.handed_on c.run_program.new.writer) in
+    rw (p.1, p.2) (ended_so P P (λ ended kept. kept) _ c.in_err-run_program.ensures.handed_on)
 
 pub returns-in_err-run_program-clause-names : goal.returns-in_err-run_program-clause-names
 returns-in_err-run_program-clause-names g c =
