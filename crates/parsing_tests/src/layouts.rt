@@ -1,5 +1,6 @@
 //! Layouts: lists of parts, and what is read by them.
 
+use datetime_types::WallClock;
 use parsing_fields::Fields;
 use parsing_layout::{
     Field, Found, Names, Part, Shape, read, read_long_moment, read_moment, read_small_moment,
