@@ -1,2 +1,4 @@
 pub mod Found
 pub mod Layout
+pub mod Stretch
+pub mod Bounds
