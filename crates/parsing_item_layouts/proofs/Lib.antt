@@ -1,0 +1,4 @@
+mod FormLemmas
+mod FrontLemmas
+mod Ruled
+pub mod WalkLemmas
