@@ -1,6 +1,7 @@
 -- One byte of a text more before what follows it; and what no line can begin with is refused.
 use Rattle.std.proofs.Common.{◌≡◌, ◌<◌, ◌≤◌, ◌+◌, ◌-◌, ◌∙◌, ◌==◌, ◌&&◌, ℕ, zero, suc, Bool, true, false, not, List, [], ◌∷◌, ◌++◌, length, get_or, drop, replicate, None, Ok, Err, refl, sym, ap, arith}
-use Rattle.std.specs.Prelude.{IfOk}
+use Rattle.parsing_layout.proofs.BoundsLemmas.{set_each}
+use Rattle.std.specs.Prelude.{set, IfOk}
 use Rattle.std.specs.Result.{result_ok}
 use Rattle.std.proofs.lemmas.Bool.Decides.{nat_tests}
 use Rattle.std.proofs.lemmas.List.{drop_more, get_or-drop}
@@ -77,6 +78,10 @@ pub all_true : (n b : ℕ) → get_or (replicate n true) b true ≡ true
 all_true zero b = refl
 all_true (suc n) zero = refl
 all_true (suc n) (suc b) = all_true n b
+
+-- what holds of each byte that is not in a set, where one is added or left out
+pub set_one : (P : ℕ → Type 0) (bytes : List Bool) (i : ℕ) (v : Bool) → ((b : ℕ) → get_or bytes b true ≡ false → P b) → (v ≡ false → P i) → (b : ℕ) → get_or (set bytes i v) b true ≡ false → P b
+set_one P bytes i v h k = set_each (λ b in_it. in_it ≡ false → P b) bytes i v true h k
 
 -- a byte that stands at its place of a stretch is one of those of the place
 pub stands_there : (s : Stretch) (bytes : List Bool) (line rest : List ℕ) (place : ℕ) → ((byte : ℕ) → get_or bytes byte true ≡ false → stands s.kind place byte ≡ false) → place < s.least → IsCut s line rest → get_or bytes (get_or line place 0) true ≡ true

@@ -1,4 +1,4 @@
 mod FormLemmas
-mod FrontLemmas
+pub mod FrontLemmas
 mod Ruled
 pub mod WalkLemmas
