@@ -6,3 +6,6 @@ pub mod TailLemmas
 pub mod TailedLemmas
 pub mod TakenLemmas
 pub mod WindowLemmas
+pub mod ShapeLemmas
+pub mod StretchLemmas
+pub mod BoundsLemmas

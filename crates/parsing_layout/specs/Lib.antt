@@ -4,3 +4,5 @@ pub mod Moment
 pub mod Shape
 pub mod Tail
 pub mod Windows
+pub mod Stretch
+pub mod Bounds

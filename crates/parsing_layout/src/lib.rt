@@ -6,15 +6,19 @@
 //! of a text mean.
 #![tactic(auto)]
 
+mod bounds;
 mod found;
 mod interpreter;
 mod moment;
 mod parts;
 mod pieces;
 mod shape;
+mod stretch;
 
+pub use bounds::Bounds;
 pub use found::Found;
 pub use interpreter::read;
 pub use moment::{read_long_moment, read_moment, read_small_moment};
 pub use parts::{Field, Names, Part};
 pub use shape::Shape;
+pub use stretch::{Kind, Stretch};

@@ -1,0 +1,4 @@
+pub mod FirstBounds
+pub mod FirstBytes
+pub mod Forms
+pub mod Fronts

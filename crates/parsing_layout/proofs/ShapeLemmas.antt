@@ -1,0 +1,241 @@
+-- What the texts of shapes begin with, and so what is taken of them.
+use Rattle.std.proofs.Common.{◌≡◌, ◌≤◌, ◌<◌, ◌∙◌, ◌&&◌, ◌||◌, ◌==◌, ◌-◌, ◌+◌, ℕ, zero, suc, Bool, true, false, not, List, [], ◌∷◌, length, get_or, map, take, drop, Option, Some, None, refl, sym, ap, arith, inl, inr}
+use Rattle.std.specs.Prelude.{option_map, nat_lt, nat_le, nat_eq, IfSome, if◌then◌else◌}
+use Rattle.std.specs.Char.{is_ascii_digit, to_ascii_lowercase}
+use Rattle.std.specs.List.{list_all, list_any}
+use Rattle.std.proofs.lemmas.Bool.{cases_lt}
+use Rattle.std.proofs.lemmas.Bool.Decides.{nat_tests}
+use Rattle.std.proofs.lemmas.List.{get_or-take, get_or-drop, length-take-le, length-drop}
+use Rattle.std.proofs.lemmas.List.Folds.{list_all_at}
+use Rattle.std.proofs.lemmas.List.Sums.{prefix_len_passes, prefix_len-le-length}
+use Rattle.std.proofs.lemmas.Slice.Eq.{bytes_eq-Decides}
+use Rattle.parsing_combinator.specs.Pieces.{Piece}
+use Rattle.parsing_combinator.specs.Shape.{Shape, or_before, greatest, prefix, taken, is_space, space_count, are_digits, digits_as, spaced_between}
+use Rattle.parsing_combinator.specs.Names.{compared, is_name, named}
+use Rattle.parsing_layout.specs.Stretch.{Begins, Leaves, name_stands}
+
+-- ---- bytes that can stand at places
+
+abbrev pub Test : Type 0
+Test = ℕ → ℕ → Bool
+
+-- a text has so many at least, or exactly so many
+abbrev pub HasText : Test → ℕ → Bool → List ℕ → Type 0
+HasText test least whole text = Begins test least text × ((least ≤ length text) × (whole ≡ true → length text ≡ least))
+
+abbrev pub Holds : {A : Type 0} → Test → ℕ → Bool → Shape A → Type 0
+Holds test least whole shape = (text : List ℕ) → IfSome (shape text) (λ _. HasText test least whole text)
+
+abbrev pub Cuts : {A : Type 0} → Test → ℕ → Bool → Piece A → Type 0
+Cuts test least whole piece = (line : List ℕ) → IfSome (piece line) (λ x. Leaves test least whole line x.1)
+
+-- ---- what is taken of a shape begins as its texts
+
+or_each : {A : Type 0} (P : A → Type 0) (x before : Option A) → IfSome x P → IfSome before P → IfSome (or_before x before) P
+or_each P (Some x) before h k = h
+or_each P None before h k = k
+
+greatest_each : {A : Type 0} (P : A → Type 0) (f : ℕ → Option A) (n : ℕ) → ((k : ℕ) → k ≤ n → IfSome (f k) P) → IfSome (greatest f n) P
+greatest_each P f zero h = h 0 (omega arith)
+greatest_each P f (suc n) h = or_each P (f (suc n)) (greatest f n) (h (suc n) (omega arith)) (greatest_each P f n (λ k le. h k (omega (arith, le))))
+
+begins_line : (t : Test) (least k : ℕ) (line : List ℕ) → least ≤ k → Begins t least (take k line) → Begins t least line
+begins_line t least k line le h place lt = rw (get_or-take k line place 0 (omega (arith, lt, le))) at (h place lt)
+
+leaves : (t : Test) (least : ℕ) (w : Bool) (k : ℕ) (line : List ℕ) → k ≤ length line → HasText t least w (take k line) → Leaves t least w line (drop k line)
+leaves t least w k line le h =
+    let n = length-take-le k line le in
+    (begins_line t least k line (omega (arith, n, h.1.0)) h.0, λ e. let same : k ≡ least = omega (arith, n, h.1.1 e) in rw same refl)
+
+taken_at : {A : Type 0} (t : Test) (least : ℕ) (w : Bool) (k : ℕ) (line : List ℕ) (o : Option A) → k ≤ length line
+    → IfSome o (λ _. HasText t least w (take k line)) → IfSome {T = A × List ℕ} (option_map (λ x. (x, drop k line)) o) (λ x. Leaves t least w line x.1)
+taken_at t least w k line None le h = tt
+taken_at t least w k line (Some x) le h = leaves t least w k line le h
+
+pub taken_cuts : {A : Type 0} (t : Test) (least : ℕ) (w : Bool) (shape : Shape A) → Holds t least w shape → Cuts t least w (taken shape)
+unfolding taken
+taken_cuts t least w shape holds line = greatest_each (λ x. Leaves t least w line x.1) (prefix shape line) (length line) (λ k le. taken_at t least w k line (shape (take k line)) le (holds (take k line)))
+
+-- ---- numbers
+
+left : (a b : Bool) → (a && b) ≡ true → a ≡ true
+left true b e = refl
+left false b e = absurd cc
+
+right : (a b : Bool) → (a && b) ≡ true → b ≡ true
+right true b e = e
+right false b e = absurd cc
+
+all_at : (p : ℕ → Bool) (text : List ℕ) (place : ℕ) → list_all p text ≡ true → place < length text → p (get_or text place 0) ≡ true
+all_at p text place all lt = elim (p (get_or text place 0)) as (λ b. p (get_or text place 0) ≡ b → b ≡ true) [
+  | true ↦ λ t. refl
+  | false ↦ λ t. sym (list_all_at p text place 0 lt t) ∙ all
+] refl
+
+abbrev AreDigits : ℕ → ℕ → List ℕ → Type 0
+AreDigits n m text = (n ≤ length text) × ((length text ≤ m) × (list_all is_ascii_digit text ≡ true))
+
+digits_are : (n m : ℕ) (text : List ℕ) → are_digits n m text ≡ true → AreDigits n m text
+digits_are n m text e =
+    let both = left (nat_le n (length text) && nat_le (length text) m) (list_all is_ascii_digit text) e in
+    let low = left (nat_le n (length text)) (nat_le (length text) m) both in
+    let high = right (nat_le n (length text)) (nat_le (length text) m) both in
+    (grind (arith, nat_tests), (grind (arith, nat_tests), right (nat_le n (length text) && nat_le (length text) m) (list_all is_ascii_digit text) e))
+
+if_chosen : {A : Type 0} (b : Bool) (x : A) (P : A → Type 0) → (b ≡ true → P x) → IfSome (if b then Some x else None) P
+if_chosen true x P h = h refl
+if_chosen false x P h = tt
+
+-- n to m digits, of which so many are known
+pub digits_hold : {A : Type 0} (value : List ℕ → A) (n m least : ℕ) (whole : Bool) → least ≤ n → (whole ≡ true → (n ≡ least) × (m ≡ least)) → Holds (λ place c. is_ascii_digit c) least whole (digits_as value n m)
+unfolding digits_as
+digits_hold value n m least whole le exact text =
+    if_chosen (are_digits n m text) (value text) _ (λ e.
+    let d = digits_are n m text e in (
+      (λ place lt. all_at is_ascii_digit text place d.1.1 (omega (arith, lt, le, d.0))),
+      (omega (arith, le, d.0), λ w. omega (arith, d.0, d.1.0, (exact w).0, (exact w).1)),
+    ))
+
+or_right : (a b : Bool) → b ≡ true → (a || b) ≡ true
+or_right true b e = refl
+or_right false b e = e
+
+or_left : (a b : Bool) → a ≡ true → (a || b) ≡ true
+or_left true b e = refl
+or_left false b e = absurd cc
+
+-- after so many spaces stand the digits
+spaced_stands : (n m s : ℕ) (text : List ℕ) (place : ℕ) → s ≡ space_count text → AreDigits n m (drop s text) → place < length text → (is_ascii_digit (get_or text place 0) || is_space (get_or text place 0)) ≡ true
+spaced_stands n m s text place e d lt =
+    elim (cases_lt place s) [
+      | inl before ↦ or_right _ _ (prefix_len_passes is_space text place 0 (omega (arith, before, e)))
+      | inr after ↦
+          let at : s + (place - s) ≡ place = omega (arith, after) in
+          let digit = all_at is_ascii_digit (drop s text) (place - s) d.1.1 (omega (arith, length-drop s text, lt, after)) in
+          or_left _ _ (rw (get_or-drop s text (place - s) 0, at) at digit)
+    ]
+
+spaced_text : (n m least s : ℕ) (whole : Bool) (text : List ℕ) → s ≡ space_count text → least ≤ n → (whole ≡ true → (n ≡ least) × (m ≡ least)) → s < n → AreDigits (n - s) (m - s) (drop s text)
+    → HasText (λ place c. is_ascii_digit c || is_space c) least whole text
+spaced_text n m least s whole text e le exact lt d =
+    let cut = length-drop s text in
+    let within = prefix_len-le-length is_space text in (
+      (λ place small. spaced_stands (n - s) (m - s) s text place e d (omega (arith, small, le, lt, d.0, cut))),
+      (omega (arith, le, lt, d.0, cut), λ w. omega (arith, lt, d.0, d.1.0, cut, within, e, (exact w).0, (exact w).1)),
+    )
+
+if_both : {A : Type 0} (a b : Bool) (x : A) (P : A → Type 0) → (a ≡ true → b ≡ true → P x) → IfSome (if a then (if b then Some x else None) else None) P
+if_both true true x P h = h refl refl
+if_both true false x P h = tt
+if_both false b x P h = tt
+
+pub spaced_hold : (n m least : ℕ) (whole : Bool) → least ≤ n → (whole ≡ true → (n ≡ least) × (m ≡ least)) → Holds (λ place c. is_ascii_digit c || is_space c) least whole (spaced_between n m)
+unfolding spaced_between digits_as
+spaced_hold n m least whole le exact text =
+    let s = space_count text in
+    if_both (nat_lt s n) (are_digits (n - s) (m - s) (drop s text)) _ _ (λ few e.
+    spaced_text n m least s whole text refl le exact (grind (arith, nat_tests)) (digits_are (n - s) (m - s) (drop s text) e))
+
+-- ---- names
+
+-- a byte after the digits, in any case
+abbrev pub late : ℕ → Bool
+late c = nat_lt 57 c && nat_lt 57 (to_ascii_lowercase c)
+
+-- a name begins with one of these letters, has so many at least, or exactly so many, and no byte that is not late
+abbrev pub is_name_of : List ℕ → ℕ → Bool → List ℕ → Bool
+is_name_of initials least whole name =
+    list_any (λ initial. initial == to_ascii_lowercase (get_or name 0 0)) initials && (nat_le least (length name) && ((not whole || nat_eq (length name) least) && list_all late name))
+
+abbrev pub are_names_of : {A : Type 0} → List ℕ → ℕ → Bool → List (List ℕ × A) → Bool
+are_names_of initials least whole [] = true
+are_names_of initials least whole (entry ∷ entries) = is_name_of initials least whole entry.0 && are_names_of initials least whole entries
+
+late_kept : (c : ℕ) → nat_lt 57 (to_ascii_lowercase c) ≡ true → nat_lt 57 c ≡ true
+late_kept c e = grind (arith, nat_tests)
+
+get_mapped : (f : ℕ → ℕ) (xs : List ℕ) (place : ℕ) → place < length xs → get_or (map f xs) place 0 ≡ f (get_or xs place 0)
+get_mapped f [] place lt = absurd (omega (arith, lt))
+get_mapped f (x ∷ xs) zero lt = refl
+get_mapped f (x ∷ xs) (suc place) lt = get_mapped f xs place (omega (arith, lt))
+
+length_mapped : (f : ℕ → ℕ) (xs : List ℕ) → length (map f xs) ≡ length xs
+length_mapped f [] = refl
+length_mapped f (x ∷ xs) = ap suc (length_mapped f xs)
+
+same_length : (b : Bool) (name text : List ℕ) → compared b name ≡ compared b text → length name ≡ length text
+same_length true name text e = ap length e
+same_length false name text e = sym (length_mapped to_ascii_lowercase name) ∙ ap length e ∙ length_mapped to_ascii_lowercase text
+
+-- in small letters they are the same
+same_small : (b : Bool) (name text : List ℕ) (place : ℕ) → compared b name ≡ compared b text → place < length name → to_ascii_lowercase (get_or name place 0) ≡ to_ascii_lowercase (get_or text place 0)
+same_small true name text place e lt = ap (λ t. to_ascii_lowercase (get_or t place 0)) e
+same_small false name text place e lt =
+    let n = same_length false name text e in
+    sym (get_mapped to_ascii_lowercase name place lt) ∙ ap (λ t. get_or t place 0) e ∙ get_mapped to_ascii_lowercase text place (omega (arith, n, lt))
+
+late_at : (b : Bool) (name text : List ℕ) (place : ℕ) → compared b name ≡ compared b text → list_all late name ≡ true → place < length name → nat_lt 57 (get_or text place 0) ≡ true
+late_at b name text place e all lt =
+    let here = right (nat_lt 57 (get_or name place 0)) (nat_lt 57 (to_ascii_lowercase (get_or name place 0))) (all_at late name place all lt) in
+    late_kept (get_or text place 0) (ap (λ c. nat_lt 57 c) (sym (same_small b name text place e lt)) ∙ here)
+
+begins_at : (b : Bool) (initials name text : List ℕ) → compared b name ≡ compared b text → 0 < length name → list_any (λ initial. initial == to_ascii_lowercase (get_or name 0 0)) initials ≡ true
+    → list_any (λ initial. initial == to_ascii_lowercase (get_or text 0 0)) initials ≡ true
+begins_at b initials name text e lt first = ap (λ c. list_any (λ initial. initial == c) initials) (sym (same_small b name text 0 e lt)) ∙ first
+
+not_or : (a b : Bool) → (not a || b) ≡ true → a ≡ true → b ≡ true
+not_or true b e t = e
+not_or false b e t = absurd cc
+
+-- what is_name_of tells of a name
+record NameOf (initials : List ℕ) (least : ℕ) (whole : Bool) (name : List ℕ) : Type 0 where
+  first : list_any (λ initial. initial == to_ascii_lowercase (get_or name 0 0)) initials ≡ true
+  few : least ≤ length name
+  exact : whole ≡ true → length name ≡ least
+  all : list_all late name ≡ true
+
+exactly : (whole : Bool) (n least : ℕ) → (not whole || nat_eq n least) ≡ true → whole ≡ true → n ≡ least
+exactly whole n least e w = let q = not_or whole (nat_eq n least) e w in grind (arith, nat_tests)
+
+at_least : (n least : ℕ) → nat_le least n ≡ true → least ≤ n
+at_least n least e = grind (arith, nat_tests)
+
+name_of : (initials : List ℕ) (least : ℕ) (whole : Bool) (name : List ℕ) → is_name_of initials least whole name ≡ true → NameOf initials least whole name
+name_of initials least whole name good =
+    let first = list_any (λ initial. initial == to_ascii_lowercase (get_or name 0 0)) initials in
+    let exact = not whole || nat_eq (length name) least in
+    let after = right first (nat_le least (length name) && (exact && list_all late name)) good in
+    let last = right (nat_le least (length name)) (exact && list_all late name) after in
+    record {
+      first = left first (nat_le least (length name) && (exact && list_all late name)) good;
+      few = at_least (length name) least (left (nat_le least (length name)) (exact && list_all late name) after);
+      exact = exactly whole (length name) least (left exact (list_all late name) last);
+      all = right exact (list_all late name) last;
+    }
+
+not_first : (place : ℕ) → (suc place == 0) ≡ false
+not_first place = grind (arith, nat_tests)
+
+name_begins : (b : Bool) (initials : List ℕ) (least : ℕ) (whole : Bool) (name text : List ℕ) → NameOf initials least whole name → compared b name ≡ compared b text → Begins (name_stands initials) least text
+name_begins b initials least whole name text it e zero lt = begins_at b initials name text e (omega (arith, lt, it.few)) it.first
+name_begins b initials least whole name text it e (suc place) lt = rw (not_first place) (late_at b name text (suc place) e it.all (omega (arith, lt, it.few)))
+
+name_or_others : {A : Type 0} (b c : Bool) (initials : List ℕ) (least : ℕ) (whole : Bool) (name text : List ℕ) (x : A) (others : Option A) → is_name_of initials least whole name ≡ true → is_name b name text ≡ c
+    → IfSome others (λ _. HasText (name_stands initials) least whole text) → IfSome (if c then Some x else others) (λ _. HasText (name_stands initials) least whole text)
+name_or_others b true initials least whole name text x others good same h =
+    let it = name_of initials least whole name good in
+    let e = (bytes_eq-Decides (compared b name) (compared b text)).0 same in
+    let n = same_length b name text e in
+    (name_begins b initials least whole name text it e, (omega (arith, n, it.few), λ w. omega (arith, n, it.exact w)))
+name_or_others b false initials least whole name text x others good e h = h
+
+names_hold : {A : Type 0} (b : Bool) (initials : List ℕ) (least : ℕ) (whole : Bool) (entries : List (List ℕ × A)) → are_names_of initials least whole entries ≡ true → Holds (name_stands initials) least whole (named b entries)
+unfolding named
+names_hold b initials least whole [] good text = tt
+names_hold b initials least whole (entry ∷ entries) good text =
+    let own = left (is_name_of initials least whole entry.0) (are_names_of initials least whole entries) good in
+    let others = right (is_name_of initials least whole entry.0) (are_names_of initials least whole entries) good in
+    name_or_others b (is_name b entry.0 text) initials least whole entry.0 text entry.1 (named b entries text) own refl (names_hold b initials least whole entries others text)
+
+pub names_cut : {A : Type 0} (b : Bool) (initials : List ℕ) (least : ℕ) (whole : Bool) (entries : List (List ℕ × A)) → are_names_of initials least whole entries ≡ true → Cuts (name_stands initials) least whole (taken (named b entries))
+names_cut b initials least whole entries good = taken_cuts (name_stands initials) least whole (named b entries) (names_hold b initials least whole entries good)
