@@ -1,5 +1,7 @@
 //! What single components say, and what that sets in a record.
 
+ghost use Rattle.parsing_components.specs.Record.{IsWithin};
+
 use calendar::Month;
 use description::Component;
 use description::modifier::{
@@ -47,7 +49,9 @@ fn says(rt: HostRuntime) {
 }
 
 // No component was read.
-fn empty() -> Record {
+fn empty() -> Record
+    ensures { IsWithin result }
+{
     Record {
         year: None,
         year_century: None,

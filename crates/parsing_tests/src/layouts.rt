@@ -1,5 +1,8 @@
 //! Layouts: lists of parts, and what is read by them.
 
+ghost use Rattle.std.specs.Prelude.{◌≡◌, true, false};
+ghost use Rattle.parsing_layout.specs.Found.{AreDistinct};
+
 use datetime_types::WallClock;
 use parsing_fields::Fields;
 use parsing_layout::{
@@ -28,7 +31,9 @@ static CLOCK: [Part; 6] = [
 ];
 
 // The numbers of three fields, and how many bytes are left.
-fn numbers(parts: &[Part; 6], text: &[u8], fields: [Field; 3]) -> Option<([u64; 3], usize)> {
+fn numbers(parts: &[Part; 6], text: &[u8], fields: [Field; 3]) -> Option<([u64; 3], usize)>
+    requires { AreDistinct parts.now }
+{
     let mut found = Found::new();
     let rest = read(parts, text, &mut found)?;
     let [first, second, third] = fields;
@@ -46,7 +51,10 @@ fn parts_one_after_another(rt: HostRuntime) {
 }
 
 // `20210102T030405`.
-fn basic() -> Shape {
+fn basic() -> Shape
+    ensures tail { result.has_tail ≡ true }
+    ensures numbered { result.month_is_named ≡ false }
+{
     Shape {
         windows: Windows {
             prefix: Window {
