@@ -8,7 +8,7 @@
     tools/gate_times.py --check     says whether the pages are as docs/gate.json has them, with status 1 where they are not
 
 The pages are docs/GATE.md, and the minutes of the last run with `--anew` that was written, which stand in README.md, docs/CLAIMS.md and
-CONTRIBUTING.md between fixed words; `N` stands there until there was one.
+CONTRIBUTING.md; there it says that they are not measured until there was one.
 
 What a process takes is read from /proc while it runs, since the landing needs no package; what is over between two looks is
 counted under `other`, as are rt itself and the programs that it runs. Machines differ, and so does one machine from day to day and within a run: all
@@ -42,7 +42,8 @@ from program import ENDED_WITH_CALLER, PARTS, ROOT, uses
 FIGURES, PAGE = ROOT / "docs" / "gate.json", ROOT / "docs" / "GATE.md"
 # Where the minutes of a run from nothing stand, each time once, and how.
 TOLD = (ROOT / "README.md", ROOT / "docs" / "CLAIMS.md", ROOT / "CONTRIBUTING.md")
-MINUTES = re.compile(r"\b(?:\d+|N) minutes by the clock, (?:\d+|N) of a processor\b")
+UNMEASURED = "a time that is not measured yet"
+MINUTES = re.compile(rf"\b(?:\d+ minutes by the clock, \d+ of a processor|{UNMEASURED})\b")
 EVERY = 1
 TICKS = os.sysconf("SC_CLK_TCK")
 # What the gate does of a crate.
@@ -217,7 +218,9 @@ def table_of(figures):
 
 def minutes_told(figures):
     """Returns the minutes of the last run from nothing, as all pages have them."""
-    anew = figures.get("from_nothing") or {"minutes": "N", "processor_minutes": "N"}
+    anew = figures.get("from_nothing")
+    if not anew:
+        return UNMEASURED
     return f"{anew['minutes']} minutes by the clock, {anew['processor_minutes']} of a processor"
 
 
