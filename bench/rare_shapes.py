@@ -8,6 +8,7 @@ on an empty input.
 """
 
 import argparse
+import datetime
 import pathlib
 import random
 import subprocess
@@ -72,6 +73,31 @@ def iso8601_no_seconds(rng):
     return f"{day}T{clocks[1]}{offsets[0]}"
 
 
+def short_offset(rng):
+    day, _, clocks, offsets = parts(rng)
+    return f"{day}T{clocks[0]}{offsets[1][:3]}"
+
+
+def plain_offset(rng):
+    day, _, clocks, offsets = parts(rng)
+    return f"{day}T{clocks[0]}{offsets[1]}"
+
+
+def no_offset(rng):
+    day, _, clocks, _ = parts(rng)
+    return f"{day}T{clocks[0]}"
+
+
+def comma(rng):
+    day, _, clocks, offsets = parts(rng)
+    return f"{day}T{clocks[0]},{rng.randrange(1000):03}{offsets[0]}"
+
+
+def expanded(rng):
+    day, _, clocks, offsets = parts(rng)
+    return f"+00{day}T{clocks[0]}{offsets[0]}"
+
+
 def many_digits(rng):
     day, _, clocks, offsets = parts(rng)
     return f"{day}T{clocks[0]}.{digits(rng)}{offsets[0]}"
@@ -95,6 +121,34 @@ def twelve_hours(rng):
 def long_names(rng):
     day, _, clocks, _ = parts(rng)
     return f"{day:%d %B %Y} {clocks[0]}"
+
+
+def written(letters):
+    """Returns what makes a line by these letters of strftime."""
+
+    def line(rng):
+        day, _, clocks, _ = parts(rng)
+        hour, minute, second = (int(number) for number in clocks[0].split(":"))
+        return datetime.datetime(day.year, day.month, day.day, hour, minute, second).strftime(letters)
+
+    return line
+
+
+def zulu_or_offset(rng):
+    day, _, clocks, offsets = parts(rng)
+    return f"{day}T{clocks[0]}{rng.choice(['Z', offsets[0]])}"
+
+
+def unix_nanoseconds(rng):
+    return f"{lines.unix(rng)}{rng.randrange(10 ** 9):09}"
+
+
+def unix_negative(rng):
+    return f"-{rng.randrange(10 ** 9):09}"
+
+
+def unix_short(rng):
+    return f"{rng.randrange(10 ** 8, 10 ** 9)}"
 
 
 def unix_fraction(rng):
@@ -127,6 +181,23 @@ SHAPES = [
     ("`%I..%p`", "+00:00", ["strftime", "%m/%d/%Y %I:%M:%S %p"], twelve_hours),
     ("long names", "+00:00", ["strftime", "%d %B %Y %H:%M:%S"], long_names),
     ("Unix time with a fraction", "-", ["v3", "[unix_timestamp].[subsecond]"], unix_fraction),
+    ("ISO 8601 without an offset", "+00:00", ["iso8601"], no_offset),
+    ("ISO 8601 with a comma", "-", ["iso8601"], comma),
+    ("ISO 8601 with `+hh`", "-", ["iso8601"], short_offset),
+    ("ISO 8601, extended, with `+hhmm`", "-", ["iso8601"], plain_offset),
+    ("ISO 8601, expanded years", "-", ["iso8601"], expanded),
+    ("`%F %R`", "+00:00", ["strftime", "%F %R"], written("%F %R")),
+    ("`%d.%m.%Y %H:%M`", "+00:00", ["strftime", "%d.%m.%Y %H:%M"], written("%d.%m.%Y %H:%M")),
+    ("`%I:%M %p %d/%m/%Y`", "+00:00", ["strftime", "%I:%M %p %d/%m/%Y"], written("%I:%M %p %d/%m/%Y")),
+    ("`%d %B %Y %H:%M`", "+00:00", ["strftime", "%d %B %Y %H:%M"], written("%d %B %Y %H:%M")),
+    ("`%-d.%-m.%Y %-H:%M`", "+00:00", ["strftime", "%-d.%-m.%Y %-H:%M"], written("%-d.%-m.%Y %-H:%M")),
+    ("`%Y-%j %T`", "+00:00", ["strftime", "%Y-%j %T"], written("%Y-%j %T")),
+    ("`%G-W%V-%u %T`", "+00:00", ["strftime", "%G-W%V-%u %T"], written("%G-W%V-%u %T")),
+    ("`[first [Z] [offset]]` at the end", "+00:00",
+     ["v3", "[year]-[month]-[day]T[hour]:[minute]:[second][first [Z] [[offset_hour sign:mandatory]:[offset_minute]]]"], zulu_or_offset),
+    ("Unix time in nanoseconds", "-", ["v3", "[unix_timestamp precision:nanosecond]"], unix_nanoseconds),
+    ("Unix time, negative", "-", ["v3", "[unix_timestamp]"], unix_negative),
+    ("Unix time of nine digits", "-", ["v3", "[unix_timestamp]"], unix_short),
     ("read by the tenth of ten descriptions", "+00:00", TEN, fixed_before),
     ("refused by all ten", "+00:00", TEN, garbage_of_digits),
     ("refused by three sources", "-", ["rfc3339", "rfc2822", *LOG], lines.garbage),

@@ -35,10 +35,10 @@ ALONE = (
 BELOW = {
     "parsing_combinator": {"digit_chunk", "nine_digits"},
     "parsing_values": set(),
-    "parsing_places": {"read", "read_long"},
+    "parsing_layout": {"read_long_numbers"},
     "parsing_fields": {"Fields", "Fraction", "Year", "minute_of_day", "signed_minutes"},
     "parsing_components": {"Record", "read", "read_component", "read_component_v3"},
-    "parsing_first_bytes": {"FirstBounds", "FirstBytes"},
+    "parsing_item_layouts": {"FirstBounds", "FirstBytes"},
     "parsing_steps": {"Steps"},
     "parsing_layouts": {"Places", "UnixTime"},
     "parsing_plan": {"Plan"},

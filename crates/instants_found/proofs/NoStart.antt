@@ -2,7 +2,7 @@
 use Rattle.std.proofs.Common.{◌≡◌, ◌<◌, ◌∙◌, inl, inr, ℕ, false, List, get_or, take, arith}
 use Rattle.std.specs.Char.{is_ascii_digit}
 use Rattle.std.proofs.lemmas.List.{get_or-take}
-use Rattle.parsing_first_bytes.specs.FirstBytes.{IsRefusedAt}
+use Rattle.parsing_item_layouts.specs.FirstBytes.{IsRefusedAt}
 use Rattle.instants_prefixes.specs.NoPrefix.{begins_day, begins_part}
 use Rattle.instants_prefixes.specs.Reading.{window, text_for}
 use Rattle.instants_prefixes.proofs.ReadPrefixes.{no_digit}

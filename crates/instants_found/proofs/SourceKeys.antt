@@ -4,8 +4,8 @@ use Rattle.std.specs.Prelude.{IfSome}
 use Rattle.std.specs.Option.{ForSome}
 use Rattle.std.proofs.lemmas.List.{get_or-take, get_or_past}
 use Rattle.base.specs.Bytes.{hyphen}
-use Rattle.parsing_first_bytes.specs.FirstBytes.{AreOf, rule_out}
-use Rattle.parsing_first_bytes.specs.declared.first_bytes.FirstBytes.{FirstBytes}
+use Rattle.parsing_item_layouts.specs.FirstBytes.{AreOf, rule_out}
+use Rattle.parsing_item_layouts.specs.declared.first_bytes.FirstBytes.{FirstBytes}
 use Rattle.instants_prefixes.specs.NoPrefix.{HasNoPrefix}
 use Rattle.instants_prefixes.specs.Reading.{window, text_for}
 use Rattle.instants_sources.specs.Grammar.{Described, Rfc3339, Written}

@@ -1,7 +1,7 @@
 -- Bytes that stand at one place of each date of a source.
 use Rattle.std.specs.Prelude.{◌≡◌, ◌<◌, ◌+◌, ◌==◌, ℕ, Bool, true, false, List, All, length, drop, get_or}
-use Rattle.parsing_first_bytes.specs.FirstBytes.{rule_out}
-use Rattle.parsing_first_bytes.specs.declared.first_bytes.FirstBytes.{FirstBytes}
+use Rattle.parsing_item_layouts.specs.FirstBytes.{rule_out}
+use Rattle.parsing_item_layouts.specs.declared.first_bytes.FirstBytes.{FirstBytes}
 use Rattle.instants_sources.specs.Grammar.{Grammar}
 use Rattle.instants_prefixes.specs.NoPrefix.{HasNoPrefix}
 use Rattle.instants_found.specs.declared.key.Key.{Key}

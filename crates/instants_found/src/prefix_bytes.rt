@@ -3,7 +3,7 @@ ghost use Rattle.std.specs.Prelude.{◌≤◌, IfSome};
 ghost use Rattle.instants_found.specs.Keys.{IsKeyOf, RuleOutShort};
 
 use crate::key::Key;
-use parsing_first_bytes::FirstBytes;
+use parsing_item_layouts::FirstBytes;
 
 // The only byte that can stand at a place, if there is one.
 fn only_byte(first_bytes: &FirstBytes, place: usize) -> Option<u8>

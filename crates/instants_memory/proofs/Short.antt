@@ -27,7 +27,7 @@ use Rattle.parsing_components.proofs.lemmas.Tame.{component_tame, component_tame
 use Rattle.parsing_iso8601.proofs.TameLemmas.{iso8601_tame}
 use Rattle.parsing_record.specs.Meaning.{Answer, Meaning, meaning}
 use Rattle.parsing_record.specs.Reads.{reads}
-use Rattle.parsing_record.specs.Record.{Record}
+use Rattle.parsing_components.specs.declared.fields.Record.{Record}
 use Rattle.parsing_record.specs.Whole.{starting, all_read, whole, names, moment_named, by_roads}
 use Rattle.parsing_record.proofs.lemmas.Tame.{IsTameMeaning, tree_tame, in_turn_tame}
 use Rattle.parsing_rfc2822.specs.Direct as rfc2822

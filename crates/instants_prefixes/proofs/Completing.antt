@@ -5,7 +5,7 @@ use Rattle.datetime_wall.specs.Wall.{Shown}
 use Rattle.parsing_combinator.specs.Fault.{Fault}
 use Rattle.parsing_combinator.specs.FaultOf.{Gives, resolution_fault}
 use Rattle.parsing_combinator.specs.declared.fault.TryFromParsed.{TryFromParsed}
-use Rattle.parsing_record.specs.Record.{Record}
+use Rattle.parsing_components.specs.declared.fields.Record.{Record}
 use Rattle.instants_prefixes.specs.Given.{Given, Near, moment_in, moment_of, nearer, year_of}
 
 -- what a call answered, without its fault

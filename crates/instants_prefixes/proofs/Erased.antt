@@ -6,7 +6,8 @@ use Rattle.description_items.specs.Modern.{modern}
 use Rattle.description_items.specs.Tree.{listed}
 use Rattle.parsing_components.specs.Component.{reads_component, reads_component_v3}
 use Rattle.parsing_record.specs.Meaning.{Answer}
-use Rattle.parsing_record.specs.Record.{Record, empty}
+use Rattle.parsing_components.specs.declared.fields.Record.{Record}
+use Rattle.parsing_record.specs.Record.{empty}
 use Rattle.instants_sources.specs.Grammar.{Grammar, Described, Rfc2822, Rfc3339, Iso8601, Items, V3}
 use Rattle.instants_sources.specs.Reading.{reading_of}
 use Rattle.instants_prefixes.specs.Lacks.{stands, is_year, is_century, is_last_two, is_month, is_day, is_ordinal, is_week, is_weekday, is_hour}

@@ -8,7 +8,8 @@ use Rattle.parsing_combinator.specs.Tame.{EndsWith, Tame}
 use Rattle.parsing_components.specs.Component.{reads_component_v3}
 use Rattle.parsing_components.proofs.lemmas.Tame.{component_tame, component_tame_v3}
 use Rattle.parsing_record.specs.Meaning.{Answer}
-use Rattle.parsing_record.specs.Record.{Record, empty}
+use Rattle.parsing_components.specs.declared.fields.Record.{Record}
+use Rattle.parsing_record.specs.Record.{empty}
 use Rattle.parsing_record.specs.Reads.{Language, reading_of_all}
 use Rattle.parsing_record.proofs.lemmas.Tame.{IsTameLanguage, in_turn_tame}
 use Rattle.instants_sources.specs.Grammar.{Described, Written, Items, V3}

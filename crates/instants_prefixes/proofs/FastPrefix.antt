@@ -5,7 +5,8 @@ use Rattle.datetime_wall.specs.Wall.{Shown}
 use Rattle.parsing_combinator.specs.Fault.{Fault}
 use Rattle.parsing_combinator.specs.Readings.{then_read, give}
 use Rattle.parsing_record.specs.Meaning.{Answer}
-use Rattle.parsing_record.specs.Record.{Record, empty}
+use Rattle.parsing_components.specs.declared.fields.Record.{Record}
+use Rattle.parsing_record.specs.Record.{empty}
 use Rattle.parsing_record.specs.Whole.{whole, names, moment_named, all_read}
 use Rattle.parsing_rfc3339.specs.Direct.{direct}
 use Rattle.parsing_rfc3339.specs.Reading.{rfc3339}

@@ -5,7 +5,7 @@ use Rattle.std.proofs.lemmas.List.{drop_all}
 use Rattle.description_items.specs.Tree.{Tree}
 use Rattle.parsing_combinator.specs.Fault.{Fault}
 use Rattle.parsing_record.specs.Meaning.{Answer, first_of, first_success}
-use Rattle.parsing_record.specs.Record.{Record}
+use Rattle.parsing_components.specs.declared.fields.Record.{Record}
 use Rattle.parsing_record.specs.Reads.{Language, each_reads}
 use Rattle.parsing_record.proofs.lemmas.Steps.{from, after}
 

@@ -10,7 +10,7 @@ use Rattle.parsing_values.specs.declared.parts.MomentParts.{MomentParts}
 use Rattle.parsing_values.specs.NamedDate.{named_date, by_ordinal, by_day, by_iso_week, by_sunday_week, by_monday_week, year_of, split_year}
 use Rattle.parsing_values.specs.NamedTime.{named_time, named_offset, hour_of, half_day_hour}
 use Rattle.parsing_values.specs.NamedMoment.{named_moment, dated_moment, named_wall}
-use Rattle.parsing_record.specs.Record.{Record}
+use Rattle.parsing_components.specs.declared.fields.Record.{Record}
 use Rattle.parsing_record.specs.Parts.{time_parts, offset_parts, moment_parts}
 use Rattle.parsing_record.specs.Whole.{moment_named, date_named, offset_named}
 use Rattle.instants_prefixes.specs.Given.{Given, Years, Unknown, In, Near, with_offset, has_no_year, has_no_time, with_year, with_time, completed, moment_in, distance, nearer, moment_of}

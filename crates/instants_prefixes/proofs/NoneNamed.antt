@@ -17,7 +17,8 @@ use Rattle.parsing_iso8601.specs.Times as iso8601_times
 use Rattle.parsing_iso8601.specs.Offsets as iso8601_offsets
 use Rattle.parsing_iso8601.specs.Numbers as iso8601_numbers
 use Rattle.parsing_record.specs.Meaning.{Answer}
-use Rattle.parsing_record.specs.Record.{Record, empty}
+use Rattle.parsing_components.specs.declared.fields.Record.{Record}
+use Rattle.parsing_record.specs.Record.{empty}
 use Rattle.parsing_rfc2822.specs.Reading as rfc2822
 use Rattle.parsing_rfc2822.specs.Names.{weekday, weekday_of}
 use Rattle.parsing_rfc2822.proofs.WhiteSpaceLemmas.{none_at}

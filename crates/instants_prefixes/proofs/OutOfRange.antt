@@ -17,7 +17,7 @@ use Rattle.parsing_values.specs.NamedDate.{named_date, named_by, by_ordinal, by_
 use Rattle.parsing_values.specs.NamedTime.{named_time, hour_of, finer_parts}
 use Rattle.parsing_values.specs.NamedMoment.{named_moment, dated_moment}
 use Rattle.parsing_values.specs.Resolution.{permitted_time_of}
-use Rattle.parsing_record.specs.Record.{Record}
+use Rattle.parsing_components.specs.declared.fields.Record.{Record}
 use Rattle.parsing_record.specs.Parts.{date_parts, time_parts, offset_parts, moment_parts}
 use Rattle.parsing_record.specs.Whole.{moment_named}
 use Rattle.instants_prefixes.specs.Given.{with_offset, has_no_year, has_no_time, with_year, with_time, completed}

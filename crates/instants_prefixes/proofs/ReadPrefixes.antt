@@ -13,7 +13,8 @@ use Rattle.parsing_parsable.specs.Staged.{reads_rfc3339}
 use Rattle.parsing_rfc3339.specs.Reading as rfc3339
 use Rattle.parsing_record.specs.Prefix.{NamesPrefix}
 use Rattle.parsing_record.specs.Meaning.{Answer, Meaning}
-use Rattle.parsing_record.specs.Record.{Record, empty}
+use Rattle.parsing_components.specs.declared.fields.Record.{Record}
+use Rattle.parsing_record.specs.Record.{empty}
 use Rattle.parsing_record.specs.Reads.{Language, reads, reading}
 use Rattle.parsing_record.specs.Parts.{moment_parts, offset_parts}
 use Rattle.parsing_record.specs.Whole.{moment_named}

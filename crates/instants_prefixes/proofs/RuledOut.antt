@@ -3,7 +3,7 @@ use Rattle.std.proofs.Common.{◌≡◌, ◌⊎◌, inl, inr, ℕ, Bool, false, 
 use Rattle.std.specs.Result.{result_ok}
 use Rattle.std.specs.Char.{is_ascii_digit}
 use Rattle.base.specs.Bytes.{hyphen}
-use Rattle.parsing_record.specs.Record.{Record}
+use Rattle.parsing_components.specs.declared.fields.Record.{Record}
 use Rattle.parsing_rfc2822.specs.Reading as rfc2822
 use Rattle.instants_sources.specs.Grammar.{Described, Rfc2822, Rfc3339, Written}
 use Rattle.instants_sources.specs.Written.{reads_written}

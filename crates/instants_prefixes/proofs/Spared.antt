@@ -8,7 +8,7 @@ use Rattle.parsing_combinator.specs.Readings.{then_read, give}
 use Rattle.parsing_components.specs.Component.{reads_component, reads_component_v3}
 use Rattle.parsing_components.specs.Put.{put}
 use Rattle.parsing_components.specs.declared.said.Read.{Read}
-use Rattle.parsing_record.specs.Record.{Record}
+use Rattle.parsing_components.specs.declared.fields.Record.{Record}
 use Rattle.parsing_record.specs.Reads.{Language}
 use Rattle.instants_prefixes.specs.Reading.{is_unix_time}
 use Rattle.instants_prefixes.specs.Contents.{is_offset_hour, is_offset_part, is_placing}

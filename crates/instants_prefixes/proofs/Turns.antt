@@ -7,12 +7,12 @@ use Rattle.parsing_combinator.specs.Readings.{then_read}
 use Rattle.description_items.specs.Tree.{Tree, Trees, Literal, Part, Compound, Optional, First, none, also, listed}
 use Rattle.parsing_combinator.specs.Fault.{literal}
 use Rattle.parsing_record.specs.Meaning.{Answer, literally, then_counted, all_of}
-use Rattle.parsing_record.specs.Record.{Record}
+use Rattle.parsing_components.specs.declared.fields.Record.{Record}
 use Rattle.parsing_record.specs.Reads.{Language, reads, each_reads, reading, reading_of_all}
 use Rattle.std.specs.Borrow.{Bor}
 use Rattle.parsing_record.specs.Node.{step_tree}
-use Rattle.parsing_nodes.specs.declared.node.NodeStep.{NodeStep}
-use Rattle.parsing_nodes.specs.declared.node.NodeStep.TheVariants as steps
+use Rattle.parsing_components.specs.declared.node.NodeStep.{NodeStep}
+use Rattle.parsing_components.specs.declared.node.NodeStep.TheVariants as steps
 use Rattle.instants_prefixes.specs.Ends.{AreTexts, text_sum}
 use Rattle.instants_prefixes.specs.Lengths.{items_of, children}
 

@@ -8,7 +8,8 @@ use Rattle.parsing_values.specs.NamedDate.{named_date, by_ordinal, by_day, by_is
 use Rattle.parsing_values.specs.NamedTime.{named_time, hour_of, half_day_hour}
 use Rattle.parsing_record.specs.Meaning.{Answer}
 use Rattle.parsing_record.specs.Parts.{date_parts, time_parts}
-use Rattle.parsing_record.specs.Record.{Record, empty}
+use Rattle.parsing_components.specs.declared.fields.Record.{Record}
+use Rattle.parsing_record.specs.Record.{empty}
 use Rattle.instants_sources.specs.Grammar.{Grammar}
 use Rattle.instants_prefixes.specs.Given.{Given, Years, Unknown, In, Near, moment_of, moment_in, with_time, has_no_year}
 use Rattle.instants_prefixes.specs.Lacks.{Lack, Century, Year, Day, Hour, Offset, stands, is_known, has_year, has_day, has_hour, has_offset, lack, is_year, is_century, is_last_two, is_month, is_day, is_ordinal, is_week, is_weekday, is_hour, is_offset_hour}

@@ -3,7 +3,8 @@ use Rattle.std.specs.Prelude.{◌≡◌, ℕ, ◌+◌, ◌-◌, nat_lt, List, []
 use Rattle.std.specs.List.{prefix_len, suffix_len}
 use Rattle.std.specs.Option.{ForSome}
 use Rattle.description_items.specs.Tree.{Tree, Literal, listed}
-use Rattle.parsing_record.specs.Record.{Record, empty}
+use Rattle.parsing_components.specs.declared.fields.Record.{Record}
+use Rattle.parsing_record.specs.Record.{empty}
 use Rattle.parsing_record.specs.Reads.{Language, reading_of_all}
 use Rattle.instants_edges.specs.Pieces.{blanks, trimmed_length, zone_length}
 use Rattle.instants_sources.specs.Grammar.{Grammar, Described, Written}

@@ -4,7 +4,7 @@ use Rattle.std.specs.Option.{is_none}
 use Rattle.std.specs.Result.{result_ok}
 use Rattle.calendar_count.specs.Calendar.{day_at}
 use Rattle.datetime_wall.specs.Wall.{Shown, instant, day_of}
-use Rattle.parsing_record.specs.Record.{Record}
+use Rattle.parsing_components.specs.declared.fields.Record.{Record}
 use Rattle.parsing_record.specs.Whole.{moment_named}
 -- an offset from UTC in seconds, what is known of the year, and a time of day in minutes
 pub use Rattle.instants_prefixes.specs.declared.given.Given.{Given}

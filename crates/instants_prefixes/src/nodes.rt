@@ -10,7 +10,7 @@ ghost use Rattle.instants_prefixes.specs.Lengths.{length_by};
 use parsing_record::{NodeStep, Parsed, ReadsNode};
 
 // Reads by one node: `None` where it is refused, and then the record holds anything.
-#[tactic(auto, unfolding(parsing_nodes::specs::Reads::reads, parsing_nodes::specs::Meaning::optionally))]
+#[tactic(auto, unfolding(parsing_components::specs::Reads::reads, parsing_components::specs::Meaning::optionally))]
 #[cycle(reading)]
 fn read_node<'a, N: ReadsNode>(node: &N, input: &'a [u8], parsed: &mut Parsed) -> Option<&'a [u8]>
     ensures answer { Answered result parsed.new
@@ -26,7 +26,7 @@ fn read_node<'a, N: ReadsNode>(node: &N, input: &'a [u8], parsed: &mut Parsed) -
 }
 
 // Reads by the node, or leaves everything as it was.
-#[tactic(auto, unfolding(parsing_nodes::specs::Meaning::optionally))]
+#[tactic(auto, unfolding(parsing_components::specs::Meaning::optionally))]
 #[cycle(reading)]
 fn read_optional<'a, N: ReadsNode>(
     node: &N,

@@ -11,7 +11,7 @@ use Rattle.parsing_plan.specs.declared.plan.Plan.{Plan}
 use Rattle.parsing_plan.specs.declared.plan.Plan.TheVariants as plan
 use Rattle.parsing_layouts.specs.declared.unix.UnixTime.{UnixTime}
 use Rattle.parsing_record.specs.Meaning.{Meaning}
-use Rattle.parsing_record.specs.Record.{Record}
+use Rattle.parsing_components.specs.declared.fields.Record.{Record}
 use Rattle.parsing_record.specs.Whole.{starting, whole, names, moment_named}
 use Rattle.instants_sources.specs.Grammar.{Grammar, Described, Rfc2822, Rfc3339, Iso8601}
 use Rattle.instants_sources.specs.Named.{defaults_of, named}

@@ -2,9 +2,9 @@
 use Rattle.std.proofs.Common.{◌≡◌, List, ℕ, Option, None, Result, Ok, Err, refl, ℤ}
 use Rattle.std.specs.Result.{result_ok}
 use Rattle.parsing_combinator.specs.Fault.{Fault}
-use Rattle.parsing_first_bytes.specs.FirstBounds.{ReadsNoneWhole}
+use Rattle.parsing_item_layouts.specs.FirstBounds.{ReadsNoneWhole}
 use Rattle.parsing_record.specs.Meaning.{Meaning, Answer}
-use Rattle.parsing_record.specs.Record.{Record}
+use Rattle.parsing_components.specs.declared.fields.Record.{Record}
 use Rattle.parsing_record.specs.Whole.{whole, names, moment_named, starting, all_read}
 use Rattle.instants_sources.specs.Named.{defaults_of}
 

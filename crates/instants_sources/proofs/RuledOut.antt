@@ -11,7 +11,7 @@ use Rattle.parsing_combinator.specs.Fault.{Fault, literal, component}
 use Rattle.parsing_combinator.specs.Pieces.{digits, digit_count, byte, byte_of, skip_of}
 use Rattle.parsing_combinator.proofs.Decimal.{digit_here}
 use Rattle.parsing_combinator.proofs.Fixed.{digits_one, digits_two, some_if}
-use Rattle.parsing_record.specs.Record.{Record}
+use Rattle.parsing_components.specs.declared.fields.Record.{Record}
 use Rattle.parsing_parsable.specs.Staged.{reads_iso8601}
 use Rattle.parsing_iso8601.specs.declared.kind.Kind.TheVariants.{Unknown}
 use Rattle.parsing_iso8601.specs.Reading as iso8601

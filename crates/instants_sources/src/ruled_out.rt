@@ -1,7 +1,7 @@
 //! What the first bytes of a line show of the well-known formats.
 ghost use Rattle.std.specs.Prelude.{◌≡◌, true, None};
 ghost use Rattle.std.specs.Result.{result_ok};
-ghost use Rattle.parsing_record.specs.Record.{Record};
+ghost use Rattle.parsing_components.specs.declared.fields.Record.{Record};
 ghost use Rattle.parsing_rfc2822.specs.Direct as rfc2822;
 ghost use Rattle.parsing_rfc3339.specs.Direct as rfc3339;
 ghost use Rattle.parsing_parsable.specs.Staged.{reads_iso8601};

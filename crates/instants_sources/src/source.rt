@@ -115,7 +115,7 @@ fn read_described(
 // The moment of the record that the whole line sets, with an offset assumed or none. The record lies here from the start:
 // handed over with the call it would be copied, at some eighty instructions a line.
 #[inline(never)]
-#[tactic(auto, unfolding(parsing_nodes::specs::Whole::whole))]
+#[tactic(auto, unfolding(parsing_components::specs::Whole::whole))]
 fn read_staged<F: Parsable>(
     format: &F,
     line: &[u8],

@@ -4,7 +4,7 @@ use description::{
     BorrowedFormatItem, Description, DescriptionVersion, FormatDescriptionV3, parse_borrowed,
     parse_strftime_borrowed,
 };
-use parsing_first_bytes::{FirstBounds, FirstBytes};
+use parsing_item_layouts::{FirstBounds, FirstBytes};
 use std::alloc::Global;
 
 // A description by the letters of strftime, a line, and whether its first four bytes show that the description reads no
@@ -39,7 +39,7 @@ const LETTERS: &str = r"%d/%b => 2021-01-01 => true true true
 %-d.%m => 1 => false false false
 %s => x => true true true
 %s =>  => true true true
-%s => .5 => true false false
+%s => .5 => true true true
 %s => -1 => false false false
 %s => +1 => false false false
 %s => 1700000000 => false false false
@@ -48,7 +48,7 @@ const LETTERS: &str = r"%d/%b => 2021-01-01 => true true true
 %C => x => true true true
 %C =>   => true true true
 %C => 20 => false false false
-%C => -1 => false false false
+%C => -1 => false true true
 %u => x => true true true
 %u =>  1 => true true true
 %u => 1 => false false false
@@ -64,10 +64,10 @@ const TREES: &str = r"\[[day] => 01 => true true true
 [year]-[month] => 01/01/2021 => true true true
 [year]-[month] => 202 => true true true
 [year]-[month] => 202x-01 => true true true
-[year]-[month] => -20x-01 => true false false
+[year]-[month] => -20x-01 => true true true
 [year]-[month] => 2021-01 => false false false
 [year]-[month] => -0001-01 => false false false
-[year]-[month] => +12345-01 => false false false
+[year]-[month] => +12345-01 => false true true
 at [hour] => am 12 => true true true
 at [hour] => At 12 => true true true
 at [hour] => at => true true true
@@ -77,10 +77,10 @@ at [hour] => at 12 => false false false
 [period] => p => true true true
 [period] => AM => false false false
 [period] => pm 1 => false false true
-[ignore count:2]x => abc => false false false
-[ignore count:2]x =>  => false false false
+[ignore count:2]x => abc => true true true
+[ignore count:2]x =>  => true true true
 [offset_hour sign:mandatory] => x1 => true true true
-[offset_hour sign:mandatory] => +x => true false false
+[offset_hour sign:mandatory] => +x => true true true
 [offset_hour sign:mandatory] => +01 => false false false
 [offset_hour sign:mandatory] => -12 => false false false
 [unix_timestamp] => abc => true true true
@@ -91,16 +91,16 @@ at [hour] => at 12 => false false false
 [hour]:[minute] => abc => true true true
 [hour]:[minute] => 01:00 => false false false
 [optional [x]]y => y => false false false
-[optional [x]]y => z => false false false
+[optional [x]]y => z => true true true
 [day]-[month] [hour]:[minute] => 01-07 10:52 => false false false
 [day]-[month] [hour]:[minute] => 01-07 10.52 => false true true
 [day]-[month] [hour]:[minute] => 01-07 10 => false true true
 [day]-[month]-[year] [hour] => 01-07-203 10 => false true true
-[day]-[month]-[year] [hour] => 01-07--2003 10 and more => false false false
+[day]-[month]-[year] [hour] => 01-07--2003 10 and more => false false true
 [year]-[month]-[day] => 2024-01-02 => false false false
 [year]-[month]-[day] => 2024/01/02 => false true true
 [year]-[month]-[day] => 2024-01-02T10 => false false true
-[year]-[month]-[day] => +2024/01/02 and more => false false false
+[year]-[month]-[day] => +2024/01/02 and more => false true true
 [hour] [year]:[second] => 10 2024.37 => false true true
 [hour] [year]:[second] => 10 -2024:37 => false false false
 [hour]:[minute]:[second]UTC => 10:52:37UTC => false false false

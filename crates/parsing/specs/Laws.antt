@@ -1,7 +1,7 @@
 -- What the three kinds of instants of one record have to do with one another.
 use Rattle.std.specs.Prelude.{ℕ, ℤ}
 use Rattle.parsing_values.specs.Laws.{IsWhole, IsOneInstant}
-use Rattle.parsing_record.specs.Record.{Record}
+use Rattle.parsing_components.specs.declared.fields.Record.{Record}
 use Rattle.parsing_record.specs.Parts.{offset_parts, moment_parts}
 use Rattle.parsing_record.specs.Whole.{moment_named, utc_named, timestamp_named}
 

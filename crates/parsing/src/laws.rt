@@ -9,7 +9,7 @@ ghost use Rattle.description_lexer.specs.declared.version.DescriptionVersion.{De
 ghost use Rattle.description_lexer.specs.declared.version.DescriptionVersion.TheVariants.{Three};
 ghost use Rattle.parsing_laws.specs.Joined.{IsReadInTurn, by_items, by_tree};
 ghost use Rattle.parsing_laws.specs.TwoVersions.{IgnoresNothing, IsReadByBoth};
-ghost use Rattle.parsing_record.specs.Record.{Record};
+ghost use Rattle.parsing_components.specs.declared.fields.Record.{Record};
 ghost use Rattle.parsing_record.specs.Whole.{by_roads};
 ghost use Rattle.parsing_rfc2822.specs.Direct as rfc2822;
 ghost use Rattle.parsing_rfc3339.specs.Direct as rfc3339;

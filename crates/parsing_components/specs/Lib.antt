@@ -3,3 +3,9 @@ pub mod Record
 pub mod Component
 pub mod Put
 pub mod Slot
+pub mod Parts
+pub mod Meaning
+pub mod Reads
+pub mod Whole
+pub mod Node
+pub mod Prefix

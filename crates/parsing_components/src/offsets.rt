@@ -3,20 +3,21 @@ ghost use Rattle.std.specs.Prelude.{◌≡◌, ◌≤◌, ◌<◌, ◌*◌, ◌^
 ghost use Rattle.parsing_combinator.specs.Pieces.{cut_view};
 ghost use Rattle.parsing_combinator.specs.Shape.{taken};
 ghost use Rattle.parsing_combinator.specs.Numbers as Numbers;
-ghost use Rattle.parsing_components.specs.Record.{InSigned, IsInRange, Reaches};
+ghost use Rattle.parsing_components.specs.Record.{InSigned, Reaches};
 ghost use Rattle.parsing_components.specs.Put.{passed};
 ghost use Rattle.parsing_components.specs.Ranged.{nanoseconds_before_epoch, nanoseconds_after_epoch, says, up_to, since_epoch};
 ghost use Rattle.parsing_components.specs.Component as Components;
 
-use crate::ranged::two;
-use crate::said::Read;
-use description_items::Component;
 use description_items::modifier::Padding;
 use parsing_combinator::{offset_hour, timestamp};
 
-// The hours of an offset with their sign, and whether that is a minus.
+/// The hours of an offset with their sign, and whether that is a minus.
 #[inline(always)]
-fn hour_of_offset(padding: Padding, mandatory: bool, bytes: &[u8]) -> Option<((i8, bool), &[u8])>
+pub(crate) fn hour_of_offset(
+    padding: Padding,
+    mandatory: bool,
+    bytes: &[u8],
+) -> Option<((i8, bool), &[u8])>
     ensures reads { cut_view result ≡ says (up_to 25 (λ negative hour. (hour, negative)))
         (taken (Numbers.offset_hour padding mandatory)) bytes.now }
     ensures range { IfSome result (λ x. Reaches 25 (Some x.0.0)) }
@@ -49,9 +50,9 @@ fn nanoseconds(is_negative: bool, count: u128, unit: u32) -> Option<i128>
     Some(if is_negative { -count } else { count })
 }
 
-// Unix time in a unit, as nanoseconds.
+/// Unix time in a unit, as nanoseconds.
 #[tactic(auto, using(crate::proofs::Timestamps::product_fits))]
-fn unix(mandatory: bool, most: usize, unit: u32, bytes: &[u8]) -> Option<(i128, &[u8])>
+pub(crate) fn unix(mandatory: bool, most: usize, unit: u32, bytes: &[u8]) -> Option<(i128, &[u8])>
     requires some { 1 ≤ most }
     requires fits { most ≤ 23 }
     requires small { unit ≤ 1_000_000_000 }
@@ -65,10 +66,10 @@ fn unix(mandatory: bool, most: usize, unit: u32, bytes: &[u8]) -> Option<(i128, 
     Some((nanoseconds, rest))
 }
 
-// What follows so many bytes.
+/// What follows so many bytes.
 #[inline(always)]
 #[tactic(auto, unfolding(crate::specs::Component::ignored))]
-fn ignored(count: u16, bytes: &[u8]) -> Option<&[u8]>
+pub(crate) fn ignored(count: u16, bytes: &[u8]) -> Option<&[u8]>
     ensures { option_map passed result ≡ Components.ignored count bytes.now }
 {
     let count = usize::from(count);
@@ -79,7 +80,7 @@ fn ignored(count: u16, bytes: &[u8]) -> Option<&[u8]>
     Some(rest)
 }
 
-// So many bytes, after which no character goes on.
+/// So many bytes, after which no character goes on.
 pub(crate) fn ignored_characters(count: u16, bytes: &[u8]) -> Option<&[u8]>
     ensures { option_map passed result ≡ Components.if_whole (Components.ignored count bytes.now) }
 {
@@ -94,47 +95,3 @@ pub(crate) fn ignored_characters(count: u16, bytes: &[u8]) -> Option<&[u8]>
 const NANOSECONDS_BEFORE_EPOCH: u128 = 31_619_087_596_800_000_000_000;
 
 const NANOSECONDS_AFTER_EPOCH: u128 = 31_494_784_780_799_999_999_999;
-
-// What the parts of an offset, timestamps and passed bytes say.
-#[tactic(auto, unfolding(crate::specs::Component::offset_piece))]
-pub(crate) fn offset_piece(component: Component, bytes: &[u8]) -> Option<(Read, &[u8])>
-    ensures reads { cut_view result ≡ Components.offset_piece component bytes.now }
-    ensures range { IfSome result (λ x. IsInRange x.0) }
-{
-    match component {
-        Component::OffsetHour(m) => hour_of_offset(m.padding, m.sign_is_mandatory, bytes).map(|(
-            (hour, negative),
-            rest,
-        )| (Read::OffsetHour(hour, negative), rest)),
-        Component::OffsetMinute(m) => two(m.padding, 0, 59, bytes).map(|(n, rest)| (
-            Read::OffsetMinute(n),
-            rest,
-        )),
-        Component::OffsetSecond(m) => two(m.padding, 0, 59, bytes).map(|(n, rest)| (
-            Read::OffsetSecond(n),
-            rest,
-        )),
-        Component::UnixTimestampSecond(m) => unix(
-            m.sign_is_mandatory,
-            14,
-            1_000_000_000,
-            bytes,
-        ).map(|(n, rest)| (Read::Unix(n), rest)),
-        Component::UnixTimestampMillisecond(m) => unix(
-            m.sign_is_mandatory,
-            17,
-            1_000_000,
-            bytes,
-        ).map(|(n, rest)| (Read::Unix(n), rest)),
-        Component::UnixTimestampMicrosecond(m) => unix(m.sign_is_mandatory, 20, 1_000, bytes).map(|(
-            n,
-            rest,
-        )| (Read::Unix(n), rest)),
-        Component::UnixTimestampNanosecond(m) => unix(m.sign_is_mandatory, 23, 1, bytes).map(|(
-            n,
-            rest,
-        )| (Read::Unix(n), rest)),
-        Component::Ignore(m) => ignored(m.count, bytes).map(|rest| (Read::Nothing, rest)),
-        _ => None,
-    }
-}

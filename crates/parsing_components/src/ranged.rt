@@ -7,9 +7,10 @@ ghost use Rattle.parsing_combinator.specs.Numbers as Numbers;
 ghost use Rattle.parsing_components.specs.Record.{Reaches};
 ghost use Rattle.parsing_components.specs.Ranged.{greatest_century, says, between, up_to};
 ghost use Rattle.parsing_components.specs.Ranged as Ranged;
+ghost use Rattle.parsing_components.specs.Component as Components;
 
-use description_items::modifier::Padding;
-use parsing_combinator::{century, padded, padded_two, year};
+use description_items::modifier::{Padding, SubsecondDigits};
+use parsing_combinator::{century, fraction_between, padded, padded_two, year};
 
 /// A number of two digits under a padding, in its range.
 #[inline(always)]
@@ -79,4 +80,24 @@ pub(crate) fn full_century(
     let ((negative, n), rest) = century(padding, mandatory, extended, bytes)?;
     let n = n as i16;
     Some(((if negative { -n } else { n }, negative), rest))
+}
+
+/// The nanoseconds of the digits of a fraction of a second.
+#[inline(always)]
+pub(crate) fn subsecond(digits: SubsecondDigits, bytes: &[u8]) -> Option<(u32, &[u8])>
+    ensures reads { cut_view result ≡ taken (Components.fraction_of digits) bytes.now }
+    ensures range { IfSome result (λ x. x.0 < 1_000_000_000) }
+{
+    match digits {
+        SubsecondDigits::OneOrMore => fraction_between(1, 32, bytes),
+        SubsecondDigits::One => fraction_between(1, 1, bytes),
+        SubsecondDigits::Two => fraction_between(2, 2, bytes),
+        SubsecondDigits::Three => fraction_between(3, 3, bytes),
+        SubsecondDigits::Four => fraction_between(4, 4, bytes),
+        SubsecondDigits::Five => fraction_between(5, 5, bytes),
+        SubsecondDigits::Six => fraction_between(6, 6, bytes),
+        SubsecondDigits::Seven => fraction_between(7, 7, bytes),
+        SubsecondDigits::Eight => fraction_between(8, 8, bytes),
+        SubsecondDigits::Nine => fraction_between(9, 9, bytes),
+    }
 }

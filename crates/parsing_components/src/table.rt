@@ -5,9 +5,9 @@ ghost use Rattle.parsing_components.specs.Record.{IsWithin};
 ghost use Rattle.parsing_components.specs.Put.{Reads, putting, passed};
 ghost use Rattle.parsing_components.specs.Component as Components;
 
-use crate::dates::read;
 use crate::fields::Record;
 use crate::offsets::ignored_characters;
+use crate::reading::read;
 use description_items::Component;
 use description_items::modifier::TrailingInput;
 use parsing_combinator::ParseFromDescription;
@@ -71,6 +71,7 @@ fn at_end(trailing: TrailingInput, bytes: &[u8]) -> Result<&[u8], ParseFromDescr
 
 // What a component of a newer form reads.
 #[tactic(auto, unfolding(crate::specs::Component::reads_modern))]
+#[inline(always)]
 fn read_modern<'a>(
     component: Component,
     bytes: &'a [u8],

@@ -1,162 +1,179 @@
--- What stands after a time of day, by the places of its parts.
-use Rattle.std.proofs.Common.{◌≡◌, ◌≤◌, ◌<◌, ◌+◌, ◌-◌, ◌∙◌, ◌==◌, ◌||◌, ℕ, Bool, true, false, List, [], length, get_or, take, drop, leb, Some, None, ℤ, refl, sym, ap, inl, inr, arith, lit<}
-use Rattle.std.specs.Char.{is_ascii_digit}
-use Rattle.std.proofs.lemmas.Bool.{cases_lt}
+-- What stands after a date: a time of day, a fraction, and an offset.
+use Rattle.std.proofs.Common.{◌≡◌, ℕ, zero, suc, ◌+◌, ◌<◌, ◌≤◌, ◌∙◌, Bool, true, false, leb, List, [], ◌∷◌, length, take, drop, get_or, Some, None, ℤ, refl, ap, arith, lit≤}
+use Rattle.std.specs.Prelude.{◌==◌, ◌||◌}
 use Rattle.std.proofs.lemmas.Bool.Decides.{nat_tests}
-use Rattle.std.proofs.lemmas.List.{drop-drop, drop_all, drop_more, length-drop, length-take-le, get_or-drop, get_or-take}
-use Rattle.base.specs.Bytes.{plus, hyphen, colon, upper_z, dot}
-use Rattle.parsing_fields.specs.Written.{WriteFraction}
-use Rattle.parsing_combinator.specs.Pieces.{digits, digit_run, digit_count, fraction, byte, sign, skip_of}
-use Rattle.parsing_combinator.proofs.AtPlaces.{at_least, first_at, byte_there, sign_there}
-use Rattle.parsing_combinator.proofs.Decimal.{count_drop, count_prefix}
-use Rattle.parsing_combinator.proofs.Fixed.{digits_one}
+use Rattle.std.proofs.lemmas.List.{length-drop, length-take-le, get_or-take}
+use Rattle.std.specs.Char.{is_ascii_digit}
+use Rattle.base.specs.Bytes.{plus, hyphen, colon, dot, upper_z}
+use Rattle.parsing_combinator.specs.Pieces.{digits, byte, skip_of, fraction, digit_count}
+use Rattle.parsing_combinator.proofs.Decimal.{count_drop, count_prefix, digit_count_within}
 use Rattle.parsing_combinator.proofs.FractionDigits.{none_there}
-use Rattle.parsing_places.specs.End.{SaysOffset, SaysSigned, HasFraction, width_of}
-use Rattle.parsing_iso8601.specs.Designators.{comma}
+use Rattle.parsing_iso8601.specs.Designators.{time_designator}
 use Rattle.parsing_iso8601.specs.Fractions.{rounded_part_of, next_if}
 use Rattle.parsing_iso8601.specs.Numbers.{decimal_mark}
 use Rattle.parsing_iso8601.specs.Offsets.{maybe_colon, offset}
 use Rattle.parsing_iso8601.specs.ReadView.{subsecond}
-use Rattle.parsing_iso8601.specs.declared.kind.Kind.TheVariants.{Basic, Extended}
-use Rattle.parsing_iso8601_shapes.proofs.FastOffsets.{IsAllOffset, offset_read, zulu_read}
-use Rattle.parsing_iso8601_shapes.proofs.FastTimes.{short_subsecond, long_subsecond, no_subsecond}
-use Rattle.parsing_iso8601_shapes.proofs.PlaceLemmas.{kind_of, other_byte}
+use Rattle.parsing_iso8601.specs.Times.{time, time_of}
+use Rattle.parsing_iso8601.specs.declared.kind.Kind.TheVariants.{Extended}
+use Rattle.parsing_iso8601.proofs.Pieces.{no_byte}
 use Rattle.parsing_iso8601.proofs.Rounding.{long_rounded}
+use Rattle.parsing_layout.specs.Layout.{Values, Says, exact_fraction}
+use Rattle.parsing_layout.specs.Moment.{HasOffset}
+use Rattle.parsing_layout.specs.Numbers.{second_if}
+use Rattle.parsing_layout.specs.Tail.{fraction_parts, zone_parts}
+use Rattle.parsing_layout.specs.declared.parts.Field.TheVariants as field
+use Rattle.parsing_layout.proofs.PieceLemmas.{byte_is, literal_said, exact_said, fraction_read, SignIs, sign_is}
+use Rattle.parsing_places.specs.Tail.{is_written, is_zulu}
+use Rattle.parsing_places.specs.declared.ending.Ending.{Ending}
+use Rattle.parsing_places.specs.declared.ending.Ending.TheVariants.{Zulu, Colon, Plain}
+use Rattle.parsing_iso8601_shapes.specs.Layout.{clock_parts}
+use Rattle.parsing_iso8601_shapes.proofs.DateLemmas.{kind_of}
+use Rattle.parsing_iso8601_shapes.proofs.FastOffsets.{IsAllOffset, offset_read, zulu_read}
+use Rattle.parsing_iso8601_shapes.proofs.FastTimes.{time_of_pieces, minutes_of_pieces, basic_time_of_pieces, basic_minutes_of_pieces, of_fraction, short_subsecond, long_subsecond, no_subsecond}
 
--- ---- what an offset begins with
+-- ---- the offset
 
--- the first byte of an offset is no part of a time
-pub record After (text : List ℕ) (place : ℕ) : Type 0 where
-  pub within : place < length text
-  pub no_digit : is_ascii_digit (get_or text place 0) ≡ false
-  pub no_mark : ((get_or text place 0 == dot) || (get_or text place 0 == comma)) ≡ false
-  pub no_colon : get_or text place 0 ≡ colon → ⊥
+-- no time of day goes on with these bytes
+pub record EndTime (bytes : List ℕ) : Type 0 where
+  pub no_mark : decimal_mark bytes ≡ None
+  pub no_digit : digits 1 bytes ≡ None
+  pub no_number : digits 2 bytes ≡ None
+  pub no_colon : byte colon bytes ≡ None
 
-other : (b c : ℕ) → b ≡ c → is_ascii_digit c ≡ false → ((c == dot) || (c == comma)) ≡ false → (c == colon) ≡ false → (is_ascii_digit b ≡ false) × (((b == dot) || (b == comma)) ≡ false) × (b ≡ colon → ⊥)
-other b c e digit mark apart = (rw e digit, rw e mark, λ same. absurd (grind (arith, nat_tests, e, same, apart)))
+zulu_ends : (bytes rest : List ℕ) → bytes ≡ upper_z ∷ rest → EndTime bytes
+unfolding decimal_mark skip_of digits
+zulu_ends bytes rest e = rw e (record { no_mark = refl; no_digit = refl; no_number = refl; no_colon = refl })
 
-after : (text : List ℕ) (place c : ℕ) → place < length text → get_or text place 0 ≡ c → is_ascii_digit c ≡ false → ((c == dot) || (c == comma)) ≡ false → (c == colon) ≡ false → After text place
-after text place c lt e digit mark apart =
-    let o = other (get_or text place 0) c e digit mark apart in
-    record { within = lt; no_digit = o.0; no_mark = o.1; no_colon = o.2 }
+-- a sign is none of these bytes
+sign_apart : (mark : ℕ) (rest : List ℕ) → ((mark == plus) || (mark == hyphen)) ≡ true → (decimal_mark (mark ∷ rest) ≡ None) × (digits 1 (mark ∷ rest) ≡ None) × (digits 2 (mark ∷ rest) ≡ None) × (byte colon (mark ∷ rest) ≡ None) × (byte upper_z (mark ∷ rest) ≡ None)
+unfolding decimal_mark skip_of digits
+sign_apart mark rest marked =
+    let no_point : ((mark == 46) || (mark == 44)) ≡ false = grind (arith, nat_tests) in
+    let no_digit : is_ascii_digit mark ≡ false = grind (arith, nat_tests) in
+    let no_colon : (mark == colon) ≡ false = grind (arith, nat_tests) in
+    let no_zulu : (mark == upper_z) ≡ false = grind (arith, nat_tests) in
+    rw (no_point, no_digit, no_colon, no_zulu) (refl, refl, refl, refl, refl)
 
-pub after_offset : (width : ℕ) (text : List ℕ) (place : ℕ) (o : ℤ) → SaysOffset width text place o → After text place
-after_offset width text place o (inl z) = after text place upper_z (omega (arith, z.whole)) z.zulu refl refl refl
-after_offset width text place o (inr s) = elim s.sign_is [
-  | inl e ↦ after text place plus (omega (arith, s.whole)) e refl refl refl
-  | inr e ↦ after text place hyphen (omega (arith, s.whole)) e refl refl refl
-]
+sign_ends : (bytes rest : List ℕ) (mark : ℕ) → SignIs bytes mark rest → EndTime bytes × (byte upper_z bytes ≡ None)
+sign_ends bytes rest mark s =
+    let a = sign_apart mark rest s.is in
+    rw s.all (record { no_mark = a.0; no_digit = a.1; no_number = a.2; no_colon = a.3 }, a.4)
 
-pub no_digits : (text : List ℕ) (place : ℕ) → After text place → digits 1 (drop place text) ≡ None
-no_digits text place b =
-    let long : leb 1 (length (drop place text)) ≡ true = at_least 1 (length (drop place text)) (omega (arith, length-drop place text, b.within)) in
-    digits_one (drop place text) ∙ rw (long, first_at text place, b.no_digit) refl
+pub zone_ends : (e : Ending) (bytes : List ℕ) (v : Values) → Says (zone_parts e) bytes v [] → EndTime bytes
+zone_ends Zulu bytes v says = zulu_ends bytes says.0 (byte_is upper_z bytes says.0 (literal_said _ _ says.1))
+zone_ends Colon bytes v says = (sign_ends bytes says.0 (v field.Sign) (sign_is bytes says.0 (v field.Sign) says.1)).0
+zone_ends Plain bytes v says = (sign_ends bytes says.0 (v field.Sign) (sign_is bytes says.0 (v field.Sign) says.1)).0
 
-pub no_mark : (text : List ℕ) (place : ℕ) → After text place → decimal_mark (drop place text) ≡ None
-unfolding decimal_mark skip_of
-no_mark text place b = rw (drop_more text place 0 b.within) (rw b.no_mark refl)
+-- an offset with a colon ends a text of the extended format alone
+abbrev pub may_end : Bool → Ending → Bool
+may_end is_extended Zulu = true
+may_end is_extended Plain = true
+may_end is_extended Colon = is_extended
 
-pub no_colon : (text : List ℕ) (place : ℕ) → After text place → byte colon (drop place text) ≡ None
-no_colon text place b = other_byte text place colon b.within b.no_colon
-
--- ---- offsets
-
-plus_byte : (b : ℕ) → b ≡ plus → ((b == plus) || (b == hyphen)) ≡ true
-plus_byte b e = rw e refl
-
-minus_byte : (b : ℕ) → b ≡ hyphen → ((b == plus) || (b == hyphen)) ≡ true
-minus_byte b e = rw e refl
-
-is_sign : (width : ℕ) (text : List ℕ) (place : ℕ) (o : ℤ) → (s : SaysSigned width text place o) → ((get_or text place 0 == plus) || (get_or text place 0 == hyphen)) ≡ true
-is_sign width text place o s = elim s.sign_is [ inl e ↦ plus_byte _ e | inr e ↦ minus_byte _ e ]
-
-no_zulu : (b : ℕ) → ((b == plus) || (b == hyphen)) ≡ true → b ≡ upper_z → ⊥
-no_zulu b sign e = absurd (grind (arith, nat_tests, sign, e))
+pub may_be : (has_colon is_extended : Bool) → (has_colon ≡ true → is_extended ≡ true) → (e : Ending) → is_written has_colon e ≡ true → may_end is_extended e ≡ true
+may_be has_colon is_extended extended Zulu w = refl
+may_be has_colon is_extended extended Plain w = refl
+may_be has_colon is_extended extended Colon w = extended w
 
 colon_there : (bytes rest : List ℕ) → byte colon bytes ≡ Some (tt, rest) → maybe_colon Extended bytes ≡ Some (tt, rest)
 colon_there bytes rest e = rw e refl
 
-signed_said : (b : Bool) (text : List ℕ) (place : ℕ) (o : ℤ) → SaysSigned (width_of b) text place o → IsAllOffset (offset (kind_of b) (drop place text)) o
-signed_said true text place o s =
-    let third : place + 1 + 2 ≡ place + 3 = omega arith in
-    let fourth : place + 1 + 3 ≡ place + 4 = omega arith in
-    let next : place + 3 + 1 ≡ place + 4 = omega arith in
-    let none : drop (place + 1 + 3 + 2) text ≡ [] = drop_all (place + 1 + 3 + 2) text (omega (arith, s.whole)) in
-    let hour = rw third at s.hour_is in
-    let mark = colon_there (drop (place + 3) text) (drop (place + 4) text) (rw next at (byte_there text (place + 3) colon (omega (arith, s.whole)) (s.colon (lit< tt)))) in
-    let minute = rw fourth at (rw none at s.minute_is) in
-    let sign = is_sign 1 text place o s in
-    offset_read Extended (drop place text) (drop (place + 1) text) (drop (place + 3) text) (drop (place + 4) text) (get_or text place 0) s.hour s.minute o (other_byte text place upper_z (omega (arith, s.whole)) (no_zulu _ sign)) (sign_there text place (omega (arith, s.whole)) sign) hour mark minute s.value
-signed_said false text place o s =
-    let third : place + 1 + 2 ≡ place + 3 = omega arith in
-    let zero : place + 0 + 3 ≡ place + 3 = omega arith in
-    let none : drop (place + 3 + 2) text ≡ [] = drop_all (place + 3 + 2) text (omega (arith, s.whole)) in
-    let hour = rw third at s.hour_is in
-    let minute = rw none at (rw zero at s.minute_is) in
-    let sign = is_sign 0 text place o s in
-    offset_read Basic (drop place text) (drop (place + 1) text) (drop (place + 3) text) (drop (place + 3) text) (get_or text place 0) s.hour s.minute o (other_byte text place upper_z (omega (arith, s.whole)) (no_zulu _ sign)) (sign_there text place (omega (arith, s.whole)) sign) hour refl minute s.value
+no_colon_there : (is_extended : Bool) (bytes : List ℕ) → byte colon bytes ≡ None → maybe_colon (kind_of is_extended) bytes ≡ Some (tt, bytes)
+no_colon_there true bytes none = rw none refl
+no_colon_there false bytes none = refl
 
-pub offset_said : (b : Bool) (text : List ℕ) (place : ℕ) (o : ℤ) → SaysOffset (width_of b) text place o → IsAllOffset (offset (kind_of b) (drop place text)) o
-offset_said b text place o (inl z) =
-    let none : drop (place + 1) text ≡ [] = drop_all (place + 1) text (omega (arith, z.whole)) in
-    zulu_read (kind_of b) (drop place text) o (rw none at (byte_there text place upper_z (omega (arith, z.whole)) z.zulu)) z.value
-offset_said b text place o (inr s) = signed_said b text place o s
+pub zone_read : (is_extended : Bool) (e : Ending) (bytes : List ℕ) (v : Values) (o : ℤ) → may_end is_extended e ≡ true → Says (zone_parts e) bytes v [] → HasOffset (is_zulu e) v o → IsAllOffset (offset (kind_of is_extended) bytes) o
+zone_read is_extended Zulu bytes v o may says value = zulu_read (kind_of is_extended) bytes o (rw says.2 at (literal_said _ _ says.1)) value
+zone_read true Colon bytes v o may says value =
+    let hour = says.2 in
+    let minute = hour.2.2 in
+    let other = (sign_ends bytes says.0 (v field.Sign) (sign_is bytes says.0 (v field.Sign) says.1)).1 in
+    offset_read Extended bytes says.0 hour.0 hour.2.0 (v field.Sign) (v field.OffsetHour) (v field.OffsetMinute) o other says.1 hour.1 (colon_there hour.0 hour.2.0 (literal_said _ _ hour.2.1)) (rw minute.2 at minute.1) value.1
+zone_read is_extended Plain bytes v o may says value =
+    let hour = says.2 in
+    let minute = hour.2 in
+    let other = (sign_ends bytes says.0 (v field.Sign) (sign_is bytes says.0 (v field.Sign) says.1)).1 in
+    let no_mark = no_colon_there is_extended hour.0 (no_byte colon 2 hour.0 (v field.OffsetMinute, minute.0) refl (lit≤ tt) minute.1) in
+    offset_read (kind_of is_extended) bytes says.0 hour.0 hour.0 (v field.Sign) (v field.OffsetHour) (v field.OffsetMinute) o other says.1 hour.1 no_mark (rw minute.2 at minute.1) value.1
+zone_read false Colon bytes v o may says value = absurd cc
 
--- ---- fractions
+-- ---- the fraction
 
-fraction_ends : (bytes : List ℕ) (count n : ℕ) → 0 < count → WriteFraction bytes count n → digits 1 (drop count bytes) ≡ None → fraction bytes ≡ Some (n, drop count bytes)
-unfolding fraction digit_run
-fraction_ends bytes count n some w ends =
-    let left : digit_count (drop count bytes) ≡ 0 = none_there (drop count bytes) ends in
-    let is : digit_count bytes ≡ count = omega (arith, count_drop count bytes w.enough, left) in
-    let there : (count == 0) ≡ false = grind (arith, nat_tests) in
-    rw (is, there, w.value) refl
-
-mark_at : (text : List ℕ) (place : ℕ) → place < length text → get_or text place 0 ≡ dot → decimal_mark (drop place text) ≡ Some (tt, drop (place + 1) text)
+dot_there : (bytes after : List ℕ) → bytes ≡ dot ∷ after → decimal_mark bytes ≡ Some (tt, after)
 unfolding decimal_mark skip_of
-mark_at text place lt is = rw (drop_more text place 0 lt, is) refl
+dot_there bytes after e = rw e refl
 
-nothing_written : (bytes : List ℕ) (count n : ℕ) → count ≡ 0 → WriteFraction bytes count n → n ≡ 0
-nothing_written bytes count n e w = w.value ∙ rw e refl
+some_digits : (count : ℕ) → (suc count ≡ 1 → ⊥) → 0 < count
+some_digits zero more = absurd (more refl)
+some_digits (suc count) more = omega arith
 
-pub fraction_said : (text : List ℕ) (place end count n : ℕ) → HasFraction text place end count n → After text end → subsecond (drop place text) ≡ Some (n, drop end text)
-fraction_said text place end count n h f = elim (cases_lt 0 count) [
-  | inl some ↦
-      let is : place + 1 + count ≡ end = h.some some in
-      let first : end - count ≡ place + 1 = omega (arith, is) in
-      let rest : drop count (drop (place + 1) text) ≡ drop end text = drop-drop count (place + 1) text ∙ rw is refl in
-      let ends : digits 1 (drop count (drop (place + 1) text)) ≡ None = rw rest (no_digits text end f) in
-      let digits_are : fraction (drop (place + 1) text) ≡ Some (n, drop end text) = rw rest at (fraction_ends (drop (place + 1) text) count n some (rw first at h.writes) ends) in
-      short_subsecond (drop place text) (drop (place + 1) text) (drop end text) n (mark_at text place (omega (arith, is, f.within)) (h.point some)) digits_are (omega (arith, length-drop (place + 1) text, length-drop end text, h.few, is))
-  | inr none ↦
-      let zero : count ≡ 0 = omega (arith, none) in
-      rw (nothing_written _ count n zero h.writes, h.none zero) (no_subsecond (drop end text) (no_mark text end f))
-]
+short_read : (bytes rest : List ℕ) (count n : ℕ) → 0 < count → count ≤ 9 → exact_fraction count bytes ≡ Some (n, rest) → digits 1 rest ≡ None → (fraction bytes ≡ Some (n, rest)) × (length bytes ≤ length rest + 9)
+short_read bytes rest count n some few e none =
+    let cut = (exact_said _ bytes rest count n refl e).2 in
+    (fraction_read bytes rest count n some e none, let long = length-drop count bytes in let same : length (drop count bytes) ≡ length rest = ap length cut in omega (arith, long, same, few))
 
--- where a fraction ends lies within the text
-pub reaches : (text : List ℕ) (place end count n : ℕ) → HasFraction text place end count n → place ≤ length text
-reaches text place end count n h = elim (cases_lt 0 count) [
-  | inl some ↦ omega (arith, h.some some, h.room)
-  | inr none ↦ let zero : count ≡ 0 = omega (arith, none) in omega (arith, h.none zero, h.room)
-]
+-- at most nine digits are the fraction
+pub short_fraction_read : (bytes rest : List ℕ) (v : Values) (count : ℕ) → (count ≡ 1 → ⊥) → count ≤ 10 → (count ≡ 0 → v field.Nanosecond ≡ 0) → Says (fraction_parts count) bytes v rest → EndTime rest → subsecond bytes ≡ Some (v field.Nanosecond, rest)
+short_fraction_read bytes rest v zero more few none says ends = rw (says, none refl) (no_subsecond rest ends.no_mark)
+short_fraction_read bytes rest v (suc count) more few none says ends =
+    let after = says.2 in
+    let read = short_read says.0 rest count (v field.Nanosecond) (some_digits count more) (omega (arith, few)) (rw after.2 at after.1) ends.no_digit in
+    short_subsecond bytes says.0 rest (v field.Nanosecond) (dot_there bytes says.0 (byte_is dot bytes says.0 (literal_said _ _ says.1))) read.0 read.1
 
--- so many digits, more than nine, and an offset after them
-pub long_said : (text : List ℕ) (place end n : ℕ) → place + 10 < end → end < length text → get_or text place 0 ≡ dot → After text end → WriteFraction (drop (place + 1) text) (end - (place + 1)) n → subsecond (drop place text) ≡ Some (next_if (leb 53 (get_or text (place + 10) 0)) n, drop end text)
-long_said text place end n more lt point f w =
-    let from = drop (place + 1) text in
-    let count = end - (place + 1) in
-    let on : place + 1 + count ≡ end = omega arith in
-    let rest : drop count from ≡ drop end text = drop-drop count (place + 1) text ∙ rw on refl in
-    let left : digit_count (drop count from) ≡ 0 = none_there (drop count from) (rw rest (no_digits text end f)) in
-    let is : digit_count from ≡ count = omega (arith, count_drop count from w.enough, left) in
-    let long : length (take count from) ≡ count = length-take-le count from (omega (arith, length-drop (place + 1) text)) in
-    let place_is : place + 1 + 9 ≡ place + 10 = omega arith in
-    let tenth : get_or (take count from) 9 0 ≡ get_or text (place + 10) 0 = get_or-take count from 9 0 (omega (arith, more)) ∙ get_or-drop (place + 1) text 9 0 ∙ rw place_is refl in
-    let value : rounded_part_of 1_000_000_000 (take count from) ≡ next_if (leb 53 (get_or text (place + 10) 0)) n = long_rounded (take count from) (omega (arith, long, more)) (count_prefix from count w.enough) ∙ rw (tenth, w.value) refl in
-    long_subsecond (drop place text) from (drop end text) count _ (mark_at text place (omega arith) point) (omega (arith, more)) is rest value
+rounded_read : (bytes rest : List ℕ) (count n : ℕ) → 9 < count → exact_fraction count bytes ≡ Some (n, rest) → digits 1 rest ≡ None → (digit_count bytes ≡ count) × (drop count bytes ≡ rest) × (rounded_part_of 1_000_000_000 (take count bytes) ≡ next_if (leb 53 (get_or bytes 9 0)) n)
+rounded_read bytes rest count n many e none =
+    let said = exact_said _ bytes rest count n refl e in
+    let left : digit_count (drop count bytes) ≡ 0 = rw said.2 (none_there rest none) in
+    let is : digit_count bytes ≡ count = omega (arith, count_drop count bytes said.0, left) in
+    let long : length (take count bytes) ≡ count = length-take-le count bytes (omega (arith, said.0, digit_count_within bytes)) in
+    let tenth : get_or (take count bytes) 9 0 ≡ get_or bytes 9 0 = get_or-take count bytes 9 0 many in
+    (is, said.2, long_rounded (take count bytes) (omega (arith, long, many)) (count_prefix bytes count said.0) ∙ rw (tenth, said.1) refl)
 
--- what no time has begins the same rest
-pub after_rest : (text other : List ℕ) (place there : ℕ) → drop place text ≡ drop there other → place < length text → After other there → After text place
-after_rest text other place there same lt f =
-    let e : get_or text place 0 ≡ get_or other there 0 = sym (first_at text place) ∙ ap (λ (xs : List ℕ). get_or xs 0 0) same ∙ first_at other there in
-    record { within = lt; no_digit = rw e f.no_digit; no_mark = rw e f.no_mark; no_colon = λ is. f.no_colon (sym e ∙ is) }
+-- of more the tenth rounds it
+pub long_fraction_read : (bytes rest : List ℕ) (v : Values) (count : ℕ) → 10 < count → Says (fraction_parts count) bytes v rest → EndTime rest → subsecond bytes ≡ Some (next_if (leb 53 (get_or bytes 10 0)) (v field.Nanosecond), rest)
+long_fraction_read bytes rest v zero many says ends = absurd (omega (arith, many))
+long_fraction_read bytes rest v (suc count) many says ends =
+    let after = says.2 in
+    let point = byte_is dot bytes says.0 (literal_said _ _ says.1) in
+    let tenth : get_or bytes 10 0 ≡ get_or says.0 9 0 = rw point refl in
+    let read = rounded_read says.0 rest count (v field.Nanosecond) (omega (arith, many)) (rw after.2 at after.1) ends.no_digit in
+    rw tenth (long_subsecond bytes says.0 rest count _ (dot_there bytes says.0 point) (omega (arith, many)) read.0 read.1 read.2)
+
+-- ---- the time of day
+
+-- after a second these are its nanoseconds, and without one nothing stands here
+abbrev pub ReadsFraction : Bool → List ℕ → ℕ → List ℕ → Type 0
+ReadsFraction true bytes nanosecond rest = subsecond bytes ≡ Some (nanosecond, rest)
+ReadsFraction false bytes nanosecond rest = (bytes ≡ rest) × (nanosecond ≡ 0)
+
+pub clock_read : (is_extended has_second : Bool) (bytes after rest : List ℕ) (v : Values) (nanosecond : ℕ) → Says (clock_parts is_extended has_second) bytes v after → ReadsFraction has_second after nanosecond rest → EndTime rest → v field.Hour ≤ 23 → v field.Minute ≤ 59 → second_if has_second (v field.Second) ≤ 60 → nanosecond < 1_000_000_000
+    → time (kind_of is_extended) true bytes ≡ Some ((time_of (v field.Hour) (v field.Minute) (second_if has_second (v field.Second)) nanosecond, kind_of is_extended), rest)
+clock_read true true bytes after rest v n says seconds ends hour_few minute_few second_few few =
+    let hour = says.2 in
+    let minute = hour.2.2 in
+    let second = minute.2.2 in
+    of_fraction after rest n seconds (λ run read is.
+    rw is at (time_of_pieces bytes says.0 hour.0 hour.2.0 minute.0 minute.2.0 after rest (v field.Hour) (v field.Minute) (v field.Second) run (literal_said _ _ says.1) hour.1 (literal_said _ _ hour.2.1) minute.1 (literal_said _ _ minute.2.1) (rw second.2 at second.1) read hour_few minute_few second_few (rw is few)))
+clock_read false true bytes after rest v n says seconds ends hour_few minute_few second_few few =
+    let hour = says.2 in
+    let minute = hour.2 in
+    let second = minute.2 in
+    of_fraction after rest n seconds (λ run read is.
+    rw is at (basic_time_of_pieces bytes says.0 hour.0 minute.0 after rest (v field.Hour) (v field.Minute) (v field.Second) run (literal_said _ _ says.1) hour.1 minute.1 (rw second.2 at second.1) read hour_few minute_few second_few (rw is few)))
+clock_read true false bytes after rest v n says seconds ends hour_few minute_few second_few few =
+    let hour = says.2 in
+    let minute = hour.2.2 in
+    let last = rw (minute.2 ∙ seconds.0) at minute.1 in
+    rw seconds.1 (minutes_of_pieces bytes says.0 hour.0 hour.2.0 rest (v field.Hour) (v field.Minute) (literal_said _ _ says.1) hour.1 (literal_said _ _ hour.2.1) last ends.no_mark ends.no_colon hour_few minute_few)
+clock_read false false bytes after rest v n says seconds ends hour_few minute_few second_few few =
+    let hour = says.2 in
+    let minute = hour.2 in
+    let last = rw (minute.2 ∙ seconds.0) at minute.1 in
+    rw seconds.1 (basic_minutes_of_pieces bytes says.0 hour.0 rest (v field.Hour) (v field.Minute) (literal_said _ _ says.1) hour.1 last ends.no_mark ends.no_number hour_few minute_few)
+
+-- it begins with a `T`
+pub designator_there : (is_extended has_second : Bool) (bytes after : List ℕ) (v : Values) → Says (clock_parts is_extended has_second) bytes v after → (rest : List ℕ) × (bytes ≡ time_designator ∷ rest)
+designator_there true true bytes after v says = (says.0, byte_is time_designator bytes says.0 (literal_said _ _ says.1))
+designator_there true false bytes after v says = (says.0, byte_is time_designator bytes says.0 (literal_said _ _ says.1))
+designator_there false true bytes after v says = (says.0, byte_is time_designator bytes says.0 (literal_said _ _ says.1))
+designator_there false false bytes after v says = (says.0, byte_is time_designator bytes says.0 (literal_said _ _ says.1))

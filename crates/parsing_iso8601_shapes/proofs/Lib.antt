@@ -1,4 +1,4 @@
-pub mod ClockLemmas
+pub mod DateLemmas
 pub mod DayLemmas
 pub mod EndLemmas
 pub mod FastDates
@@ -6,5 +6,4 @@ pub mod FastMoments
 pub mod FastOffsets
 pub mod FastTimes
 pub mod FormLemmas
-pub mod PlaceLemmas
-pub mod ReadLemmas
+pub mod SaysLemmas

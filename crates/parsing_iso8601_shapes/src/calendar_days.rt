@@ -4,7 +4,7 @@ ghost use Rattle.std.specs.Int.{IsInRange};
 ghost use Rattle.calendar_count.specs.Calendar.{days_in_year};
 ghost use Rattle.parsing_iso8601_shapes.specs.Days.{NamesOrdinal, NamesWeek, first_thursday_of, months_row, year_by};
 ghost use Rattle.parsing_iso8601.specs.Fractions as Fractions;
-ghost use Rattle.parsing_iso8601_shapes.specs.Forms.{NamesDate};
+ghost use Rattle.parsing_iso8601_shapes.specs.Layout.{NamesDate};
 ghost use Rattle.parsing_iso8601_shapes.specs.declared.form.Dating.TheVariants.{Ordinal, Week};
 
 use parsing_combinator::two_pairs_at;

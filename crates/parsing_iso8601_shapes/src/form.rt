@@ -1,9 +1,7 @@
 //! How the parts of a text stand in it.
-ghost use Rattle.std.specs.Prelude.{◌≡◌};
-ghost use Rattle.parsing_iso8601_shapes.specs.Forms.{IsCalendar, IsOrdinal, IsWeek};
-ghost use Rattle.parsing_iso8601_shapes.specs.declared.form.Dating.TheVariants.{Calendar, Ordinal, Week};
+ghost use Rattle.std.specs.Prelude.{◌≡◌, true, false};
 
-use parsing_places::Shape;
+use parsing_layout::Shape;
 
 /// What names the day of a date after its year.
 #[derive(Clone, Copy)]
@@ -16,13 +14,13 @@ pub(crate) enum Dating {
     Week,
 }
 
-/// Where the parts of a text stand, and what the numbers of its date are.
+/// The layout of a date and a time of day.
 #[derive(Clone, Copy)]
 pub(crate) struct Form {
     pub(crate) shape: Shape,
     pub(crate) dating: Dating,
-    ghost year_is: { shape.year ≡ 0 },
-    ghost calendar: { dating ≡ Calendar → IsCalendar shape },
-    ghost ordinal: { dating ≡ Ordinal → IsOrdinal shape },
-    ghost week: { dating ≡ Week → IsWeek shape },
+    /// Whether hyphens and colons stand between the numbers.
+    pub(crate) is_extended: bool,
+    ghost tail: { shape.has_tail ≡ true },
+    ghost numbered: { shape.month_is_named ≡ false },
 }

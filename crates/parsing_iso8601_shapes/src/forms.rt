@@ -1,10 +1,12 @@
 //! The forms of usual texts.
-ghost use Rattle.std.specs.Prelude.{◌≡◌, ◌<◌, ◌≤◌, length};
-ghost use Rattle.parsing_places.specs.End.{width_of};
-ghost use Rattle.parsing_iso8601_shapes.specs.Forms as Forms;
+ghost use Rattle.std.specs.Prelude.{◌≡◌, ◌<◌, ◌≤◌, length, true};
+ghost use Rattle.parsing_layout.specs.Shape.{fits};
+ghost use Rattle.parsing_iso8601_shapes.specs.Layout as Layout;
+ghost use Rattle.parsing_iso8601_shapes.specs.Layout.{front_parts};
 
 use crate::form::{Dating, Form};
-use parsing_places::{LANES, Moves, Number, Shape, Window};
+use parsing_layout::Shape;
+use parsing_places::{LANES, Moves, Window, Windows};
 
 // Where the parts of a text stand, with two windows of sixteen bytes: the first ones, and those from `back_at` on.
 struct Row {
@@ -21,8 +23,6 @@ struct Row {
     back_at: usize,
     // How many bytes there are up to a fraction or an offset.
     length: usize,
-    // Where the `T` stands.
-    clock: usize,
     dating: Dating,
     is_extended: bool,
 }
@@ -44,7 +44,6 @@ static TABLE: [Row; ROWS] = [
         back_lanes: *b"\x80\x80\x80\x80\x80\x80\x80\x80\x80\x80\x80\x80\x80\x80\x80\x80",
         back_at: 0,
         length: 15,
-        clock: 8,
         dating: Dating::Calendar,
         is_extended: false,
     },
@@ -58,7 +57,6 @@ static TABLE: [Row; ROWS] = [
         back_lanes: *b"\x80\x80\x80\x80\x80\x80\x80\x80\x80\x80\x80\x80\x80\x80\x0e\x0f",
         back_at: 3,
         length: 19,
-        clock: 10,
         dating: Dating::Calendar,
         is_extended: true,
     },
@@ -72,7 +70,6 @@ static TABLE: [Row; ROWS] = [
         back_lanes: *b"\x80\x80\x80\x80\x80\x80\x80\x80\x80\x80\x80\x80\x80\x80\x80\x80",
         back_at: 0,
         length: 14,
-        clock: 7,
         dating: Dating::Ordinal,
         is_extended: false,
     },
@@ -86,7 +83,6 @@ static TABLE: [Row; ROWS] = [
         back_lanes: *b"\x80\x80\x80\x80\x80\x80\x80\x80\x80\x80\x80\x80\x80\x80\x80\x0f",
         back_at: 1,
         length: 17,
-        clock: 8,
         dating: Dating::Ordinal,
         is_extended: true,
     },
@@ -100,7 +96,6 @@ static TABLE: [Row; ROWS] = [
         back_lanes: *b"\x80\x80\x80\x80\x80\x80\x80\x80\x80\x80\x80\x80\x80\x80\x80\x80",
         back_at: 0,
         length: 15,
-        clock: 8,
         dating: Dating::Week,
         is_extended: false,
     },
@@ -114,7 +109,6 @@ static TABLE: [Row; ROWS] = [
         back_lanes: *b"\x80\x80\x80\x80\x80\x80\x80\x80\x80\x80\x80\x80\x80\x80\x0e\x0f",
         back_at: 3,
         length: 19,
-        clock: 10,
         dating: Dating::Week,
         is_extended: true,
     },
@@ -128,7 +122,6 @@ static TABLE: [Row; ROWS] = [
         back_lanes: *b"\x80\x80\x80\x80\x80\x80\x80\x80\x80\x80\x80\x80\x80\x80\x80\x80",
         back_at: 0,
         length: 13,
-        clock: 8,
         dating: Dating::Calendar,
         is_extended: false,
     },
@@ -142,7 +135,6 @@ static TABLE: [Row; ROWS] = [
         back_lanes: *b"\x80\x80\x80\x80\x80\x80\x80\x80\x80\x80\x80\x80\x80\x80\x80\x80",
         back_at: 0,
         length: 16,
-        clock: 10,
         dating: Dating::Calendar,
         is_extended: true,
     },
@@ -156,7 +148,6 @@ static TABLE: [Row; ROWS] = [
         back_lanes: *b"\x80\x80\x80\x80\x80\x80\x80\x80\x80\x80\x80\x80\x80\x80\x80\x80",
         back_at: 0,
         length: 12,
-        clock: 7,
         dating: Dating::Ordinal,
         is_extended: false,
     },
@@ -170,7 +161,6 @@ static TABLE: [Row; ROWS] = [
         back_lanes: *b"\x80\x80\x80\x80\x80\x80\x80\x80\x80\x80\x80\x80\x80\x80\x80\x80",
         back_at: 0,
         length: 14,
-        clock: 8,
         dating: Dating::Ordinal,
         is_extended: true,
     },
@@ -184,7 +174,6 @@ static TABLE: [Row; ROWS] = [
         back_lanes: *b"\x80\x80\x80\x80\x80\x80\x80\x80\x80\x80\x80\x80\x80\x80\x80\x80",
         back_at: 0,
         length: 13,
-        clock: 8,
         dating: Dating::Week,
         is_extended: false,
     },
@@ -198,45 +187,16 @@ static TABLE: [Row; ROWS] = [
         back_lanes: *b"\x80\x80\x80\x80\x80\x80\x80\x80\x80\x80\x80\x80\x80\x80\x80\x80",
         back_at: 0,
         length: 16,
-        clock: 10,
         dating: Dating::Week,
         is_extended: true,
     },
 ];
 
-// Whether a date names a day of a month, in two digits.
-#[inline(always)]
-fn is_calendar(dating: Dating) -> bool
-    ensures { result ≡ Forms.is_calendar dating }
-{
-    matches!(dating, Dating::Calendar)
-}
-
-// How many bytes a hyphen or a colon takes, if there are such marks.
-#[inline(always)]
-fn mark_length(is_extended: bool) -> usize
-    ensures { result ≡ width_of is_extended }
-{
-    if is_extended { 1 } else { 0 }
-}
-
-// Where the last digit of the first number stands after a year.
-#[inline(always)]
-fn first_number_at(dating: Dating, mark: usize) -> usize
-    requires { mark ≤ 1 }
-    ensures { result ≡ Forms.first_number_at dating mark }
-{
-    match dating {
-        Dating::Calendar | Dating::Ordinal => 5 + mark,
-        Dating::Week => 6 + mark,
-    }
-}
-
 // Which row of the table has a form, with a second or without.
 #[inline(always)]
 fn row_of(form: usize, has_second: bool) -> usize
     requires { form < FORMS }
-    ensures row { result ≡ Forms.row_of form has_second }
+    ensures row { result ≡ Layout.row_of form has_second }
     ensures bound { result < ROWS }
 {
     if has_second { form } else { FORMS + form }
@@ -246,42 +206,34 @@ fn row_of(form: usize, has_second: bool) -> usize
 #[inline(always)]
 pub(crate) fn form_at(form: usize, has_second: bool) -> Form
     requires { form < FORMS }
+    ensures { fits result.shape (front_parts result.dating result.is_extended has_second) ≡ true }
 {
     let row = &TABLE[row_of(form, has_second)];
-    let clock = row.clock;
-    let mark = mark_length(row.is_extended);
     Form {
         shape: Shape {
-            prefix: Window {
-                low: row.low,
-                high: row.above,
-                taken: Moves { lanes: row.lanes },
-            },
-            back: Window {
-                low: row.back_low,
-                high: row.back_above,
-                taken: Moves {
-                    lanes: row.back_lanes,
+            windows: Windows {
+                prefix: Window {
+                    low: row.low,
+                    high: row.above,
+                    taken: Moves { lanes: row.lanes },
                 },
+                back: Window {
+                    low: row.back_low,
+                    high: row.back_above,
+                    taken: Moves {
+                        lanes: row.back_lanes,
+                    },
+                },
+                back_at: row.back_at,
             },
             length: row.length,
-            back_at: row.back_at,
+            has_tail: true,
             year: 0,
-            high: Number {
-                has_tens: true,
-                place: first_number_at(row.dating, mark),
-            },
-            low: Number {
-                has_tens: is_calendar(row.dating),
-                place: clock - 1,
-            },
-            hour: clock + 1,
-            minute: clock + 3 + mark,
-            has_second,
-            second: clock + 5 + 2 * mark,
-            has_colon: row.is_extended,
+            month_is_named: false,
+            month: 0,
         },
         dating: row.dating,
+        is_extended: row.is_extended,
     }
 }
 

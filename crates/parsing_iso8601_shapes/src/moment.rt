@@ -1,17 +1,17 @@
 //! The moment that a text names.
-ghost use Rattle.std.specs.Prelude.{◌≡◌, ◌<◌, IfSome, Some, drop};
-ghost use Rattle.parsing_combinator.specs.Pieces as Pieces;
+ghost use Rattle.std.specs.Prelude.{◌≡◌, ◌<◌, IfSome, true};
 ghost use Rattle.parsing_fields.specs.Moment.{moment_of};
-ghost use Rattle.parsing_iso8601_shapes.specs.Forms.{AreDated};
+ghost use Rattle.parsing_layout.specs.Shape.{fits};
+ghost use Rattle.parsing_iso8601_shapes.specs.Layout.{AreDated, front_parts};
 ghost use Rattle.parsing_iso8601.specs.Fractions.{next_if};
 ghost use Rattle.parsing_iso8601.specs.Moment.{IsOfOffset};
 
 use crate::calendar_days::{of_weeks, of_year};
 use crate::form::{Dating, Form};
 use crate::forms::{form_at, form_of};
-use parsing_combinator::nine_digits;
 use parsing_fields::{Fields, Fraction};
-use parsing_places::{LANES, Numbers, read_long, read_numbers};
+use parsing_layout::{Numbers, read_long_numbers, read_numbers};
+use parsing_places::LANES;
 use parsing_values::OffsetDateTime;
 
 // The fields of the numbers of a text, where their date is one of a form.
@@ -32,28 +32,29 @@ fn fields_of(dating: Dating, numbers: Numbers) -> Option<Fields>
     }
 }
 
-// The fields of a text that has a form.
+// The fields of a text that has a form, and whose offset has a colon or none.
 #[inline(always)]
-fn read_form(form: &Form, input: &[u8]) -> Option<Fields>
+fn read_form(form: &Form, has_colon: bool, has_second: bool, input: &[u8]) -> Option<Fields>
+    requires made { fits form.now.shape (front_parts form.now.dating form.now.is_extended has_second) ≡ true }
+    requires colon { has_colon ≡ true → form.now.is_extended ≡ true }
     ensures { IfSome result (λ fields. IsOfOffset input.now (moment_of fields)) }
 {
-    let numbers = read_numbers(&form.shape, input)?;
+    let numbers = read_numbers(&form.shape, has_colon, has_second, input)?;
     let fields = fields_of(form.dating, numbers)?;
     Some(fields)
 }
 
-// A fraction with these nine digits, or the next one: after the last one of a second there is none.
+// A fraction, or the next one: after the last one of a second there is none.
 #[inline(always)]
-fn rounded(fraction: Fraction, digits: &[u8], is_up: bool) -> Option<Fraction>
-    requires digits { Pieces.digits 9 digits.now ≡ Some (fraction, drop 9 digits.now) }
-    requires bound { fraction < 1_000_000_000 }
+fn rounded(fraction: Fraction, is_up: bool) -> Option<Fraction>
+    requires { fraction < 1_000_000_000 }
     ensures value { IfSome result (λ f. f ≡ next_if is_up fraction) }
     ensures bound { IfSome result (λ f. f < 1_000_000_000) }
 {
     if !is_up {
         return Some(fraction);
     }
-    let (nanosecond, _) = nine_digits(digits)?;
+    let nanosecond = fraction.nanosecond();
     if nanosecond >= 999_999_999 {
         return None;
     }
@@ -63,12 +64,12 @@ fn rounded(fraction: Fraction, digits: &[u8], is_up: bool) -> Option<Fraction>
 // The fields of a text that has a form, with more than nine digits of a fraction: the tenth one rounds it.
 #[inline(always)]
 fn read_long_form(form: &Form, input: &[u8]) -> Option<Fields>
+    requires { fits form.now.shape (front_parts form.now.dating form.now.is_extended true) ≡ true }
     ensures { IfSome result (λ fields. IsOfOffset input.now (moment_of fields)) }
 {
-    let mut numbers = read_long(&form.shape, input)?;
-    let point = form.shape.length;
-    let is_up = input[point + 10] >= b'5';
-    numbers.fraction = rounded(numbers.fraction, &input[point + 1..], is_up)?;
+    let mut numbers = read_long_numbers(&form.shape, form.is_extended, input)?;
+    let is_up = input[form.shape.length + 10] >= b'5';
+    numbers.fraction = rounded(numbers.fraction, is_up)?;
     let fields = fields_of(form.dating, numbers)?;
     Some(fields)
 }
@@ -84,7 +85,8 @@ pub fn read_usual_fields(input: &[u8]) -> Option<Fields>
     if input.len() < LANES {
         return None;
     }
-    read_form(&form_at(form_of(input), true), input)
+    let form = form_at(form_of(input), true);
+    read_form(&form, form.is_extended, true, input)
 }
 
 /// The fields of a text without a second, where the fast way finds them: `None` says nothing of the text.
@@ -95,11 +97,12 @@ pub fn read_fields_to_minute(input: &[u8]) -> Option<Fields>
     if input.len() < LANES {
         return None;
     }
-    read_form(&form_at(form_of(input), false), input)
+    let form = form_at(form_of(input), false);
+    read_form(&form, form.is_extended, false, input)
 }
 
-/// The fields of a text with more than nine digits of a fraction of a second, where the fast way finds them: `None` says nothing
-/// of the text.
+/// The fields of a text with more than nine digits of a fraction of a second, or with an offset that has no colon after an extended
+/// date, where the fast way finds them: `None` says nothing of the text.
 #[inline(always)]
 pub fn read_rare_fields(input: &[u8]) -> Option<Fields>
     ensures { IfSome result (λ fields. IsOfOffset input.now (moment_of fields)) }
@@ -107,7 +110,11 @@ pub fn read_rare_fields(input: &[u8]) -> Option<Fields>
     if input.len() < LANES {
         return None;
     }
-    read_long_form(&form_at(form_of(input), true), input)
+    let form = form_at(form_of(input), true);
+    match read_long_form(&form, input) {
+        Some(fields) => Some(fields),
+        None => read_form(&form, false, true, input),
+    }
 }
 
 // The fields of a text of one of these two kinds, in a call of its own, so that `read_fields` stays small.

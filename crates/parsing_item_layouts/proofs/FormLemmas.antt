@@ -38,7 +38,7 @@ use Rattle.parsing_layout.specs.declared.parts.Part.TheVariants as part
 use Rattle.parsing_layout.specs.declared.stretch.Kind.TheVariants as kind
 use Rattle.parsing_layout.proofs.LayoutLemmas.{numbered}
 use Rattle.parsing_layout.proofs.ShapeLemmas.{digits_hold, spaced_hold, taken_cuts}
-use Rattle.parsing_item_layouts.specs.Forms.{Piece, Form, IsPiece, IsFormed, padded_part, padded_bytes, fraction_part, signed_form, full_year, year_form, century_form, timestamp_form, one, some_bytes, form_of_time, form_of_year, form_of}
+use Rattle.parsing_item_layouts.specs.Forms.{Piece, Form, IsPiece, IsFormed, padded_part, padded_bytes, fraction_part, signed_form, full_year, year_form, century_form, some_digits, timestamp_form, hour_form, one, some_bytes, form_of_time, form_of_year, form_of}
 use Rattle.parsing_item_layouts.specs.declared.forms.Piece.TheVariants as piece
 use Rattle.parsing_item_layouts.specs.declared.forms.Form.TheVariants as form
 
@@ -86,7 +86,10 @@ padded_cut padding.None n m least whole le exact = taken_cuts (λ place c. is_as
 exact_cut : (p : Padding) (n : ℕ) → Cuts (padded_bytes p n true) (taken (padded p n n))
 exact_cut p n = padded_cut p n n n true (omega arith) (λ e. (refl, refl))
 
-digits_cut : (most : ℕ) → Cuts (piece.Bytes (at_least kind.Digit 1)) (taken (digits_between 1 most))
+run_cut : (f : Field) (most : ℕ) → Cuts (piece.Part (part.Run f most)) (taken (digits_between 1 most))
+run_cut f most line = part_goes (part.Run f most) line (taken (digits_between 1 most) line) refl
+
+digits_cut : (most : ℕ) → Cuts some_digits (taken (digits_between 1 most))
 digits_cut most = taken_cuts (λ place c. is_ascii_digit c) 1 false (digits_between 1 most) (digits_hold (digits_value 10) 1 most 1 false (omega arith) (λ e. absurd cc))
 
 one_digit : Cuts (piece.Bytes (exactly kind.Digit 1)) (taken (digits_between 1 1))
@@ -180,15 +183,15 @@ century_goes says fault p mandatory extended line =
     kept_rest (IsFormed (century_form p mandatory extended) line) says fault (taken (century p mandatory extended) line)
     (rw (taken_century p mandatory extended line) (by_sign_goes mandatory (padded_bytes p 2 (not extended)) (padded_bytes p 1 false) (taken (padded p 2 (if extended then 4 else 2))) (taken (padded p 1 2)) line (sign line) (after_century p extended) (padded_cut p 1 2 1 false (omega arith) (λ e. absurd cc)) refl))
 
-timestamp_goes : (says : Bool × ℕ → Option Read) (fault : Fault) (mandatory : Bool) (most : ℕ) (line : List ℕ) → IfOk (piece_or fault (kept says (taken (timestamp mandatory most) line))) (λ x. IsFormed (timestamp_form mandatory) line x.1)
-timestamp_goes says fault mandatory most line =
-    kept_rest (IsFormed (timestamp_form mandatory) line) says fault (taken (timestamp mandatory most) line)
-    (rw (taken_timestamp mandatory most line) (by_sign_goes mandatory (piece.Bytes (at_least kind.Digit 1)) (piece.Bytes (at_least kind.Digit 1)) (taken (digits_between 1 most)) (taken (digits_between 1 most)) line (sign line) (digits_cut most) (digits_cut most) refl))
+timestamp_goes : (says : Bool × ℕ → Option Read) (fault : Fault) (mandatory : Bool) (most : ℕ) (bare : Piece) (line : List ℕ) → Cuts bare (taken (digits_between 1 most)) → IfOk (piece_or fault (kept says (taken (timestamp mandatory most) line))) (λ x. IsFormed (timestamp_form mandatory bare) line x.1)
+timestamp_goes says fault mandatory most bare line h =
+    kept_rest (IsFormed (timestamp_form mandatory bare) line) says fault (taken (timestamp mandatory most) line)
+    (rw (taken_timestamp mandatory most line) (by_sign_goes mandatory some_digits bare (taken (digits_between 1 most)) (taken (digits_between 1 most)) line (sign line) (digits_cut most) h refl))
 
-hour_goes : (says : Bool × ℕ → Option Read) (fault : Fault) (p : Padding) (mandatory : Bool) (line : List ℕ) → IfOk (piece_or fault (kept says (taken (offset_hour p mandatory) line))) (λ x. IsFormed (signed_form mandatory (piece.Part (padded_part p field.OffsetHour)) (piece.Part (padded_part p field.OffsetHour))) line x.1)
+hour_goes : (says : Bool × ℕ → Option Read) (fault : Fault) (p : Padding) (mandatory : Bool) (line : List ℕ) → IfOk (piece_or fault (kept says (taken (offset_hour p mandatory) line))) (λ x. IsFormed (hour_form p mandatory) line x.1)
 hour_goes says fault p mandatory line =
-    kept_rest (IsFormed (signed_form mandatory (piece.Part (padded_part p field.OffsetHour)) (piece.Part (padded_part p field.OffsetHour))) line) says fault (taken (offset_hour p mandatory) line)
-    (rw (taken_offset_hour p mandatory line) (by_sign_goes mandatory (piece.Part (padded_part p field.OffsetHour)) (piece.Part (padded_part p field.OffsetHour)) (taken (padded p 2 2)) (taken (padded p 2 2)) line (sign line) (two_cut p field.OffsetHour) (two_cut p field.OffsetHour) refl))
+    kept_rest (IsFormed (hour_form p mandatory) line) says fault (taken (offset_hour p mandatory) line)
+    (rw (taken_offset_hour p mandatory line) (by_sign_goes mandatory (piece.Part (padded_part p field.OffsetHour)) (padded_bytes p 2 true) (taken (padded p 2 2)) (taken (padded p 2 2)) line (sign line) (two_cut p field.OffsetHour) (exact_cut p 2) refl))
 
 -- bytes that are passed over, in version 3 where whole characters are
 any_cut : (count : ℕ) (line : List ℕ) → IsFormed (some_bytes (exactly kind.Any count)) line (drop count line)
@@ -222,10 +225,10 @@ time_goes (component.Subsecond m) line = kept_rest (IsFormed (one (fraction_part
 time_goes (component.OffsetHour m) line = hour_goes (up_to 25 (λ negative hour. read.OffsetHour hour negative)) _ m.padding m.sign_is_mandatory line
 time_goes (component.OffsetMinute m) line = two_goes (between 0 59 read.OffsetMinute) _ m.padding field.OffsetMinute line
 time_goes (component.OffsetSecond m) line = bytes_go (between 0 59 read.OffsetSecond) _ m.padding 2 line
-time_goes (component.UnixTimestampSecond m) line = timestamp_goes (since_epoch read.Unix 1_000_000_000) _ m.sign_is_mandatory 14 line
-time_goes (component.UnixTimestampMillisecond m) line = timestamp_goes (since_epoch read.Unix 1_000_000) _ m.sign_is_mandatory 17 line
-time_goes (component.UnixTimestampMicrosecond m) line = timestamp_goes (since_epoch read.Unix 1_000) _ m.sign_is_mandatory 20 line
-time_goes (component.UnixTimestampNanosecond m) line = timestamp_goes (since_epoch read.Unix 1) _ m.sign_is_mandatory 23 line
+time_goes (component.UnixTimestampSecond m) line = timestamp_goes (since_epoch read.Unix 1_000_000_000) _ m.sign_is_mandatory 14 (piece.Part (part.Run field.Unix 14)) line (run_cut field.Unix 14)
+time_goes (component.UnixTimestampMillisecond m) line = timestamp_goes (since_epoch read.Unix 1_000_000) _ m.sign_is_mandatory 17 some_digits line (digits_cut 17)
+time_goes (component.UnixTimestampMicrosecond m) line = timestamp_goes (since_epoch read.Unix 1_000) _ m.sign_is_mandatory 20 some_digits line (digits_cut 20)
+time_goes (component.UnixTimestampNanosecond m) line = timestamp_goes (since_epoch read.Unix 1) _ m.sign_is_mandatory 23 some_digits line (digits_cut 23)
 time_goes (component.Ignore m) line = ignored_goes _ m.count line (nat_le m.count (length line))
 time_goes c line = anything line (reads_component c line)
 

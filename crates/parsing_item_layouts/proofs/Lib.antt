@@ -1,4 +1,4 @@
-mod FormLemmas
+pub mod FormLemmas
 pub mod FrontLemmas
 mod Ruled
 pub mod WalkLemmas

@@ -3,7 +3,7 @@ use Rattle.std.specs.Prelude.{◌≡◌, ◌⊎◌, ℕ, Bool, true, false, List
 use Rattle.std.specs.Result.{result_ok}
 use Rattle.parsing_layout.specs.Bounds.{Admits}
 use Rattle.parsing_record.specs.Meaning.{Meaning}
-use Rattle.parsing_record.specs.Record.{Record}
+use Rattle.parsing_components.specs.declared.fields.Record.{Record}
 use Rattle.parsing_record.specs.Whole.{whole}
 use Rattle.parsing_item_layouts.specs.declared.first_bounds.FirstBounds.{FirstBounds}
 

@@ -92,8 +92,15 @@ year_form p mandatory extended bare = signed_form mandatory (padded_bytes p 4 (n
 abbrev pub century_form : Padding → Bool → Bool → Form
 century_form p mandatory extended = signed_form mandatory (padded_bytes p 2 (not extended)) (padded_bytes p 1 false)
 
-abbrev pub timestamp_form : Bool → Form
-timestamp_form mandatory = signed_form mandatory (piece.Bytes (at_least kind.Digit 1)) (piece.Bytes (at_least kind.Digit 1))
+abbrev pub some_digits : Piece
+some_digits = piece.Bytes (at_least kind.Digit 1)
+
+abbrev pub timestamp_form : Bool → Piece → Form
+timestamp_form mandatory bare = signed_form mandatory some_digits bare
+
+-- without a sign, the hours of an offset are no part
+abbrev pub hour_form : Padding → Bool → Form
+hour_form p mandatory = signed_form mandatory (piece.Part (padded_part p field.OffsetHour)) (padded_bytes p 2 true)
 
 abbrev pub one : Part → Form
 one p = form.Bare (piece.Part p)
@@ -111,13 +118,13 @@ form_of_time (component.Minute m) = one (padded_part m.padding field.Minute)
 form_of_time (component.Second m) = one (padded_part m.padding field.Second)
 form_of_time (component.Period m) = one (part.Name names.HalfOfDay (m.is_uppercase && m.case_sensitive))
 form_of_time (component.Subsecond m) = one (fraction_part m.digits)
-form_of_time (component.OffsetHour m) = signed_form m.sign_is_mandatory (piece.Part (padded_part m.padding field.OffsetHour)) (piece.Part (padded_part m.padding field.OffsetHour))
+form_of_time (component.OffsetHour m) = hour_form m.padding m.sign_is_mandatory
 form_of_time (component.OffsetMinute m) = one (padded_part m.padding field.OffsetMinute)
 form_of_time (component.OffsetSecond m) = form.Bare (padded_bytes m.padding 2 true)
-form_of_time (component.UnixTimestampSecond m) = timestamp_form m.sign_is_mandatory
-form_of_time (component.UnixTimestampMillisecond m) = timestamp_form m.sign_is_mandatory
-form_of_time (component.UnixTimestampMicrosecond m) = timestamp_form m.sign_is_mandatory
-form_of_time (component.UnixTimestampNanosecond m) = timestamp_form m.sign_is_mandatory
+form_of_time (component.UnixTimestampSecond m) = timestamp_form m.sign_is_mandatory (piece.Part (part.Run field.Unix 14))
+form_of_time (component.UnixTimestampMillisecond m) = timestamp_form m.sign_is_mandatory some_digits
+form_of_time (component.UnixTimestampMicrosecond m) = timestamp_form m.sign_is_mandatory some_digits
+form_of_time (component.UnixTimestampNanosecond m) = timestamp_form m.sign_is_mandatory some_digits
 form_of_time (component.Ignore m) = some_bytes (exactly kind.Any m.count)
 form_of_time other = some_bytes (at_least kind.Any 0)
 

@@ -1,6 +1,6 @@
 //! The form of the texts of each component.
 ghost use Rattle.std.specs.Prelude.{◌≡◌, ℕ, List};
-ghost use Rattle.parsing_item_layouts.specs.Forms.{HasForm, IsPiece, century_form, form_of, form_of_time, form_of_year, fraction_part, full_year, padded_bytes, padded_part, signed_form, timestamp_form, year_form};
+ghost use Rattle.parsing_item_layouts.specs.Forms.{HasForm, IsPiece, century_form, form_of, form_of_time, form_of_year, fraction_part, full_year, hour_form, padded_bytes, padded_part, signed_form, some_digits, timestamp_form, year_form};
 ghost use Rattle.parsing_layout.specs.Stretch.{IsCut};
 
 use description_items::Component;
@@ -113,7 +113,8 @@ fn century_form(padding: Padding, is_mandatory: bool, is_extended: bool) -> Form
 
 /// The form of all texts that a component reads, in all versions.
 pub fn form_of(component: &Component) -> Form
-    ensures { HasForm component.now result }
+    ensures form { result ≡ form_of component.now }
+    ensures all { HasForm component.now result }
 {
     form_of_date(component)
 }
@@ -191,14 +192,19 @@ fn form_of_time(component: &Component) -> Form
         Component::Subsecond(m) => fraction_part(m.digits),
         Component::OffsetMinute(m) => padded_part(m.padding, Field::OffsetMinute),
         Component::OffsetSecond(m) => return Form::Bare(padded_bytes(m.padding, 2, true)),
-        Component::OffsetHour(m) => {
-            let hour = Piece::Part(padded_part(m.padding, Field::OffsetHour));
-            return signed_form(m.sign_is_mandatory, hour, hour);
+        Component::OffsetHour(m) => return hour_form(m.padding, m.sign_is_mandatory),
+        Component::UnixTimestampSecond(m) => {
+            return timestamp_form(m.sign_is_mandatory, Piece::Part(Part::Run(Field::Unix, 14)));
         }
-        Component::UnixTimestampSecond(m) => return timestamp_form(m.sign_is_mandatory),
-        Component::UnixTimestampMillisecond(m) => return timestamp_form(m.sign_is_mandatory),
-        Component::UnixTimestampMicrosecond(m) => return timestamp_form(m.sign_is_mandatory),
-        Component::UnixTimestampNanosecond(m) => return timestamp_form(m.sign_is_mandatory),
+        Component::UnixTimestampMillisecond(m) => {
+            return timestamp_form(m.sign_is_mandatory, some_digits());
+        }
+        Component::UnixTimestampMicrosecond(m) => {
+            return timestamp_form(m.sign_is_mandatory, some_digits());
+        }
+        Component::UnixTimestampNanosecond(m) => {
+            return timestamp_form(m.sign_is_mandatory, some_digits());
+        }
         Component::Ignore(m) => {
             return Form::Bare(Piece::Bytes(Stretch::of(Kind::Any, usize::from(m.count))));
         }
@@ -207,12 +213,26 @@ fn form_of_time(component: &Component) -> Form
     Form::Bare(Piece::Part(part))
 }
 
-// A timestamp: digits, at least one.
-fn timestamp_form(is_mandatory: bool) -> Form
-    ensures { result ≡ timestamp_form is_mandatory }
+// Digits, at least one.
+fn some_digits() -> Piece
+    ensures { result ≡ some_digits }
 {
-    let digits = Piece::Bytes(Stretch::from(Kind::Digit, 1));
-    signed_form(is_mandatory, digits, digits)
+    Piece::Bytes(Stretch::from(Kind::Digit, 1))
+}
+
+// A timestamp after a sign, or without one. Seconds without a sign are a field; nothing else is, since a field has no unit.
+fn timestamp_form(is_mandatory: bool, bare: Piece) -> Form
+    ensures { result ≡ timestamp_form is_mandatory bare }
+{
+    signed_form(is_mandatory, some_digits(), bare)
+}
+
+// The hours of an offset. Without a sign they are no part: what an offset says is told by its sign.
+fn hour_form(padding: Padding, is_mandatory: bool) -> Form
+    ensures { result ≡ hour_form padding is_mandatory }
+{
+    let signed = Piece::Part(padded_part(padding, Field::OffsetHour));
+    signed_form(is_mandatory, signed, padded_bytes(padding, 2, true))
 }
 
 impl Piece {

@@ -5,7 +5,7 @@ use Rattle.datetime_wall.specs.Wall.{Shown}
 use Rattle.parsing_iso8601.proofs.Pieces.{same}
 use Rattle.parsing_iso8601.specs.Moment.{IsOfOffset}
 use Rattle.parsing_combinator.specs.Fault.{Fault}
-use Rattle.parsing_record.specs.Record.{Record}
+use Rattle.parsing_components.specs.declared.fields.Record.{Record}
 use Rattle.parsing_record.specs.Whole.{whole, names, moment_named, by_roads}
 use Rattle.parsing_rfc3339.specs.Direct.{direct}
 use Rattle.parsing_parsable.specs.Staged.{reads_rfc3339, reads_iso8601}

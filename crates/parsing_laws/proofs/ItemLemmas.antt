@@ -4,7 +4,7 @@ use Rattle.std.specs.Prelude.{◌&&◌, nat_eq, bytes_eq}
 use Rattle.description_items.specs.Tree.{Tree, Trees, Literal, also, listed}
 use Rattle.parsing_combinator.specs.Fault.{Fault, literal}
 use Rattle.parsing_combinator.specs.Readings.{then_read}
-use Rattle.parsing_record.specs.Record.{Record}
+use Rattle.parsing_components.specs.declared.fields.Record.{Record}
 use Rattle.parsing_record.specs.Meaning.{Answer, Meaning, Counted, meaning, literally, unchanged, then_counted, all_of}
 use Rattle.parsing_record.specs.Reads.{Language, reads, each_reads, reading, reading_of_all}
 use Rattle.parsing_laws.specs.Joined.{in_turn, IsReadInTurn}

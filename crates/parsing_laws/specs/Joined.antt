@@ -3,7 +3,7 @@ use Rattle.std.specs.Prelude.{◌≡◌, ℕ, List}
 use Rattle.description_items.specs.Tree.{Tree, listed}
 use Rattle.parsing_combinator.specs.Readings.{then_read}
 use Rattle.parsing_components.specs.Component.{reads_component, reads_component_v3}
-use Rattle.parsing_record.specs.Record.{Record}
+use Rattle.parsing_components.specs.declared.fields.Record.{Record}
 use Rattle.parsing_record.specs.Meaning.{Meaning}
 use Rattle.parsing_record.specs.Reads.{reading, reading_of_all}
 

@@ -6,7 +6,7 @@ use Rattle.base.specs.Bytes.{dot, lower_z}
 use Rattle.datetime_wall.specs.Wall.{Shown}
 use Rattle.parsing_combinator.specs.Pieces.{byte, digit_count, nanoseconds_of}
 use Rattle.parsing_iso8601.specs.Designators.{time_designator}
-use Rattle.parsing_record.specs.Record.{Record}
+use Rattle.parsing_components.specs.declared.fields.Record.{Record}
 use Rattle.parsing_record.specs.Whole.{whole, names, moment_named}
 use Rattle.parsing_parsable.specs.Staged.{reads_iso8601}
 

@@ -6,7 +6,7 @@ use Rattle.description_items.specs.Tree.{Tree, Part}
 use Rattle.description_lexer.specs.declared.version.DescriptionVersion.TheVariants.{Two, Three}
 use Rattle.description_grammar.specs.Spelling.{Spells, SpellsTree}
 use Rattle.description_grammar.specs.Outcomes.{joined}
-use Rattle.parsing_record.specs.Record.{Record}
+use Rattle.parsing_components.specs.declared.fields.Record.{Record}
 use Rattle.parsing_record.specs.Whole.{whole, names, moment_named}
 use Rattle.parsing_laws.specs.Joined.{by_items, by_tree}
 

@@ -6,7 +6,7 @@ ghost use Rattle.description.specs.Laws.{nodes, all_nodes};
 ghost use Rattle.description_grammar.specs.Spelling.{Spells};
 ghost use Rattle.description_strftime.specs.Spelled.{SpellsStrftime};
 ghost use Rattle.description_lexer.specs.declared.version.DescriptionVersion.{DescriptionVersion};
-ghost use Rattle.parsing_record.specs.Record.{Record};
+ghost use Rattle.parsing_components.specs.declared.fields.Record.{Record};
 ghost use Rattle.parsing_record.specs.Reads.{Language, tried, tried_in_all};
 
 /// A reading begins each node at most once: from whatever record, by whatever components and on whatever bytes, it

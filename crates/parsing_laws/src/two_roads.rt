@@ -1,7 +1,7 @@
 //! What the readings of two formats have to do with one another, beside the laws on both ways to read one.
 ghost use Rattle.std.specs.Prelude.{◌≡◌, ℕ, List, Option, Ok};
 ghost use Rattle.datetime_wall.specs.Wall.{Shown};
-ghost use Rattle.parsing_record.specs.Record.{Record};
+ghost use Rattle.parsing_components.specs.declared.fields.Record.{Record};
 ghost use Rattle.parsing_record.specs.Whole.{by_roads};
 ghost use Rattle.parsing_rfc3339.specs.Direct as rfc3339;
 ghost use Rattle.parsing_parsable.specs.Staged.{reads_rfc3339};

@@ -1,5 +1,6 @@
 pub mod LayoutLemmas
 pub mod MomentLemmas
+pub mod NumberLemmas
 pub mod PieceLemmas
 pub mod RunLemmas
 pub mod TailLemmas
@@ -9,3 +10,4 @@ pub mod WindowLemmas
 pub mod ShapeLemmas
 pub mod StretchLemmas
 pub mod BoundsLemmas
+pub mod NamedLemmas

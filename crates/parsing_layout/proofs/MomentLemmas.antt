@@ -1,17 +1,19 @@
 -- A text that two windows and one over its end take says a layout, a fraction and a zone, and fields are those of its sums.
-use Rattle.std.proofs.Common.{◌≡◌, ◌≤◌, ◌<◌, ◌+◌, ◌-◌, ◌*◌, ◌%◌, ◌∙◌, ◌&&◌, ◌==◌, ℕ, Bool, true, false, List, [], ◌++◌, get_or, length, drop, refl, sym, arith, lit<, lit≤, inl, inr}
-use Rattle.std.specs.Prelude.{◌⊎◌, nat_eq}
+use Rattle.std.proofs.Common.{◌≡◌, ◌≤◌, ◌<◌, ◌+◌, ◌-◌, ◌*◌, ◌%◌, ◌∙◌, ◌&&◌, ◌==◌, ℕ, Bool, true, false, List, [], ◌++◌, get_or, length, drop, Some, Ok, ℤ, pos, refl, sym, arith, lit<, lit≤, inl, inr}
+use Rattle.std.specs.Prelude.{◌⊎◌, ◌*ℤ◌, nat_eq}
 use Rattle.std.proofs.lemmas.Bool.{cases_lt}
 use Rattle.std.proofs.lemmas.Bool.Decides.{nat_tests}
 use Rattle.std.proofs.lemmas.List.{drop_all}
 use Rattle.base.specs.Bytes.{dot, hyphen}
+use Rattle.parsing_combinator.specs.Pieces as Pieces
 use Rattle.parsing_fields.specs.Written.{WriteFraction}
 use Rattle.parsing_fields.specs.declared.fields.Fields.{Fields}
 use Rattle.parsing_places.specs.Windows.{SpareTwo}
 use Rattle.parsing_places.specs.declared.lanes.Moves.{Moves}
 use Rattle.parsing_places.specs.declared.shape.Window.{Window}
 use Rattle.parsing_places.proofs.ReadLemmas.{or_zero, zero_or}
-use Rattle.parsing_layout.specs.Layout.{Part, Values, length_of}
+use Rattle.parsing_values.specs.Resolution.{signed_offset_of}
+use Rattle.parsing_layout.specs.Layout.{Part, Values, Says, length_of}
 use Rattle.parsing_layout.specs.Moment.{AreTaken, AreInRange, AreOfSums, HasOffset, SaysTailed}
 use Rattle.parsing_layout.specs.Shape.{fits, of_clock, own, lane_values}
 use Rattle.parsing_layout.specs.Tail.{FitsEnd, SparesOffset, IsEnd, fraction_parts}
@@ -55,11 +57,17 @@ spare_of s b j low high = elim (cases_lt j 5) [
 clock_lanes : (j : ℕ) → of_clock j ≡ true → (j < 4) ⊎ (j ≡ 7)
 clock_lanes j e = elim (cases_lt j 4) [ inl lt ↦ inl lt | inr le ↦ inr (grind (arith, nat_tests)) ]
 
-same_sign : (t n : ℕ) → t % 4 ≡ n → n ≤ 2 → n % 2 ≡ 0 → nat_eq (t % 4) 2 ≡ (n + 43 == hyphen)
+pub same_sign : (t n : ℕ) → t % 4 ≡ n → n ≤ 2 → n % 2 ≡ 0 → nat_eq (t % 4) 2 ≡ (n + 43 == hyphen)
 same_sign t n is few even = elim (cases_lt n 1) [
   | inl lt ↦ let zero : n ≡ 0 = omega arith in rw (is, zero) refl
   | inr ge ↦ let two : n ≡ 2 = omega (arith, ge, few, even) in rw (is, two) refl
 ]
+
+-- so many bytes are between a layout and a zone: none, or a point and digits that write a fraction
+pub record IsPlaced (s : Shape) (zone : List Part) (text : List ℕ) (bytes nanosecond : ℕ) : Type 0 where
+  pub all : s.length + bytes + length_of zone ≡ length text
+  pub point : 0 < bytes → get_or text s.length 0 ≡ dot
+  pub written : WriteFraction (drop (length text - length_of zone - (bytes - 1)) text) (bytes - 1) nanosecond
 
 module _ (s : Shape) (w : Window) (moves : Moves) (text digits : List ℕ) (d m o t : ℕ) (tail : s.has_tail ≡ true) (is_end : IsEnd w)
     (x : AreTaken s w moves text d m o t digits) (small : (k : ℕ) → get_or text k 0 < 256) where
@@ -85,15 +93,15 @@ module _ (s : Shape) (w : Window) (moves : Moves) (text digits : List ℕ) (d m 
 
   -- the bounds of numbers, and so of sums
   pub record AreFew : Type 0 where
-    month : get_or x.n 0 0 ≤ 59
-    day : get_or x.n 2 0 ≤ 99
-    minute : get_or x.n 6 0 ≤ 59
-    second : get_or x.n 14 0 ≤ 59
-    offset_hour : get_or x.n 8 0 ≤ 19
-    offset_minute : get_or x.n 10 0 ≤ 59
-    sign : get_or x.n 12 0 ≤ 2
+    pub month : get_or x.n 0 0 ≤ 59
+    pub day : get_or x.n 2 0 ≤ 99
+    pub minute : get_or x.n 6 0 ≤ 59
+    pub second : get_or x.n 14 0 ≤ 59
+    pub offset_hour : get_or x.n 8 0 ≤ 19
+    pub offset_minute : get_or x.n 10 0 ≤ 59
+    pub sign : get_or x.n 12 0 ≤ 2
 
-  are_few : AreFew
+  pub are_few : AreFew
   are_few =
       let b = are_there s tail in
       let clock = λ (j most : ℕ) (lt : j < 8) (few : most ≤ 9) (is : of_clock j ≡ true) (e : is_bounded s.windows (2 * j) most ≡ true). bounded s text x.front x.both x.n x.front_taken own_lane x.paired j most lt few (rw tail is) e in
@@ -120,40 +128,51 @@ module _ (s : Shape) (w : Window) (moves : Moves) (text digits : List ℕ) (d m 
         seconds_few = omega (arith, x.seconds_are, f.sign, f.second);
       }
 
-  module _ (nanosecond bytes : ℕ) (f : Fields) (front zone : List Part) (y : AreOfSums f text s.year d m o t nanosecond) (numbered : s.month_is_named ≡ false)
-      (fits_front : fits s front ≡ true) (fits_end : FitsEnd w zone) (sixteen : 16 ≤ length text) (all : s.length + bytes + length_of zone ≡ length text)
-      (point : 0 < bytes → get_or text s.length 0 ≡ dot) (written : WriteFraction (drop (length text - length_of zone - (bytes - 1)) text) (bytes - 1) nanosecond) (bound : nanosecond < 1_000_000_000) where
+  -- what lanes say of a layout, of a fraction that is read beside them, and of a zone
+  module _ (year nanosecond bytes : ℕ) (front zone : List Part) (year_is : Pieces.digits 4 (drop s.year text) ≡ Some (year, drop (s.year + 4) text)) (even : t % 2 ≡ 0) (numbered : s.month_is_named ≡ false)
+      (fits_front : fits s front ≡ true) (fits_end : FitsEnd w zone) (sixteen : 16 ≤ length text) (p : IsPlaced s zone text bytes nanosecond) where
     abbrev pub values : Values
-    values = lane_values f.year (get_or x.n 0 0) nanosecond x.n
+    values = lane_values year (get_or x.n 0 0) nanosecond x.n
 
-    pub offset_said : (is_utc : Bool) → (is_utc ≡ true → SparesOffset w) → HasOffset is_utc values f.offset
-    offset_said true utc =
-        let none = end_none w text (length text) x.end x.both x.n x.end_taken end_lane x.paired small (utc refl) in
-        let plain : nat_eq (t % 4) 2 ≡ false = let zero : t % 4 ≡ 0 = omega (arith, x.seconds_are, none) in rw zero refl in
-        rw plain at (y.value 0 0 (omega (arith, x.offsets_are, none)) (lit≤ tt) (lit≤ tt))
-    offset_said false utc =
-        let few = are_few in
-        let sign : t % 4 ≡ get_or x.n 12 0 = omega (arith, x.seconds_are, few.sign) in
-        let same = same_sign t (get_or x.n 12 0) sign few.sign (omega (arith, x.seconds_are, y.even)) in
-        (omega (arith, few.offset_hour), rw same at (y.value (get_or x.n 8 0) (get_or x.n 10 0) x.offsets_are (omega (arith, few.offset_hour)) few.offset_minute))
+    sign_even : get_or x.n 12 0 % 2 ≡ 0
+    sign_even = omega (arith, x.seconds_are, even)
 
-    -- the central lemma of texts with a tail
-    pub tail_said : (is_utc : Bool) → (bytes ≡ 1 → ⊥) → (is_utc ≡ true → SparesOffset w) → SaysTailed front is_utc zone text f
-    tail_said is_utc more utc =
-        let few = are_few in
-        let even : get_or x.n 12 0 % 2 ≡ 0 = omega (arith, x.seconds_are, y.even) in
+    pub front_said : Says front text values (drop s.length text)
+    front_said = lanes_say s text x.front x.both x.n year (get_or x.n 0 0) nanosecond x.front_taken own_lane x.paired small (omega (arith, p.all)) year_is (λ e. refl) (λ e. absurd (let bad : true ≡ false = sym e ∙ numbered in cc)) sign_even front fits_front
+
+    pub end_said : Says (fraction_parts bytes ++ zone) (drop s.length text) values []
+    end_said =
         let end = length text - length_of zone in
         let nothing : drop (length text) text ≡ [] = drop_all (length text) text (omega arith) in
-        let first = lanes_say s text x.front x.both x.n f.year (get_or x.n 0 0) nanosecond x.front_taken own_lane x.paired small (omega (arith, all)) y.year_is (λ e. refl) (λ e. absurd (let bad : true ≡ false = sym e ∙ numbered in cc)) even front fits_front in
-        let second = fraction_says text s.length end bytes nanosecond values refl (omega (arith, all)) (λ some. (omega (arith, all, some))) point written in
-        let third = rw nothing at (end_says w text (length text) x.end x.both x.n f.year (get_or x.n 0 0) nanosecond x.end_taken end_lane x.paired small sixteen (omega arith) even zone fits_end) in
+        let fraction = fraction_says text s.length end bytes nanosecond values refl (omega (arith, p.all)) (λ some. (omega (arith, p.all, some))) p.point p.written in
+        let offset = rw nothing at (end_says w text (length text) x.end x.both x.n year (get_or x.n 0 0) nanosecond x.end_taken end_lane x.paired small sixteen (omega arith) sign_even zone fits_end) in
+        says_both (fraction_parts bytes) zone (drop s.length text) (drop end text) [] values fraction offset
+
+    pub offset_said : (minutes : ℤ) → ((hour minute : ℕ) → o ≡ 60 * hour + minute → hour ≤ 23 → minute ≤ 59 → signed_offset_of (nat_eq (t % 4) 2) hour minute ≡ Ok (pos 60 *ℤ minutes)) → (is_utc : Bool) → (is_utc ≡ true → SparesOffset w) → HasOffset is_utc values minutes
+    offset_said minutes value true utc =
+        let none = end_none w text (length text) x.end x.both x.n x.end_taken end_lane x.paired small (utc refl) in
+        let plain : nat_eq (t % 4) 2 ≡ false = let zero : t % 4 ≡ 0 = omega (arith, x.seconds_are, none) in rw zero refl in
+        rw plain at (value 0 0 (omega (arith, x.offsets_are, none)) (lit≤ tt) (lit≤ tt))
+    offset_said minutes value false utc =
+        let few = are_few in
+        let sign : t % 4 ≡ get_or x.n 12 0 = omega (arith, x.seconds_are, few.sign) in
+        let same = same_sign t (get_or x.n 12 0) sign few.sign (omega (arith, x.seconds_are, even)) in
+        (omega (arith, few.offset_hour), rw same at (value (get_or x.n 8 0) (get_or x.n 10 0) x.offsets_are (omega (arith, few.offset_hour)) few.offset_minute))
+
+  module _ (nanosecond bytes : ℕ) (front zone : List Part) (numbered : s.month_is_named ≡ false) (fits_front : fits s front ≡ true) (fits_end : FitsEnd w zone) (sixteen : 16 ≤ length text) (p : IsPlaced s zone text bytes nanosecond)
+      (bound : nanosecond < 1_000_000_000) (is_utc : Bool) (more : bytes ≡ 1 → ⊥) (utc : is_utc ≡ true → SparesOffset w) where
+    -- the central lemma of texts with a tail
+    pub tail_said : (f : Fields) → AreOfSums f text s.year d m o t nanosecond → SaysTailed front is_utc zone text f
+    tail_said f y =
+        let few = are_few in
         let h = y.numbers in
+        let v = values f.year nanosecond bytes front zone y.year_is y.even numbered fits_front fits_end sixteen p in
         record {
           bytes = bytes;
           more = more;
           moment = record {
-            values = values;
-            says = says_both front (fraction_parts bytes ++ zone) text (drop s.length text) [] values first (says_both (fraction_parts bytes) zone (drop s.length text) (drop end text) [] values second third);
+            values = v;
+            says = says_both front (fraction_parts bytes ++ zone) text (drop s.length text) [] v (front_said f.year nanosecond bytes front zone y.year_is y.even numbered fits_front fits_end sixteen p) (end_said f.year nanosecond bytes front zone y.year_is y.even numbered fits_front fits_end sixteen p);
             numbers = record {
               same_year = h.same_year;
               same_month = h.same_month ∙ (omega (arith, x.days_are, few.month));
@@ -166,7 +185,7 @@ module _ (s : Shape) (w : Window) (moves : Moves) (text digits : List ℕ) (d m 
             hour_few = omega (arith, x.minutes_are, h.same_minute, f.within_a_day);
             minute_few = few.minute;
             fraction_few = bound;
-            offset_is = offset_said is_utc utc;
+            offset_is = offset_said f.year nanosecond bytes front zone y.year_is y.even numbered fits_front fits_end sixteen p f.offset y.value is_utc utc;
           };
-          none = λ e. none_written _ (bytes - 1) nanosecond (omega (arith, e)) written;
+          none = λ e. none_written _ (bytes - 1) nanosecond (omega (arith, e)) p.written;
         }

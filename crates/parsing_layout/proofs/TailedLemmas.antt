@@ -18,7 +18,7 @@ use Rattle.parsing_layout.specs.Moment.{AreTaken, AreInRange, AreOfSums, SaysTai
 use Rattle.parsing_layout.specs.Shape.{fits}
 use Rattle.parsing_layout.specs.Tail.{FitsEnd, SparesOffset, IsEnd, zone_parts, small_parts}
 use Rattle.parsing_layout.specs.declared.shape.Shape.{Shape}
-use Rattle.parsing_layout.proofs.MomentLemmas.{in_range, tail_said}
+use Rattle.parsing_layout.proofs.MomentLemmas.{IsPlaced, in_range, tail_said}
 use Rattle.parsing_layout.proofs.TailLemmas.{fraction_taken, digits_few, lets_byte, zone_offset}
 
 -- an offset ends at the end of the window
@@ -97,21 +97,30 @@ module _ (s : Shape) (w : Window) (moves : Moves) (text digits : List ℕ) (d m 
   pub whole_in_range : s.length ≤ length text → AreInRange text s.year d o t
   whole_in_range long = in_range s w moves text digits d m o t h.tail h.is_end h.taken h.small long
 
-  pub tailed : (nanosecond : ℕ) (f : Fields) (front zone : List Part) → AreOfSums f text s.year d m o t nanosecond → fits s front ≡ true → FitsEnd w zone → length_of zone + at ≡ 16 → s.length + bytes + 16 ≡ length text + at → (bytes ≡ 1 → ⊥)
-      → ((place count : ℕ) → HaveFraction text place count digits → WriteFraction (drop place text) count nanosecond) → nanosecond < 1_000_000_000 → (is_utc : Bool) → (is_utc ≡ true → SparesOffset w) → SaysTailed front is_utc zone text f
-  tailed nanosecond f front zone y fits_front fits_end zone_is all more writes bound is_utc utc =
+  -- where the fraction stands, and what it writes
+  pub placed : (nanosecond : ℕ) (zone : List Part) → length_of zone + at ≡ 16 → s.length + bytes + 16 ≡ length text + at → ((place count : ℕ) → HaveFraction text place count digits → WriteFraction (drop place text) count nanosecond) → IsPlaced s zone text bytes nanosecond
+  placed nanosecond zone zone_is all writes =
       let there : length text - 16 + at - (bytes - 1) ≡ length text - length_of zone - (bytes - 1) = omega (arith, zone_is, h.sixteen) in
       let point = λ (some : 0 < bytes).
       let place : length text - 16 + (at - bytes) ≡ s.length = omega (arith, all, h.sixteen, some, h.takes.room) in
       let b = in_window w text (length text - 16) (at - bytes) dot 0 h.small h.taken.end_taken.lies (lets_byte w (at - bytes) dot (h.lets some)) (lit< tt) in
       let byte : get_or text (length text - 16 + (at - bytes)) 0 ≡ dot = omega (arith, b.0, b.1) in
       rw place at byte in
-      tail_said s w moves text digits d m o t h.tail h.is_end h.taken h.small nanosecond bytes f front zone y h.numbered fits_front fits_end h.sixteen (omega (arith, all, zone_is)) point (rw there at (writes _ (bytes - 1) has)) bound is_utc more utc
+      record { all = omega (arith, all, zone_is); point = point; written = rw there at (writes _ (bytes - 1) has) }
+
+  pub tailed : (nanosecond : ℕ) (f : Fields) (front zone : List Part) → AreOfSums f text s.year d m o t nanosecond → fits s front ≡ true → FitsEnd w zone → length_of zone + at ≡ 16 → s.length + bytes + 16 ≡ length text + at → (bytes ≡ 1 → ⊥)
+      → ((place count : ℕ) → HaveFraction text place count digits → WriteFraction (drop place text) count nanosecond) → nanosecond < 1_000_000_000 → (is_utc : Bool) → (is_utc ≡ true → SparesOffset w) → SaysTailed front is_utc zone text f
+  tailed nanosecond f front zone y fits_front fits_end zone_is all more writes bound is_utc utc =
+      tail_said s w moves text digits d m o t h.tail h.is_end h.taken h.small nanosecond bytes front zone h.numbered fits_front fits_end h.sixteen (placed nanosecond zone zone_is all writes) bound is_utc more utc f y
 
   -- the same with another fraction between, which is read by itself
+  pub placed_long : (nanosecond more : ℕ) (zone : List Part) → s.length + 1 + more + length_of zone ≡ length text → get_or text s.length 0 ≡ dot → WriteFraction (drop (s.length + 1) text) more nanosecond → IsPlaced s zone text (more + 1) nanosecond
+  placed_long nanosecond more zone all point writes =
+      let from : length text - length_of zone - (more + 1 - 1) ≡ s.length + 1 = omega (arith, all) in
+      let count : more + 1 - 1 ≡ more = omega arith in
+      record { all = omega (arith, all); point = λ any. point; written = rw (from, count) writes }
+
   pub tailed_long : (nanosecond more : ℕ) (f : Fields) (front zone : List Part) → AreOfSums f text s.year d m o t nanosecond → fits s front ≡ true → FitsEnd w zone → s.length + 1 + more + length_of zone ≡ length text → 0 < more → get_or text s.length 0 ≡ dot
       → WriteFraction (drop (s.length + 1) text) more nanosecond → nanosecond < 1_000_000_000 → (is_utc : Bool) → (is_utc ≡ true → SparesOffset w) → SaysTailed front is_utc zone text f
   tailed_long nanosecond more f front zone y fits_front fits_end all some point writes bound is_utc utc =
-      let from : length text - length_of zone - (more + 1 - 1) ≡ s.length + 1 = omega (arith, all) in
-      let count : more + 1 - 1 ≡ more = omega arith in
-      tail_said s w moves text digits d m o t h.tail h.is_end h.taken h.small nanosecond (more + 1) f front zone y h.numbered fits_front fits_end h.sixteen (omega (arith, all)) (λ any. point) (rw (from, count) writes) bound is_utc (λ one. (omega (arith, one, some))) utc
+      tail_said s w moves text digits d m o t h.tail h.is_end h.taken h.small nanosecond (more + 1) front zone h.numbered fits_front fits_end h.sixteen (placed_long nanosecond more zone all point writes) bound is_utc (λ one. (omega (arith, one, some))) utc f y

@@ -109,9 +109,11 @@ module _ (s : Shape) (text v1 v n : List ℕ) (year month nanosecond : ℕ) (h :
   digits_at : (f : Field) (k at : ℕ) → takes_digits s f k at ≡ true → digits k (drop at text) ≡ Some (lane_values year month nanosecond n f, drop (at + k) text)
   digits_at field.Year k at t = let b = both (k == 4) (at == s.year) t in rw (same k 4 b.0, same at s.year b.1) year_there
   digits_at field.Month k at t = let b = both (not s.month_is_named) (takes_pair_at s.windows s.has_tail (Some 0) 5 k at) t in rw (numbered (is_not s.month_is_named b.0)) (pair_at (Some 0) 5 k at (lit≤ tt) b.1)
+  digits_at field.Day k at t = elim (one (takes_pair_at s.windows s.has_tail (Some 1) 9 k at) (takes_one_at s.windows s.has_tail 1 k at) t) [ inl two ↦ pair_at (Some 1) 9 k at (lit≤ tt) two | inr alone ↦ one_at 1 k at alone ]
   digits_at field.Nanosecond k at t = absurd cc
   digits_at field.Sign k at t = absurd cc
   digits_at field.Weekday k at t = one_at 1 k at t
+  digits_at field.OrdinalOnes k at t = one_at 1 k at t
   digits_at f k at t = pair_at (pair_of f) (most_of f) k at (few f) t
 
   byte_at : (c at : ℕ) → c < 256 → lets_at s.windows at c 0 ≡ true → get_or text at 0 ≡ c

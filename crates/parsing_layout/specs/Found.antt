@@ -21,6 +21,8 @@ place_of field.OffsetHour = 11
 place_of field.OffsetMinute = 12
 place_of field.Unix = 13
 place_of field.IsoWeek = 14
+place_of field.OrdinalTens = 15
+place_of field.OrdinalOnes = 16
 
 abbrev pub values_in : Found → Values
 values_in found f = get_or found.numbers (place_of f) 0

@@ -1,8 +1,10 @@
 pub mod Found
 pub mod Layout
 pub mod Moment
+pub mod Numbers
 pub mod Shape
 pub mod Tail
 pub mod Windows
 pub mod Stretch
 pub mod Bounds
+pub mod Named

@@ -14,6 +14,8 @@ pair_of field.Month = Some 0
 pair_of field.Day = Some 1
 pair_of field.IsoWeek = Some 0
 pair_of field.Weekday = Some 1
+pair_of field.OrdinalTens = Some 0
+pair_of field.OrdinalOnes = Some 1
 pair_of field.Hour = Some 2
 pair_of field.Minute = Some 3
 pair_of field.OffsetHour = Some 4
@@ -49,7 +51,9 @@ takes_one_at w has_tail j n at = (n == 1) && (nat_lt j 8 && (own has_tail j && (
 abbrev pub takes_digits : Shape → Field → ℕ → ℕ → Bool
 takes_digits s field.Year n at = (n == 4) && (at == s.year)
 takes_digits s field.Month n at = not s.month_is_named && takes_pair_at s.windows s.has_tail (Some 0) 5 n at
+takes_digits s field.Day n at = takes_pair_at s.windows s.has_tail (Some 1) 9 n at || takes_one_at s.windows s.has_tail 1 n at
 takes_digits s field.Weekday n at = takes_one_at s.windows s.has_tail 1 n at
+takes_digits s field.OrdinalOnes n at = takes_one_at s.windows s.has_tail 1 n at
 takes_digits s f n at = takes_pair_at s.windows s.has_tail (pair_of f) (most_of f) n at
 
 -- a part at a place is taken

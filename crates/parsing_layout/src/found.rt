@@ -1,11 +1,12 @@
 //! The numbers that were found in a text.
 ghost use Rattle.std.specs.Prelude.{◌≡◌, ◌<◌, ◌≢◌, Some, get_or, ℕ};
 ghost use Rattle.parsing_layout.specs.Found.{place_of, values_in, Keeps};
+ghost use Rattle.parsing_layout.specs.declared.parts.Field.TheVariants as field;
 
 use crate::parts::Field;
 
 // How many fields there are.
-const FIELDS: usize = 15;
+const FIELDS: usize = 17;
 
 /// The number of each field.
 #[derive(Clone, Copy)]
@@ -20,6 +21,16 @@ impl Found {
     {
         Found {
             numbers: [0; FIELDS],
+        }
+    }
+
+    /// A number in the range of each field, without a fraction of a second.
+    #[inline(always)]
+    pub fn usual() -> Found
+        ensures { values_in result field.Nanosecond ≡ 0 }
+    {
+        Found {
+            numbers: [0, 1, 1, 1, 0, 1, 0, 0, 0, 0, 0, 0, 0, 0, 1, 0, 1],
         }
     }
 
@@ -42,9 +53,9 @@ impl Found {
     }
 }
 
-// Where the number of a field is kept.
+/// Where the number of a field is kept: no two fields have one place.
 #[inline(always)]
-fn place_of(field: Field) -> usize
+pub fn place_of(field: Field) -> usize
     ensures place { result ≡ place_of field }
     ensures within { result < FIELDS }
 {
@@ -64,5 +75,7 @@ fn place_of(field: Field) -> usize
         Field::OffsetMinute => 12,
         Field::Unix => 13,
         Field::IsoWeek => 14,
+        Field::OrdinalTens => 15,
+        Field::OrdinalOnes => 16,
     }
 }

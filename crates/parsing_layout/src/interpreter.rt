@@ -48,9 +48,9 @@ fn number_at(part: Part, text: &[u8]) -> Option<(u64, &[u8])>
     }
 }
 
-// The field whose number a part says.
+/// The field whose number a part says.
 #[inline(always)]
-fn field_of(part: Part) -> Option<Field>
+pub fn field_of(part: Part) -> Option<Field>
     ensures { result ≡ field_of part }
 {
     match part {

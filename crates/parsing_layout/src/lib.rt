@@ -7,18 +7,24 @@
 #![tactic(auto)]
 
 mod bounds;
+mod dated;
 mod found;
 mod interpreter;
 mod moment;
+mod named;
+mod numbers;
 mod parts;
 mod pieces;
 mod shape;
 mod stretch;
 
 pub use bounds::Bounds;
-pub use found::Found;
-pub use interpreter::read;
+pub use dated::{read_long_numbers, read_numbers};
+pub use found::{Found, place_of};
+pub use interpreter::{field_of, read};
 pub use moment::{read_long_moment, read_moment, read_small_moment};
+pub use named::read_named_moment;
+pub use numbers::Numbers;
 pub use parts::{Field, Names, Part};
 pub use shape::Shape;
 pub use stretch::{Kind, Stretch};

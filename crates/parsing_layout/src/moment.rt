@@ -17,11 +17,16 @@ use parsing_places::{
 use std::simd::prelude::*;
 
 // Month and 64 days, the minute of the day, the minutes of an offset, and a sign and 64 seconds.
-type Sums = (u32, u32, u32, u32);
+pub(crate) type Sums = (u32, u32, u32, u32);
 
 // The sums of a text that has a shape and an end, and the digits that other lanes take of its end.
 #[inline(always)]
-fn sums_of(shape: &Shape, last: &Window, fraction: &Moves, text: &[u8]) -> Option<(Sums, u8x16)>
+pub(crate) fn sums_of(
+    shape: &Shape,
+    last: &Window,
+    fraction: &Moves,
+    text: &[u8],
+) -> Option<(Sums, u8x16)>
     requires { shape.now.windows.back_at + LANES ≤ length text.now }
     ensures { IfSome result (λ x. AreTaken shape.now last.now fraction.now text.now
         x.0.0 x.0.1 x.0.2 x.0.3 x.1) }
@@ -43,7 +48,7 @@ fn sums_of(shape: &Shape, last: &Window, fraction: &Moves, text: &[u8]) -> Optio
 
 // The fields of sums, of the year at a place, and of a fraction.
 #[inline(always)]
-fn fields_of(text: &[u8], year: usize, sums: Sums, fraction: Fraction) -> Option<Fields>
+pub(crate) fn fields_of(text: &[u8], year: usize, sums: Sums, fraction: Fraction) -> Option<Fields>
     requires { AreInRange text.now year sums.0 sums.2 sums.3 }
     ensures { IfSome result (λ f. AreOfSums f text.now year sums.0 sums.1 sums.2 sums.3 fraction) }
 {
@@ -129,7 +134,7 @@ const KEPT: usize = 9;
 
 // The fraction of more than nine digits from a place to another one.
 #[inline(always)]
-fn long_fraction(text: &[u8], from: usize, end: usize) -> Option<Fraction>
+pub(crate) fn long_fraction(text: &[u8], from: usize, end: usize) -> Option<Fraction>
     requires { end ≤ length text.now }
     ensures many { IfSome result (λ _. from + 9 < end) }
     ensures writes { IfSome result (WriteFraction (drop from text.now) (end - from)) }

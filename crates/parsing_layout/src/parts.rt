@@ -10,6 +10,9 @@ pub enum Field {
     Weekday,
     /// A week of a year of weeks.
     IsoWeek,
+    /// A day of a year without its last digit, and that digit.
+    OrdinalTens,
+    OrdinalOnes,
     Hour,
     /// An hour of half a day.
     HourOfHalf,

@@ -16,9 +16,9 @@ use Rattle.description_items.specs.declared.component.Component.{Component}
 use Rattle.description_items.specs.Tree.{Literal, Part}
 use Rattle.parsing_components.specs.Put.{put}
 use Rattle.parsing_components.specs.declared.said.Read.{Read}
-use Rattle.parsing_nodes.specs.Meaning.{Meaning, literally}
-use Rattle.parsing_nodes.specs.Reads.{Language, reading, reads}
-use Rattle.parsing_nodes.specs.Record.{Record}
+use Rattle.parsing_components.specs.Meaning.{Meaning, literally}
+use Rattle.parsing_components.specs.Reads.{Language, reading, reads}
+use Rattle.parsing_components.specs.declared.fields.Record.{Record}
 use Rattle.parsing_components.specs.declared.slot.Slot.{Slot}
 use Rattle.parsing_components.specs.Slot.{ReadsSlot, slot_piece}
 

@@ -21,15 +21,15 @@ use Rattle.parsing_values.specs.NamedTime.{named_time, hour_of, finer_parts}
 use Rattle.parsing_values.specs.NamedMoment.{named_wall, dated_moment, named_moment}
 use Rattle.parsing_combinator.specs.Shape.{taken, fraction_between}
 use Rattle.parsing_components.specs.Ranged.{under}
-use Rattle.parsing_nodes.specs.Meaning.{Meaning}
-use Rattle.parsing_nodes.specs.Record.{Record}
-use Rattle.parsing_nodes.specs.Whole.{whole, names, moment_named, offset_named, starting}
+use Rattle.parsing_components.specs.Meaning.{Meaning}
+use Rattle.parsing_components.specs.declared.fields.Record.{Record}
+use Rattle.parsing_components.specs.Whole.{whole, names, moment_named, offset_named, starting}
 use Rattle.parsing_layouts.proofs.Walk.{was_read}
 use Rattle.parsing_layouts.specs.declared.layout.Layout.{Layout}
 use Rattle.parsing_components.specs.Slot.{Values}
 use Rattle.parsing_layouts.specs.Layout.{HasText, Says, read_or, with_values, IsPrefix, HasNoClock}
 use Rattle.parsing_layouts.specs.Parts.{SaysDate, SaysClock, SaysFraction, SaysOffset}
-use Rattle.parsing_nodes.specs.Prefix.{NamesPrefix, beginning}
+use Rattle.parsing_components.specs.Prefix.{NamesPrefix, beginning}
 use Rattle.parsing_layouts.specs.Places.{IsLayoutOf, IsSplitOf}
 
 -- ---- the record

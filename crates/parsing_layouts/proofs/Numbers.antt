@@ -1,8 +1,9 @@
 -- What stands at a place of a line, by what its pieces cut off there.
 use Rattle.std.proofs.Common.{bit_and, ◌≡◌, ◌≤◌, ◌<◌, ◌+◌, ◌-◌, ◌*◌, ◌%◌, ◌∙◌, ◌==◌, ◌||◌, inl, inr, ℕ, Bool, true, false, List, ◌∷◌, take, drop, length, get_or, min, leb, Option, Some, None, Ok, refl, sym, ap, arith, pos}
-use Rattle.std.specs.Prelude.{nat_le, ◌⊎◌, IfSome, ℤ, ◌*ℤ◌}
+use Rattle.std.specs.Prelude.{nat_le, nat_eq, ◌⊎◌, IfSome, ℤ, ◌*ℤ◌}
 use Rattle.std.specs.Int.{is_in_range}
 use Rattle.std.proofs.lemmas.Nat.{and_mask}
+use Rattle.std.proofs.lemmas.Bool.{cases_lt}
 use Rattle.std.proofs.lemmas.Bool.Decides.{nat_tests}
 use Rattle.std.proofs.lemmas.List.{drop-drop, drop_more}
 use Rattle.std.specs.Char.{is_ascii_digit}
@@ -151,6 +152,13 @@ small n high le = grind (arith, nat_tests)
 signed_hours : (c hours place : ℕ) (cs rest line : List ℕ) → ((c == 43) || (c == 45)) ≡ true → digits 2 cs ≡ Some (hours, rest) → taken (offset_hour padding.Zero true) (c ∷ cs) ≡ Some ((c == 45, hours), rest)
 unfolding byte_of
 signed_hours c hours place cs rest line sign e = taken_offset_hour padding.Zero true (c ∷ cs) ∙ rw (sign, taken_padded_exactly padding.Zero 2 cs, e) refl
+
+-- a sign, by how far its byte is above that of a plus
+pub minus_is : (byte sign : ℕ) → sign ≡ byte - 43 → 43 ≤ byte → nat_eq sign 2 ≡ (byte == 45)
+minus_is byte sign is low = grind (arith, nat_tests, is, low)
+
+pub sign_of : (byte sign : ℕ) → sign ≡ byte - 43 → 43 ≤ byte → byte ≤ 45 → sign % 2 ≡ 0 → (byte ≡ 43) ⊎ (byte ≡ 45)
+sign_of byte sign is low high even = elim (cases_lt byte 45) [ inl lt ↦ inl (omega (arith, is, low, even, lt)) | inr le ↦ inr (omega (arith, high, le)) ]
 
 pub either_sign : (c : ℕ) → (c ≡ 43) ⊎ (c ≡ 45) → ((c == 43) || (c == 45)) ≡ true
 either_sign c (inl e) = rw e refl

@@ -8,8 +8,8 @@ use Rattle.calendar_count.specs.declared.month.Month.TheVariants as month
 use Rattle.calendar_count.specs.declared.weekday.Weekday.TheVariants as weekday
 use Rattle.parsing_combinator.specs.Pieces.{digits}
 use Rattle.parsing_components.specs.declared.said.Read.TheVariants as read
-use Rattle.parsing_nodes.specs.Whole.{offset_named}
-use Rattle.parsing_nodes.proofs.Offsets.{sign_named, no_second}
+use Rattle.parsing_components.specs.Whole.{offset_named}
+use Rattle.parsing_components.proofs.AssumedOffsets.{sign_named, no_second}
 use Rattle.parsing_layouts.specs.declared.layout.Layout.{Layout}
 use Rattle.parsing_components.specs.Slot.{Values, slot_piece, width}
 use Rattle.parsing_layouts.specs.Layout.{day_slot, is_plain}
@@ -18,7 +18,7 @@ use Rattle.parsing_layouts.specs.declared.places.OffsetPlaces.{OffsetPlaces}
 use Rattle.parsing_layouts.specs.declared.sums.Sums.{Sums}
 use Rattle.parsing_combinator.specs.Shape.{taken, spaced_between}
 use Rattle.parsing_layouts.specs.Parts.{WritesAt, WritesDay, WritesOffset, SaysMonth, SaysWeekday, SaysDate, SaysClock, SaysOffset}
-use Rattle.parsing_nodes.specs.Prefix.{beginning}
+use Rattle.parsing_components.specs.Prefix.{beginning}
 use Rattle.parsing_layouts.proofs.Numbers.{slot_number}
 
 -- a day of a month is at most the 31st

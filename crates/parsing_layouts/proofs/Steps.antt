@@ -5,8 +5,8 @@ use Rattle.std.specs.Borrow.{Bor}
 use Rattle.std.proofs.lemmas.Bool.{cases_eq}
 use Rattle.std.proofs.lemmas.List.{get_or-set_same, get_or-set_other, get_or-drop, drop-drop, length-drop, take_more, length_push}
 use Rattle.parsing_components.specs.Put.{put}
-use Rattle.parsing_nodes.specs.Meaning.{Meaning}
-use Rattle.parsing_nodes.specs.Record.{Record}
+use Rattle.parsing_components.specs.Meaning.{Meaning}
+use Rattle.parsing_components.specs.declared.fields.Record.{Record}
 use Rattle.parsing_layouts.specs.declared.items.Step.TheVariants.{Text, Part}
 use Rattle.parsing_layouts.specs.declared.layout.Layout.{Layout}
 use Rattle.parsing_components.specs.declared.slot.Slot.{Slot}

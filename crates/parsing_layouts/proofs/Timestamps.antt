@@ -23,16 +23,16 @@ use Rattle.parsing_combinator.specs.Readings.{piece_or}
 use Rattle.parsing_combinator.proofs.Decimal.{digit_count_within}
 use Rattle.parsing_combinator.proofs.Fixed.{digits_add}
 use Rattle.parsing_combinator.proofs.FractionDigits.{Read, digits_read, short_fraction}
-use Rattle.parsing_nodes.specs.Meaning.{Meaning}
-use Rattle.parsing_nodes.specs.Reads.{Language, reading, reads}
-use Rattle.parsing_nodes.specs.Record.{Record}
-use Rattle.parsing_nodes.specs.Whole.{whole, names, moment_named, starting}
+use Rattle.parsing_components.specs.Meaning.{Meaning}
+use Rattle.parsing_components.specs.Reads.{Language, reading, reads}
+use Rattle.parsing_components.specs.declared.fields.Record.{Record}
+use Rattle.parsing_components.specs.Whole.{whole, names, moment_named, starting}
 use Rattle.parsing_combinator.specs.Numbers.{timestamp}
 use Rattle.parsing_combinator.specs.Shape.{taken, digits_between}
 use Rattle.parsing_combinator.proofs.Components.{taken_timestamp}
 use Rattle.parsing_combinator.proofs.Longest.{taken_digits}
 use Rattle.parsing_combinator.proofs.SignLemmas.{under}
-use Rattle.parsing_nodes.specs.Prefix.{beginning}
+use Rattle.parsing_components.specs.Prefix.{beginning}
 use Rattle.parsing_layouts.specs.UnixTime.{IsUnixOf}
 use Rattle.parsing_layouts.proofs.Moments.{whole_is}
 use Rattle.parsing_components.proofs.Slots.{digit_no_sign}

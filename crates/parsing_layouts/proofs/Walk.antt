@@ -3,9 +3,9 @@ use Rattle.std.proofs.Common.{◌≡◌, ◌∙◌, ℕ, List, [], ◌∷◌, dr
 use Rattle.std.specs.Prelude.{IfSome}
 use Rattle.std.specs.Result.{result_ok}
 use Rattle.description_items.specs.Tree.{Tree, listed}
-use Rattle.parsing_nodes.specs.Meaning.{Meaning, Answer, Counted, then_counted, all_of}
-use Rattle.parsing_nodes.specs.Reads.{Language, reading, reading_of_all, reads, each_reads}
-use Rattle.parsing_nodes.specs.Record.{Record}
+use Rattle.parsing_components.specs.Meaning.{Meaning, Answer, Counted, then_counted, all_of}
+use Rattle.parsing_components.specs.Reads.{Language, reading, reading_of_all, reads, each_reads}
+use Rattle.parsing_components.specs.declared.fields.Record.{Record}
 use Rattle.parsing_layouts.specs.declared.layout.Layout.{Layout}
 use Rattle.parsing_components.specs.Slot.{Values}
 use Rattle.parsing_layouts.specs.Layout.{with_values}

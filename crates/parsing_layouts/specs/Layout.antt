@@ -3,7 +3,7 @@ use Rattle.std.specs.Prelude.{◌≡◌, ◌≤◌, ◌<◌, ◌&&◌, ℕ, ◌+
 use Rattle.parsing_components.specs.Ranged.{under}
 use Rattle.parsing_components.specs.declared.said.Read.{Read}
 use Rattle.parsing_components.specs.declared.said.Read.TheVariants as read
-use Rattle.parsing_nodes.specs.Record.{Record}
+use Rattle.parsing_components.specs.declared.fields.Record.{Record}
 use Rattle.parsing_components.specs.Slot.{Values, slot_piece, value_in, width}
 use Rattle.parsing_layouts.specs.declared.layout.Layout.{Layout}
 use Rattle.parsing_components.specs.declared.slot.Slot.{Slot}

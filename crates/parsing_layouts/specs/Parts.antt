@@ -10,10 +10,10 @@ use Rattle.parsing_combinator.specs.Names.{found, short_months, short_weekdays}
 use Rattle.parsing_combinator.specs.Shape.{taken, spaced_between}
 use Rattle.parsing_components.specs.Ranged.{under}
 use Rattle.parsing_components.specs.declared.said.Read.TheVariants as read
-use Rattle.parsing_nodes.specs.Whole.{offset_named}
+use Rattle.parsing_components.specs.Whole.{offset_named}
 use Rattle.parsing_components.specs.Slot.{Values, slot_piece, value_in, width}
 use Rattle.parsing_layouts.specs.Layout.{SaysAt, read_or, month_slot, day_slot, with_values}
-use Rattle.parsing_nodes.specs.Prefix.{beginning}
+use Rattle.parsing_components.specs.Prefix.{beginning}
 use Rattle.parsing_layouts.specs.declared.layout.Layout.{Layout}
 use Rattle.parsing_components.specs.declared.slot.Slot.TheVariants as slot
 

@@ -3,8 +3,8 @@ use Rattle.std.specs.Prelude.{◌≡◌, ◌≤◌, ℕ, List, drop, length, Som
 use Rattle.std.specs.Result.{result_ok}
 use Rattle.std.specs.Option.{ForSome, ForNone}
 use Rattle.parsing_combinator.specs.Shape.{taken, fraction_between}
-use Rattle.parsing_nodes.specs.Meaning.{Meaning}
-use Rattle.parsing_nodes.specs.Record.{Record}
+use Rattle.parsing_components.specs.Meaning.{Meaning}
+use Rattle.parsing_components.specs.declared.fields.Record.{Record}
 use Rattle.parsing_components.specs.Slot.{Values}
 use Rattle.parsing_layouts.specs.Layout.{Says, with_values}
 use Rattle.parsing_layouts.specs.declared.layout.Layout.{Layout}

@@ -6,9 +6,9 @@ use Rattle.parsing_components.specs.Component.{reads_component, reads_component_
 use Rattle.parsing_combinator.specs.Shape.{taken, fraction_between}
 use Rattle.parsing_components.specs.declared.said.Read.{Read}
 use Rattle.parsing_components.specs.Put.{put}
-use Rattle.parsing_nodes.specs.Meaning.{Meaning}
-use Rattle.parsing_nodes.specs.Reads.{Language, reading, reading_of_all}
-use Rattle.parsing_nodes.specs.Record.{Record}
+use Rattle.parsing_components.specs.Meaning.{Meaning}
+use Rattle.parsing_components.specs.Reads.{Language, reading, reading_of_all}
+use Rattle.parsing_components.specs.declared.fields.Record.{Record}
 use Rattle.parsing_components.specs.Slot.{Values, slot_piece}
 use Rattle.parsing_layouts.specs.UnixTime.{IsUnixOf}
 use Rattle.parsing_layouts.specs.Layout.{Says, with_values}

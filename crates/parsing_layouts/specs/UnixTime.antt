@@ -5,9 +5,9 @@ use Rattle.description_items.specs.declared.component.Component.{Component}
 use Rattle.description_items.specs.Tree.{Part}
 use Rattle.parsing_components.specs.Component.{reads_component, reads_component_v3}
 use Rattle.parsing_combinator.specs.Pieces.{digits}
-use Rattle.parsing_nodes.specs.Meaning.{Meaning}
-use Rattle.parsing_nodes.specs.Reads.{reading}
-use Rattle.parsing_nodes.specs.Record.{Record}
+use Rattle.parsing_components.specs.Meaning.{Meaning}
+use Rattle.parsing_components.specs.Reads.{reading}
+use Rattle.parsing_components.specs.declared.fields.Record.{Record}
 
 -- an item reads ten digits, and so many more, as the nanoseconds since 1970 began, where they are not too many
 abbrev pub IsUnixOf : Meaning → ℕ → Type 0

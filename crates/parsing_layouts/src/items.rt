@@ -1,7 +1,7 @@
 //! The layout of items that are read one after the other.
 ghost use Rattle.std.specs.Prelude.{◌≡◌, ◌≤◌, true, drop, length, IfSome, map};
-ghost use Rattle.parsing_nodes.specs.Meaning.{Meaning};
-ghost use Rattle.parsing_nodes.specs.Reads.{reading};
+ghost use Rattle.parsing_components.specs.Meaning.{Meaning};
+ghost use Rattle.parsing_components.specs.Reads.{reading};
 ghost use Rattle.parsing_layouts.specs.Steps.{IsStep, IsStepOf, IsStepOfPart, IsFractionOf, LeadsTo};
 ghost use Rattle.parsing_layouts.specs.UnixTime.{IsUnixOf};
 
@@ -9,8 +9,7 @@ use crate::layout::Layout;
 use crate::unix::{UnixTime, finer_digits};
 use description_items::Component;
 use description_items::modifier::SubsecondDigits;
-use parsing_components::{Slot, slot_of};
-use parsing_nodes::{Node, NodeStep};
+use parsing_components::{Node, NodeStep, Slot, slot_of};
 
 /// What an item of fixed width reads.
 #[derive(Clone, Copy)]

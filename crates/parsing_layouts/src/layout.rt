@@ -1,6 +1,6 @@
 //! What stands at each place of a line.
 ghost use Rattle.std.specs.Prelude.{◌≡◌, ◌≢◌, ◌<◌, ◌≤◌, None, length, get_or, IfSome};
-ghost use Rattle.parsing_nodes.specs.Record.{Record};
+ghost use Rattle.parsing_components.specs.declared.fields.Record.{Record};
 ghost use Rattle.parsing_layouts.specs.Layout.{is_plain, place_of, with_byte, with_place, with_slot, with_values};
 ghost use Rattle.parsing_components.specs.Slot.{Values};
 ghost use Rattle.parsing_layouts.specs.Steps.{IsTextStep};

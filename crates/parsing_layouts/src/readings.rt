@@ -3,12 +3,12 @@ ghost use Rattle.std.specs.Prelude.{◌≡◌, ◌<◌, ◌≤◌, ◌+◌, Ok, 
 ghost use Rattle.parsing_combinator.specs.Pieces.{digits};
 ghost use Rattle.parsing_combinator.specs.Tame.{EndsWith};
 ghost use Rattle.parsing_fields.specs.Moment.{moment_of};
-ghost use Rattle.parsing_nodes.specs.Meaning.{Meaning};
-ghost use Rattle.parsing_nodes.specs.Record.{Record};
-ghost use Rattle.parsing_nodes.specs.Whole.{whole, names, moment_named, starting};
+ghost use Rattle.parsing_components.specs.Meaning.{Meaning};
+ghost use Rattle.parsing_components.specs.declared.fields.Record.{Record};
+ghost use Rattle.parsing_components.specs.Whole.{whole, names, moment_named, starting};
 ghost use Rattle.parsing_layouts.specs.Layout.{IsPrefix, is_plain};
 ghost use Rattle.parsing_layouts.specs.Windows.{SpareOffset};
-ghost use Rattle.parsing_nodes.specs.Prefix.{NamesPrefix, beginning};
+ghost use Rattle.parsing_components.specs.Prefix.{NamesPrefix, beginning};
 ghost use Rattle.parsing_layouts.specs.Places.{ArePlacesOf, IsSplitOf};
 
 use crate::places::{Back, NEVER, Places, Prefix};

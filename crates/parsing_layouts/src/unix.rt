@@ -2,17 +2,17 @@
 ghost use Rattle.std.specs.Prelude.{◌≡◌, ◌+◌, ◌<◌, ◌≤◌, true, drop, length, Ok, Option, ℤ, IfSome};
 ghost use Rattle.parsing_fields.specs.Moment.{moment_of};
 ghost use Rattle.parsing_fields.specs.Written.{WriteFraction};
-ghost use Rattle.parsing_nodes.specs.Meaning.{Meaning};
-ghost use Rattle.parsing_nodes.specs.Record.{Record};
-ghost use Rattle.parsing_nodes.specs.Whole.{whole, names, moment_named, starting};
-ghost use Rattle.parsing_nodes.specs.Prefix.{beginning};
+ghost use Rattle.parsing_components.specs.Meaning.{Meaning};
+ghost use Rattle.parsing_components.specs.declared.fields.Record.{Record};
+ghost use Rattle.parsing_components.specs.Whole.{whole, names, moment_named, starting};
+ghost use Rattle.parsing_components.specs.Prefix.{beginning};
 ghost use Rattle.parsing_layouts.specs.UnixTime.{IsUnixPart};
 
 use crate::items::unix_of;
 use description_items::Component;
 use parsing_combinator::{nine_digits, one_digit};
+use parsing_components::Node;
 use parsing_fields::{Fields, Fraction};
-use parsing_nodes::Node;
 
 // The digits of the seconds, those of the years 2001 to 2286.
 const SECOND_DIGITS: usize = 10;
@@ -59,7 +59,7 @@ fn fraction_after(line: &[u8], finer: usize) -> Option<Fraction>
 impl UnixTime {
     ghost use Rattle.std.specs.Prelude.{map};
     ghost use Rattle.description_items.specs.Tree.{listed};
-    ghost use Rattle.parsing_nodes.specs.Reads.{reading_of_all};
+    ghost use Rattle.parsing_components.specs.Reads.{reading_of_all};
     ghost use Rattle.parsing_layouts.specs.Places.{IsUnixTimeOf};
 
     /// Unix time, where an item alone reads it.

@@ -3,7 +3,7 @@ use Rattle.std.proofs.Common.{◌≡◌, ℕ, List, Option, Some, None, Ok, refl
 use Rattle.datetime_wall.specs.Wall.{Shown}
 use Rattle.parsing_iso8601.specs.Moment.{IsOfOffset}
 use Rattle.parsing_record.specs.Meaning.{Meaning}
-use Rattle.parsing_record.specs.Record.{Record}
+use Rattle.parsing_components.specs.declared.fields.Record.{Record}
 use Rattle.parsing_record.specs.Whole.{starting, whole, names, moment_named}
 use Rattle.parsing_parsable.specs.Staged.{reads_iso8601}
 use Rattle.parsing_parsable.specs.Moment.{staged}

@@ -17,7 +17,7 @@ use Rattle.parsing_values.specs.declared.parts.MomentParts.{MomentParts}
 use Rattle.parsing_combinator.specs.Fault.{Fault}
 use Rattle.parsing_combinator.specs.Readings.{then_read, end, value_read}
 use Rattle.parsing_record.specs.Parts.{moment_parts}
-use Rattle.parsing_record.specs.Record.{Record}
+use Rattle.parsing_components.specs.declared.fields.Record.{Record}
 use Rattle.parsing_record.specs.Whole.{starting, whole, names, all_read, moment_named}
 use Rattle.parsing_parsable.specs.Put.{put_iso8601, put_date, put_time, put_offset}
 use Rattle.parsing_parsable.specs.Staged.{reads_iso8601}

@@ -2,7 +2,7 @@
 use Rattle.std.proofs.Common.{ℕ, ◌+◌, ◌≤◌, List, Option, Ok, Err, arith}
 use Rattle.description_items.specs.Tree.{Tree, Trees, Literal, Part, Compound, Optional, First, none, also}
 use Rattle.description.specs.Laws.{nodes, all_nodes}
-use Rattle.parsing_record.specs.Record.{Record}
+use Rattle.parsing_components.specs.declared.fields.Record.{Record}
 use Rattle.parsing_record.specs.Meaning.{Answer, Counted, then_counted, all_of, optionally, or_next, first_success, or_found, first_of}
 use Rattle.parsing_record.specs.Reads.{Language, reads, each_reads}
 

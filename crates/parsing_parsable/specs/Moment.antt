@@ -6,7 +6,7 @@ use Rattle.parsing_components.specs.Component.{reads_component}
 use Rattle.parsing_combinator.specs.Fault.{Fault}
 use Rattle.parsing_record.specs.Meaning.{Counted, Meaning, all_of, meaning}
 use Rattle.parsing_record.specs.Reads.{each_reads}
-use Rattle.parsing_record.specs.Record.{Record}
+use Rattle.parsing_components.specs.declared.fields.Record.{Record}
 use Rattle.parsing_record.specs.Whole.{whole, names, moment_named}
 
 -- items, one after the other, as versions 1 and 2 and strftime write them

@@ -4,7 +4,8 @@ use Rattle.std.specs.Result.{result_ok}
 use Rattle.datetime_wall.specs.Wall.{Shown}
 use Rattle.parsing_combinator.specs.Fault.{Fault}
 use Rattle.parsing_record.specs.Meaning.{Meaning}
-use Rattle.parsing_record.specs.Record.{Record, empty}
+use Rattle.parsing_components.specs.declared.fields.Record.{Record}
+use Rattle.parsing_record.specs.Record.{empty}
 use Rattle.parsing_parsable.specs.Moment.{staged}
 
 -- a record that holds no more than an offset's hour and its minute

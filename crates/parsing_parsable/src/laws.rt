@@ -4,7 +4,7 @@ ghost use Rattle.datetime_wall.specs.Wall.{Shown};
 ghost use Rattle.parsing_iso8601.specs.Moment.{IsOfOffset};
 ghost use Rattle.parsing_parsable.specs.Staged.{reads_rfc3339, reads_rfc2822, reads_iso8601};
 ghost use Rattle.parsing_parsable.specs.TwoRoads.{AgreeOn, HoldsAtMostAnOffset};
-ghost use Rattle.parsing_record.specs.Record.{Record};
+ghost use Rattle.parsing_components.specs.declared.fields.Record.{Record};
 ghost use Rattle.parsing_record.specs.Whole.{whole, names, moment_named};
 ghost use Rattle.parsing_rfc2822.specs.Direct as rfc2822;
 ghost use Rattle.parsing_rfc3339.specs.Direct as rfc3339;

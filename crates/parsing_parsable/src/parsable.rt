@@ -73,7 +73,7 @@ pub trait Parsable {
 
     /// Reads all of the bytes, from the defaults where there are any. What is left over is refused as
     /// `UnexpectedTrailingCharacters`.
-    #[tactic(auto, unfolding(parsing_nodes::specs::Whole::whole))]
+    #[tactic(auto, unfolding(parsing_components::specs::Whole::whole))]
     fn parse_internal(&self, input: &[u8], defaults: Option<Parsed>) -> Result<Parsed, Parse>
         ensures record { Gives (λ r. r) fault_of result
             (whole (meaning (reading self.now)) defaults input.now) }
@@ -185,7 +185,7 @@ pub trait Parsable {
     /// The moment, with its offset, of the record that all of the bytes set, from the defaults where there are any: of Unix
     /// time, at offset zero, or of a date, a time of day and an offset.
     #[inline(always)]
-    #[tactic(auto, unfolding(parsing_nodes::specs::Whole::whole))]
+    #[tactic(auto, unfolding(parsing_components::specs::Whole::whole))]
     fn moment_of_record(
         &self,
         input: &[u8],

@@ -29,25 +29,7 @@ lets_is w place byte e = record {
   high = grind (arith, nat_tests, e);
 }
 
-pub both_are : (a b : Bool) → (a && b) ≡ true → (a ≡ true) × (b ≡ true)
-both_are true b e = (refl, e)
-both_are false b e = absurd cc
-
 -- a lane takes a digit, of one of two windows
 abbrev pub digit : List ℕ → List ℕ → List ℕ → List ℕ → List ℕ → List ℕ → ℕ → ℕ → ℕ → ℕ → Bool
 digit fl fh fm bl bh bm back_at lane place most =
     cond (nat_lt (get_or fm lane 0) 128) (takes fl fh fm lane place most && nat_le 128 (get_or bm lane 0)) (nat_le back_at place && takes bl bh bm lane (place - back_at) most)
-
-pub digit_is : (prefix back : Window) (back_at lane place most : ℕ) → digit prefix.low prefix.high prefix.taken.lanes back.low back.high back.taken.lanes back_at lane place most ≡ true → TakesDigit prefix back back_at lane place most
-digit_is prefix back back_at lane place most e = record {
-  here = λ small.
-      let both : (takes prefix.low prefix.high prefix.taken.lanes lane place most && nat_le 128 (get_or back.taken.lanes lane 0)) ≡ true = grind (arith, nat_tests, e, small) in
-      let free : nat_le 128 (get_or back.taken.lanes lane 0) ≡ true = (both_are _ _ both).1 in
-      record { takes = takes_is prefix lane place most (both_are _ _ both).0; alone = grind (arith, nat_tests, free) };
-  there = λ large.
-      let both : (nat_le back_at place && takes back.low back.high back.taken.lanes lane (place - back_at) most) ≡ true = grind (arith, nat_tests, e, large) in
-      let after : nat_le back_at place ≡ true = (both_are _ _ both).0 in
-      let le : back_at ≤ place = grind (arith, nat_tests, after) in
-      let from : TakesFrom back prefix lane (place - back_at) most = record { takes = takes_is back lane (place - back_at) most (both_are _ _ both).1; alone = large } in
-      (le, from);
-}

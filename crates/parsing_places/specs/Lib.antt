@@ -1,13 +1,7 @@
 pub mod Digits
-pub mod End
 pub mod Lanes
 pub mod Last
 pub mod Numbers
-pub mod Says
 pub mod Shape
-pub mod Shortened
-pub mod Stamp
 pub mod Tail
-pub mod Text
-pub mod Whole
 pub mod Windows

@@ -1,7 +1,6 @@
 -- Where the digits of a text are taken from.
 use Rattle.std.specs.Prelude.{◌≡◌, ◌≤◌, ◌<◌, ◌+◌, ◌-◌, ℕ, get_or, true, false}
 use Rattle.parsing_places.specs.declared.lanes.Moves.{Moves}
-use Rattle.parsing_places.specs.declared.shape.Number.{Number}
 use Rattle.parsing_places.specs.declared.shape.Window.{Window}
 
 -- a lane takes a digit at a place of a window, at most so large
@@ -64,10 +63,3 @@ pub record TakesSign (prefix back : Window) (back_at place : ℕ) : Type 0 where
   pub is_there : get_or back.taken.lanes 13 0 ≡ place - back_at
   pub low : get_or back.low (place - back_at) 0 ≡ 43
   pub high : get_or back.high (place - back_at) 0 ≤ 2
-
--- two lanes take a number of one digit or two, its tens at most so large
-pub record TakesNumber (prefix back : Window) (back_at lane : ℕ) (number : Number) (most : ℕ) : Type 0 where
-  pub tens : number.has_tens ≡ true → TakesDigit prefix back back_at lane (number.place - 1) most
-  pub no_tens : number.has_tens ≡ false → TakesNone prefix back lane
-  pub ones : TakesDigit prefix back back_at (lane + 1) number.place 9
-  pub after : number.has_tens ≡ true → 1 ≤ number.place

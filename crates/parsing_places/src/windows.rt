@@ -3,9 +3,8 @@ ghost use Rattle.std.specs.Prelude.{◌≡◌, ◌≤◌, ◌<◌, ◌+◌, ℕ,
 ghost use Rattle.parsing_places.specs.Windows.{LetsIn, LetsAt, TakeTwo, TakeOne, SpareTwo, SpareOne, TakeSign, Taken};
 ghost use Rattle.parsing_places.specs.Shape.{Takes, TakesFrom, TakesDigit};
 
-use crate::lanes::{LANES, Moves};
+use crate::lanes::{LANES, Moves, all_above, are_at_most, joined, sixteen_from};
 use crate::shape::Window;
-use crate::stamp::digits_of;
 use std::simd::prelude::*;
 
 /// Sixteen bytes at the start of a text, and sixteen from a place on.
@@ -148,6 +147,24 @@ fn padded(text: &[u8]) -> [u8; LANES]
 }
 
 impl Windows {
+    // Whether a text lies within both windows, and the digits that lanes take of it.
+    #[inline(always)]
+    fn digits_within(&self, text: &[u8]) -> (bool, u8x16)
+        requires { self.now.back_at + LANES ≤ length text.now }
+        ensures { result.0 ≡ true → Taken self.now text.now result.1 }
+    {
+        let first = all_above(sixteen_from(text, 0), u8x16::from_array(self.prefix.low));
+        let second = all_above(
+            sixteen_from(text, self.back_at),
+            u8x16::from_array(self.back.low),
+        );
+        let first_high = u8x16::from_array(self.prefix.high);
+        let second_high = u8x16::from_array(self.back.high);
+        let fits = are_at_most(first, first_high, second, second_high, second, second_high);
+        let digits = joined(self.prefix.taken.of(first), self.back.taken.of(second));
+        (fits, digits)
+    }
+
     // The digits of a text that is shorter than a window.
     #[cold]
     #[inline(never)]
@@ -156,7 +173,7 @@ impl Windows {
         requires prefix { self.now.back_at ≡ 0 }
         ensures { result.0 ≡ true → Taken self.now text.now result.1 }
     {
-        digits_of(&self.prefix, &self.back, self.back_at, &padded(text))
+        self.digits_within(&padded(text))
     }
 
     /// Whether a text lies within both windows, and the digits that lanes take of it. It may be shorter than a window that
@@ -169,6 +186,6 @@ impl Windows {
         if text.len() < LANES {
             return self.digits_of_few(text);
         }
-        digits_of(&self.prefix, &self.back, self.back_at, text)
+        self.digits_within(text)
     }
 }

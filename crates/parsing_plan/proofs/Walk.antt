@@ -2,8 +2,8 @@
 use Rattle.std.proofs.Common.{◌≡◌, List, Option, Some, None}
 use Rattle.std.specs.Prelude.{IfSome}
 use Rattle.description_items.specs.Tree.{Tree, Compound, listed}
-use Rattle.parsing_nodes.specs.Meaning.{Meaning}
-use Rattle.parsing_nodes.specs.Reads.{Language, reading, reading_of_all, reads, each_reads}
+use Rattle.parsing_components.specs.Meaning.{Meaning}
+use Rattle.parsing_components.specs.Reads.{Language, reading, reading_of_all, reads, each_reads}
 use Rattle.parsing_layouts.specs.declared.places.Places.{Places}
 use Rattle.parsing_layouts.specs.Places.{ArePlacesOf}
 use Rattle.parsing_steps.specs.declared.steps.Steps.{Steps}

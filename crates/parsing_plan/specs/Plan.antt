@@ -1,6 +1,6 @@
 -- Plans, and the items that they stand for.
 use Rattle.std.specs.Prelude.{◌≡◌}
-use Rattle.parsing_nodes.specs.Meaning.{Meaning}
+use Rattle.parsing_components.specs.Meaning.{Meaning}
 use Rattle.parsing_layouts.specs.Places.{ArePlacesOf, IsUnixTimeOf}
 use Rattle.parsing_layouts.specs.declared.places.Places.{Places}
 use Rattle.parsing_layouts.specs.declared.unix.UnixTime.{UnixTime}

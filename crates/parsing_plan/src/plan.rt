@@ -5,19 +5,19 @@ ghost use Rattle.description_tree.specs.Description.{v3_tree};
 ghost use Rattle.parsing_combinator.specs.Tame.{EndsWith};
 ghost use Rattle.parsing_components.specs.Component.{reads_component, reads_component_v3};
 ghost use Rattle.parsing_fields.specs.Moment.{moment_of};
-ghost use Rattle.parsing_nodes.specs.Meaning.{Meaning};
-ghost use Rattle.parsing_nodes.specs.Prefix.{NamesPrefix, beginning};
-ghost use Rattle.parsing_nodes.specs.Reads.{reading, reading_of_all};
-ghost use Rattle.parsing_nodes.specs.Record.{Record};
-ghost use Rattle.parsing_nodes.specs.Whole.{whole, names, moment_named, starting};
+ghost use Rattle.parsing_components.specs.Meaning.{Meaning};
+ghost use Rattle.parsing_components.specs.Prefix.{NamesPrefix, beginning};
+ghost use Rattle.parsing_components.specs.Reads.{reading, reading_of_all};
+ghost use Rattle.parsing_components.specs.declared.fields.Record.{Record};
+ghost use Rattle.parsing_components.specs.Whole.{whole, names, moment_named, starting};
 ghost use Rattle.parsing_plan.specs.Plan.{IsPlanOf};
 
 use calendar::UtcOffset;
 use description_items::BorrowedFormatItem;
 use description_tree::FormatDescriptionV3;
+use parsing_components::{Node, NodeStep};
 use parsing_fields::Fields;
 use parsing_layouts::{Places, UnixTime};
-use parsing_nodes::{Node, NodeStep};
 use parsing_steps::Steps;
 
 /// How lines of a description are read at once.

@@ -1,8 +1,8 @@
-pub use Rattle.parsing_nodes.specs.Record
-pub use Rattle.parsing_nodes.specs.Parts
-pub use Rattle.parsing_nodes.specs.Meaning
-pub use Rattle.parsing_nodes.specs.Reads
+pub use Rattle.parsing_components.specs.Record
+pub use Rattle.parsing_components.specs.Parts
+pub use Rattle.parsing_components.specs.Meaning
+pub use Rattle.parsing_components.specs.Reads
 pub mod Tally
-pub use Rattle.parsing_nodes.specs.Whole
-pub use Rattle.parsing_nodes.specs.Node
-pub use Rattle.parsing_nodes.specs.Prefix
+pub use Rattle.parsing_components.specs.Whole
+pub use Rattle.parsing_components.specs.Node
+pub use Rattle.parsing_components.specs.Prefix

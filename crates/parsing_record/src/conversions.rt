@@ -3,7 +3,7 @@ ghost use Rattle.parsing_combinator.specs.FaultOf.{Gives, resolution_fault};
 ghost use Rattle.parsing_values.specs.NamedDate.{named_date};
 ghost use Rattle.parsing_values.specs.NamedTime.{named_time, named_offset};
 ghost use Rattle.parsing_values.specs.NamedMoment.{named_wall, named_moment, named_utc, named_timestamp};
-ghost use Rattle.parsing_nodes.specs.Parts.{date_parts, time_parts, offset_parts, moment_parts};
+ghost use Rattle.parsing_components.specs.Parts.{date_parts, time_parts, offset_parts, moment_parts};
 ghost use Rattle.std.specs.Prelude.{◌≡◌, false};
 
 use crate::parsed::Parsed;

@@ -1,7 +1,7 @@
 //! The days of a record: months, weeks, weekdays.
 ghost use Rattle.std.specs.Prelude.{◌≡◌, Some};
 ghost use Rattle.std.specs.Int.{is_in_range};
-ghost use Rattle.parsing_nodes.specs.Record.{set_if, with_if, InRange};
+ghost use Rattle.parsing_components.specs.Record.{set_if, with_if, InRange};
 
 use crate::parsed::Parsed;
 use calendar_count::{Month, Weekday};

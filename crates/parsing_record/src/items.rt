@@ -2,8 +2,8 @@
 ghost use Rattle.description_items.specs.Tree.{tree_of, trees, listed};
 ghost use Rattle.parsing_combinator.specs.FaultOf.{Gives, reading_fault};
 ghost use Rattle.parsing_components.specs.Component.{reads_component, reads_component_v3};
-ghost use Rattle.parsing_nodes.specs.Meaning.{Reads, literally};
-ghost use Rattle.parsing_nodes.specs.Reads.{putting, reading, reading_of_all, tried, tried_in_all};
+ghost use Rattle.parsing_components.specs.Meaning.{Reads, literally};
+ghost use Rattle.parsing_components.specs.Reads.{putting, reading, reading_of_all, tried, tried_in_all};
 
 use crate::node::ReadsNode;
 use crate::parsed::Parsed;
@@ -16,7 +16,7 @@ use parsing_components::{read_component, read_component_v3};
 impl Parsed {
     /// The bytes after the literal, which have to begin with it: `InvalidLiteral` where they do not.
     #[inline(always)]
-    #[tactic(auto, unfolding(parsing_nodes::specs::Meaning::literally))]
+    #[tactic(auto, unfolding(parsing_components::specs::Meaning::literally))]
     pub fn parse_literal<'a>(
         input: &'a [u8],
         literal: &[u8],

@@ -16,6 +16,6 @@ mod years;
 
 pub use node::ReadsNode;
 pub use parsed::Parsed;
-pub use parsing_nodes::{Node, NodeStep};
+pub use parsing_components::{Node, NodeStep};
 pub use tally::{ItemTally, NoTally, Tally};
 pub use tree::parse_tree;

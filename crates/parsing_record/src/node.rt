@@ -1,11 +1,11 @@
 //! The reading of one node.
-ghost use Rattle.parsing_nodes.specs.Meaning.{Reads};
-ghost use Rattle.parsing_nodes.specs.Reads.{putting};
+ghost use Rattle.parsing_components.specs.Meaning.{Reads};
+ghost use Rattle.parsing_components.specs.Reads.{putting};
 
 use crate::parsed::Parsed;
 use description_items::Component;
 use parsing_combinator::ParseFromDescription;
-use parsing_nodes::Node;
+use parsing_components::Node;
 
 /// A node that reads into a record.
 pub trait ReadsNode: Node {

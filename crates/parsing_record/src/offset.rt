@@ -1,9 +1,9 @@
 //! The offset of a record, and its Unix time.
 ghost use Rattle.std.specs.Prelude.{◌≡◌, pos, neg_ℤ, Some, option_map, unsigned_abs};
 ghost use Rattle.std.specs.Int.{is_in_range};
-ghost use Rattle.parsing_nodes.specs.Record.{set_if, with_if, is_up_to, is_between, InRange, InSigned, Reaches};
+ghost use Rattle.parsing_components.specs.Record.{set_if, with_if, is_up_to, is_between, InRange, InSigned, Reaches};
 ghost use Rattle.parsing_components.specs.Ranged.{nanoseconds_before_epoch, nanoseconds_after_epoch};
-ghost use Rattle.parsing_nodes.specs.Parts.{under_sign};
+ghost use Rattle.parsing_components.specs.Parts.{under_sign};
 
 use crate::parsed::Parsed;
 use calendar_count::range::{LAST_COUNT, UNIX_EPOCH};

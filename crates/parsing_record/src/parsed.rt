@@ -1,6 +1,6 @@
 //! What was read so far.
 ghost use Rattle.std.specs.Prelude.{◌≡◌, true};
-ghost use Rattle.parsing_nodes.specs.Record.{empty};
+ghost use Rattle.parsing_components.specs.Record.{empty};
 
 use parsing_components::Record;
 use std::marker::Model;
@@ -19,7 +19,8 @@ pub struct Parsed {
 }
 
 impl Model for Parsed {
-    ghost use Rattle.parsing_nodes.specs.Record.{Record, IsWithin};
+    ghost use Rattle.parsing_components.specs.declared.fields.Record.{Record};
+    ghost use Rattle.parsing_components.specs.Record.{IsWithin};
 
     ghost Value = { Record };
 
@@ -85,7 +86,7 @@ impl Parsed {
 }
 
 impl Default for Parsed {
-    ghost use Rattle.parsing_nodes.specs.Record.{empty};
+    ghost use Rattle.parsing_components.specs.Record.{empty};
 
     ghost is_default = { λ r. r ≡ empty };
 

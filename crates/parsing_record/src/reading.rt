@@ -1,17 +1,17 @@
 //! Reading by nodes, whatever kind they are of.
 ghost use Rattle.std.specs.Prelude.{map};
 ghost use Rattle.description_items.specs.Tree.{listed};
-ghost use Rattle.parsing_nodes.specs.Meaning.{Answers, optionally, first_of};
-ghost use Rattle.parsing_nodes.specs.Reads.{reads, reading, reading_of_all, each_reads, tried, tried_in_all};
+ghost use Rattle.parsing_components.specs.Meaning.{Answers, optionally, first_of};
+ghost use Rattle.parsing_components.specs.Reads.{reads, reading, reading_of_all, each_reads, tried, tried_in_all};
 
 use crate::node::ReadsNode;
 use crate::parsed::Parsed;
 use crate::tally::Tally;
 use parsing_combinator::ParseFromDescription;
-use parsing_nodes::NodeStep;
+use parsing_components::NodeStep;
 
 /// Reads by one node, and tells the tally; a refusal leaves what was read before it in the record.
-#[tactic(auto, unfolding(parsing_nodes::specs::Reads::reads, parsing_nodes::specs::Meaning::optionally))]
+#[tactic(auto, unfolding(parsing_components::specs::Reads::reads, parsing_components::specs::Meaning::optionally))]
 #[cycle(reading)]
 pub(crate) fn read_node<'a, N: ReadsNode, T: Tally>(
     node: &N,
@@ -35,7 +35,7 @@ pub(crate) fn read_node<'a, N: ReadsNode, T: Tally>(
 }
 
 // Reads by the node, or leaves everything as it was.
-#[tactic(auto, unfolding(parsing_nodes::specs::Meaning::optionally))]
+#[tactic(auto, unfolding(parsing_components::specs::Meaning::optionally))]
 #[cycle(reading)]
 fn read_optional<'a, N: ReadsNode, T: Tally>(
     node: &N,

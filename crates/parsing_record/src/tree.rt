@@ -1,8 +1,8 @@
 //! Reading by the nodes of a tree.
 ghost use Rattle.description_tree.specs.Description.{v3_tree};
 ghost use Rattle.parsing_components.specs.Component.{reads_component_v3};
-ghost use Rattle.parsing_nodes.specs.Meaning.{Reads};
-ghost use Rattle.parsing_nodes.specs.Reads.{putting, reading, tried};
+ghost use Rattle.parsing_components.specs.Meaning.{Reads};
+ghost use Rattle.parsing_components.specs.Reads.{putting, reading, tried};
 
 use crate::node::ReadsNode;
 use crate::parsed::Parsed;

@@ -3,7 +3,7 @@ ghost use Rattle.std.specs.Prelude.{◌≡◌, false, Ok, IfSome};
 ghost use Rattle.parsing_values.specs.NamedDate.{named_date};
 ghost use Rattle.parsing_values.specs.NamedTime.{named_time, named_offset};
 ghost use Rattle.parsing_values.specs.NamedMoment.{named_moment};
-ghost use Rattle.parsing_nodes.specs.Parts.{date_parts, time_parts, offset_parts, moment_parts};
+ghost use Rattle.parsing_components.specs.Parts.{date_parts, time_parts, offset_parts, moment_parts};
 
 use crate::parsed::Parsed;
 use calendar::{Date, Time, UtcOffset};

@@ -2,7 +2,7 @@
 ghost use Rattle.std.specs.Prelude.{◌≡◌, Some, option_map};
 ghost use Rattle.std.specs.Int.{is_in_range};
 ghost use Rattle.calendar_count.specs.Range.{greatest_year};
-ghost use Rattle.parsing_nodes.specs.Record.{set_if, with_if, is_up_to, century_sign, InRange, Reaches};
+ghost use Rattle.parsing_components.specs.Record.{set_if, with_if, is_up_to, century_sign, InRange, Reaches};
 ghost use Rattle.parsing_components.specs.Ranged.{greatest_century};
 
 use crate::parsed::Parsed;

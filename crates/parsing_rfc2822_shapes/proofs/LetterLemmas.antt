@@ -1,5 +1,5 @@
 -- Names that tables hold as numbers of four bytes.
-use Rattle.std.proofs.Common.{◌≡◌, ◌≤◌, ◌<◌, ◌+◌, ◌*◌, ◌^◌, ◌∙◌, ℕ, zero, suc, true, List, [], ◌∷◌, length, get_or, leb, eqb, Some, refl, arith, lit<}
+use Rattle.std.proofs.Common.{◌≡◌, ◌≤◌, ◌<◌, ◌+◌, ◌*◌, ◌^◌, ◌∙◌, ℕ, zero, suc, true, List, [], ◌∷◌, length, get_or, leb, eqb, Some, refl, arith, lit<, lit≤}
 use Rattle.std.specs.Int.Bits.{bit_or}
 use Rattle.std.proofs.lemmas.Bool.{agree_below_at, eqb-true}
 use Rattle.std.proofs.lemmas.Bool.Decides.{nat_tests}
@@ -11,7 +11,7 @@ use Rattle.calendar_count.specs.declared.weekday.Weekday.{Weekday}
 use Rattle.calendar_count.specs.declared.weekday.Weekday.TheVariants.{Monday, Tuesday, Wednesday, Thursday, Friday, Saturday, Sunday}
 use Rattle.parsing_rfc2822.specs.Names.{weekday, weekday_of, month, month_of}
 use Rattle.parsing_rfc2822.specs.Words.{small, word_of}
-use Rattle.parsing_rfc2822_shapes.specs.Places.{HasWeekday, HasMonth, number_of_four}
+use Rattle.parsing_rfc2822_shapes.specs.Names.{HasWeekday, HasMonth, number_of_four}
 use Rattle.parsing_rfc2822.proofs.WordLemmas.{weekday_at, weekday_by_word, month_at, month_by_word, small_is, small_fits}
 
 -- what the letters of a number are
@@ -100,54 +100,62 @@ months = 0 ∷ 1_952_673_568 ∷ 1_650_812_448 ∷ 0 ∷ 1_667_589_152 ∷ 1_819
 abbrev pub numbers : List ℕ
 numbers = 0 ∷ 10 ∷ 2 ∷ 0 ∷ 12 ∷ 7 ∷ 11 ∷ 1 ∷ 6 ∷ 0 ∷ 5 ∷ 9 ∷ 8 ∷ 0 ∷ 3 ∷ 4 ∷ []
 
--- a name and the number of its month
-record OfYear (a b c number : ℕ) : Type 0 where
+-- a space, a name and the number of its month
+record OfYear (s a b c number : ℕ) : Type 0 where
+  space : s ≡ 32
+  letter : 41 ≤ a
   month : Month
   named : month_of (a ∷ b ∷ c ∷ []) ≡ Some month
   number_is : month_number month ≡ number
 
--- a space and the letters in one number
-abbrev after_space : ℕ → ℕ → ℕ → ℕ
-after_space a b c = 32 + small a * 256 + small b * 65_536 + small c * 16_777_216
+-- a byte and the letters in one number
+abbrev after : ℕ → ℕ → ℕ → ℕ → ℕ
+after s a b c = s + small a * 256 + small b * 65_536 + small c * 16_777_216
 
-month_of_entry : (a b c x y z : ℕ) (m : Month) → a < 256 → b < 256 → c < 256 → x < 256 → y < 256 → z < 256 → 32 + x * 256 + y * 65_536 + z * 16_777_216 ≡ after_space a b c → month_at (x * 65_536 + y * 256 + z) ≡ Some m → OfYear a b c (month_number m)
+month_of_entry : (s a b c x y z : ℕ) (m : Month) → s < 256 → a < 256 → b < 256 → c < 256 → x < 256 → y < 256 → z < 256 → 97 ≤ x → 32 + x * 256 + y * 65_536 + z * 16_777_216 ≡ after s a b c → month_at (x * 65_536 + y * 256 + z) ≡ Some m → OfYear s a b c (month_number m)
 unfolding word_of
-month_of_entry a b c x y z m ha hb hc hx hy hz e is =
+month_of_entry s a b c x y z m hs ha hb hc hx hy hz least e is =
     let fa = small_fits a ha in
     let fb = small_fits b hb in
     let fc = small_fits c hc in
     let l : Letters a b c x y z = record { first = omega arith; second = omega arith; third = omega arith } in
-    record { month = m; named = month_by_word (a ∷ b ∷ c ∷ []) refl (three_fit a b c ha hb hc) ∙ rw (l.first, l.second, l.third) is; number_is = refl }
+    record {
+      space = omega (arith, l.first, l.second, l.third);
+      letter = omega (arith, small_is a ha, l.first);
+      month = m;
+      named = month_by_word (a ∷ b ∷ c ∷ []) refl (three_fit a b c ha hb hc) ∙ rw (l.first, l.second, l.third) is;
+      number_is = refl;
+    }
 
-month_in : (place a b c : ℕ) → place < 16 → a < 256 → b < 256 → c < 256 → get_or months place 0 ≡ after_space a b c → OfYear a b c (get_or numbers place 0)
-month_in zero a b c lt ha hb hc e = absurd (omega arith)
-month_in (suc zero) a b c lt ha hb hc e = month_of_entry a b c 111 99 116 October ha hb hc (lit< tt) (lit< tt) (lit< tt) e refl
-month_in (suc (suc zero)) a b c lt ha hb hc e = month_of_entry a b c 102 101 98 February ha hb hc (lit< tt) (lit< tt) (lit< tt) e refl
-month_in (suc (suc (suc zero))) a b c lt ha hb hc e = absurd (omega arith)
-month_in (suc (suc (suc (suc zero)))) a b c lt ha hb hc e = month_of_entry a b c 100 101 99 December ha hb hc (lit< tt) (lit< tt) (lit< tt) e refl
-month_in (suc (suc (suc (suc (suc zero))))) a b c lt ha hb hc e = month_of_entry a b c 106 117 108 July ha hb hc (lit< tt) (lit< tt) (lit< tt) e refl
-month_in (suc (suc (suc (suc (suc (suc zero)))))) a b c lt ha hb hc e = month_of_entry a b c 110 111 118 November ha hb hc (lit< tt) (lit< tt) (lit< tt) e refl
-month_in (suc (suc (suc (suc (suc (suc (suc zero))))))) a b c lt ha hb hc e = month_of_entry a b c 106 97 110 January ha hb hc (lit< tt) (lit< tt) (lit< tt) e refl
-month_in (suc (suc (suc (suc (suc (suc (suc (suc zero)))))))) a b c lt ha hb hc e = month_of_entry a b c 106 117 110 June ha hb hc (lit< tt) (lit< tt) (lit< tt) e refl
-month_in (suc (suc (suc (suc (suc (suc (suc (suc (suc zero))))))))) a b c lt ha hb hc e = absurd (omega arith)
-month_in (suc (suc (suc (suc (suc (suc (suc (suc (suc (suc zero)))))))))) a b c lt ha hb hc e = month_of_entry a b c 109 97 121 May ha hb hc (lit< tt) (lit< tt) (lit< tt) e refl
-month_in (suc (suc (suc (suc (suc (suc (suc (suc (suc (suc (suc zero))))))))))) a b c lt ha hb hc e = month_of_entry a b c 115 101 112 September ha hb hc (lit< tt) (lit< tt) (lit< tt) e refl
-month_in (suc (suc (suc (suc (suc (suc (suc (suc (suc (suc (suc (suc zero)))))))))))) a b c lt ha hb hc e = month_of_entry a b c 97 117 103 August ha hb hc (lit< tt) (lit< tt) (lit< tt) e refl
-month_in (suc (suc (suc (suc (suc (suc (suc (suc (suc (suc (suc (suc (suc zero))))))))))))) a b c lt ha hb hc e = absurd (omega arith)
-month_in (suc (suc (suc (suc (suc (suc (suc (suc (suc (suc (suc (suc (suc (suc zero)))))))))))))) a b c lt ha hb hc e = month_of_entry a b c 109 97 114 March ha hb hc (lit< tt) (lit< tt) (lit< tt) e refl
-month_in (suc (suc (suc (suc (suc (suc (suc (suc (suc (suc (suc (suc (suc (suc (suc zero))))))))))))))) a b c lt ha hb hc e = month_of_entry a b c 97 112 114 April ha hb hc (lit< tt) (lit< tt) (lit< tt) e refl
-month_in (suc (suc (suc (suc (suc (suc (suc (suc (suc (suc (suc (suc (suc (suc (suc (suc k)))))))))))))))) a b c lt ha hb hc e = absurd (omega arith)
+month_in : (place s a b c : ℕ) → place < 16 → s < 256 → a < 256 → b < 256 → c < 256 → get_or months place 0 ≡ after s a b c → OfYear s a b c (get_or numbers place 0)
+month_in zero s a b c lt hs ha hb hc e = absurd (omega (arith, small_is a ha))
+month_in (suc zero) s a b c lt hs ha hb hc e = month_of_entry s a b c 111 99 116 October hs ha hb hc (lit< tt) (lit< tt) (lit< tt) (lit≤ tt) e refl
+month_in (suc (suc zero)) s a b c lt hs ha hb hc e = month_of_entry s a b c 102 101 98 February hs ha hb hc (lit< tt) (lit< tt) (lit< tt) (lit≤ tt) e refl
+month_in (suc (suc (suc zero))) s a b c lt hs ha hb hc e = absurd (omega (arith, small_is a ha))
+month_in (suc (suc (suc (suc zero)))) s a b c lt hs ha hb hc e = month_of_entry s a b c 100 101 99 December hs ha hb hc (lit< tt) (lit< tt) (lit< tt) (lit≤ tt) e refl
+month_in (suc (suc (suc (suc (suc zero))))) s a b c lt hs ha hb hc e = month_of_entry s a b c 106 117 108 July hs ha hb hc (lit< tt) (lit< tt) (lit< tt) (lit≤ tt) e refl
+month_in (suc (suc (suc (suc (suc (suc zero)))))) s a b c lt hs ha hb hc e = month_of_entry s a b c 110 111 118 November hs ha hb hc (lit< tt) (lit< tt) (lit< tt) (lit≤ tt) e refl
+month_in (suc (suc (suc (suc (suc (suc (suc zero))))))) s a b c lt hs ha hb hc e = month_of_entry s a b c 106 97 110 January hs ha hb hc (lit< tt) (lit< tt) (lit< tt) (lit≤ tt) e refl
+month_in (suc (suc (suc (suc (suc (suc (suc (suc zero)))))))) s a b c lt hs ha hb hc e = month_of_entry s a b c 106 117 110 June hs ha hb hc (lit< tt) (lit< tt) (lit< tt) (lit≤ tt) e refl
+month_in (suc (suc (suc (suc (suc (suc (suc (suc (suc zero))))))))) s a b c lt hs ha hb hc e = absurd (omega (arith, small_is a ha))
+month_in (suc (suc (suc (suc (suc (suc (suc (suc (suc (suc zero)))))))))) s a b c lt hs ha hb hc e = month_of_entry s a b c 109 97 121 May hs ha hb hc (lit< tt) (lit< tt) (lit< tt) (lit≤ tt) e refl
+month_in (suc (suc (suc (suc (suc (suc (suc (suc (suc (suc (suc zero))))))))))) s a b c lt hs ha hb hc e = month_of_entry s a b c 115 101 112 September hs ha hb hc (lit< tt) (lit< tt) (lit< tt) (lit≤ tt) e refl
+month_in (suc (suc (suc (suc (suc (suc (suc (suc (suc (suc (suc (suc zero)))))))))))) s a b c lt hs ha hb hc e = month_of_entry s a b c 97 117 103 August hs ha hb hc (lit< tt) (lit< tt) (lit< tt) (lit≤ tt) e refl
+month_in (suc (suc (suc (suc (suc (suc (suc (suc (suc (suc (suc (suc (suc zero))))))))))))) s a b c lt hs ha hb hc e = absurd (omega (arith, small_is a ha))
+month_in (suc (suc (suc (suc (suc (suc (suc (suc (suc (suc (suc (suc (suc (suc zero)))))))))))))) s a b c lt hs ha hb hc e = month_of_entry s a b c 109 97 114 March hs ha hb hc (lit< tt) (lit< tt) (lit< tt) (lit≤ tt) e refl
+month_in (suc (suc (suc (suc (suc (suc (suc (suc (suc (suc (suc (suc (suc (suc (suc zero))))))))))))))) s a b c lt hs ha hb hc e = month_of_entry s a b c 97 112 114 April hs ha hb hc (lit< tt) (lit< tt) (lit< tt) (lit≤ tt) e refl
+month_in (suc (suc (suc (suc (suc (suc (suc (suc (suc (suc (suc (suc (suc (suc (suc (suc k)))))))))))))))) s a b c lt hs ha hb hc e = absurd (omega arith)
 
 -- what a number found in the table says
-pub month_there : (text : List ℕ) (place : ℕ) → 4 ≤ length text → ((k : ℕ) → get_or text k 0 < 256) → place < 16 → get_or text 0 0 ≡ 32 → get_or months place 0 ≡ bit_or (number_of_four text) 538_976_256 → HasMonth text (get_or numbers place 0)
+pub month_there : (text : List ℕ) (place : ℕ) → 4 ≤ length text → ((k : ℕ) → get_or text k 0 < 256) → place < 16 → get_or months place 0 ≡ bit_or (number_of_four text) 538_976_256 → HasMonth text (get_or numbers place 0)
 unfolding month
-month_there [] place le fit lt space e = absurd (omega arith)
-month_there (s ∷ []) place le fit lt space e = absurd (omega arith)
-month_there (s ∷ a ∷ []) place le fit lt space e = absurd (omega arith)
-month_there (s ∷ a ∷ b ∷ []) place le fit lt space e = absurd (omega arith)
-month_there (s ∷ a ∷ b ∷ c ∷ rest) place le fit lt space e =
+month_there [] place le fit lt e = absurd (omega arith)
+month_there (s ∷ []) place le fit lt e = absurd (omega arith)
+month_there (s ∷ a ∷ []) place le fit lt e = absurd (omega arith)
+month_there (s ∷ a ∷ b ∷ []) place le fit lt e = absurd (omega arith)
+month_there (s ∷ a ∷ b ∷ c ∷ rest) place le fit lt e =
     let bits = bits_of_four s a b c 0 32 32 32 (fit 0) (fit 1) (fit 2) (lit< tt) (lit< tt) (lit< tt) in
-    let word : bit_or (number_of_four (s ∷ a ∷ b ∷ c ∷ rest)) 538_976_256 ≡ after_space a b c = omega (arith, bits, no_bits s (fit 0)) in
-    let m = month_in place a b c lt (fit 1) (fit 2) (fit 3) (e ∙ word) in
+    let word : bit_or (number_of_four (s ∷ a ∷ b ∷ c ∷ rest)) 538_976_256 ≡ after s a b c = omega (arith, bits, no_bits s (fit 0)) in
+    let m = month_in place s a b c lt (fit 0) (fit 1) (fit 2) (fit 3) (e ∙ word) in
     let long : leb 3 (length (a ∷ b ∷ c ∷ rest)) ≡ true = grind (arith, nat_tests) in
-    record { month_is = m.month; named = rw (long, m.named) refl; number_is = m.number_is }
+    record { space_there = m.space; letter = m.letter; month_is = m.month; named = rw (long, m.named) refl; number_is = m.number_is }

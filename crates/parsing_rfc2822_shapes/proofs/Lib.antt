@@ -1,3 +1,3 @@
+pub mod FrontLemmas
 pub mod LetterLemmas
-pub mod PlaceLemmas
-pub mod ShapeLemmas
+pub mod SaysLemmas

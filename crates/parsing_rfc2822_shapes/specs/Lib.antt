@@ -1,2 +1,2 @@
-pub mod Places
-pub mod Shape
+pub mod Layout
+pub mod Names

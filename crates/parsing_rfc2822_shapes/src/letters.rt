@@ -2,10 +2,9 @@
 //!
 //! Four bytes stand in one number, the first one lowest, and the highest bits of a product of that number say where it
 //! would stand in a table. No other byte becomes a letter by the bit of small letters.
-ghost use Rattle.std.specs.Prelude.{◌≡◌, ◌≤◌, IfSome, true, length, slice_index};
+ghost use Rattle.std.specs.Prelude.{◌≡◌, ◌≤◌, IfSome, true, length};
 ghost use Rattle.std.specs.Int.{IsInRange};
-ghost use Rattle.base.specs.Bytes.{space};
-ghost use Rattle.parsing_rfc2822_shapes.specs.Places.{HasWeekday, HasMonth, number_of_four};
+ghost use Rattle.parsing_rfc2822_shapes.specs.Names.{HasWeekday, HasMonth, number_of_four};
 
 // The first four bytes.
 #[inline(always)]
@@ -68,8 +67,7 @@ static NUMBERS: [u8; 16] = [0, 10, 2, 0, 12, 7, 11, 1, 6, 0, 5, 9, 8, 0, 3, 4];
 /// The number of the month that stands after a space.
 #[inline(always)]
 pub(crate) fn month_number(text: &[u8]) -> Option<u8>
-    requires long { 4 ≤ length text.now }
-    requires space { slice_index text.now 0 ≡ space }
+    requires { 4 ≤ length text.now }
     ensures there { IfSome result (HasMonth text.now) }
     ensures bound { IfSome result (IsInRange 1 12) }
 {

@@ -21,7 +21,7 @@ use Rattle.parsing_combinator.proofs.Longest.{taken_digits}
 use Rattle.parsing_components.specs.Put.{set_by}
 use Rattle.parsing_components.specs.Ranged.{says, between}
 use Rattle.parsing_components.specs.declared.said.Read.TheVariants as read
-use Rattle.parsing_nodes.specs.Record.{Record}
+use Rattle.parsing_components.specs.declared.fields.Record.{Record}
 
 -- ---- four digits
 

@@ -13,7 +13,7 @@ use Rattle.parsing_components.specs.Put.{set_by}
 use Rattle.parsing_components.specs.Ranged.{kept, says, between, up_to, since_epoch, counted, months}
 use Rattle.parsing_components.specs.declared.said.Read.{Read}
 use Rattle.parsing_components.specs.declared.said.Read.TheVariants as read
-use Rattle.parsing_nodes.specs.Record.{Record}
+use Rattle.parsing_components.specs.declared.fields.Record.{Record}
 use Rattle.parsing_steps.specs.Parts.{part_piece, padding_of}
 use Rattle.parsing_steps.specs.Steps.{Taken, part_reads, after_or, reads_after, step_reads, steps_read}
 use Rattle.parsing_steps.specs.declared.parts.Part.{Part}

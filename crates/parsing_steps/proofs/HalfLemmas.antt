@@ -10,7 +10,7 @@ use Rattle.parsing_components.specs.Put.{set_by}
 use Rattle.parsing_components.specs.Ranged.{says, counted, months}
 use Rattle.parsing_components.specs.declared.said.Read.TheVariants as read
 use Rattle.parsing_components.proofs.Entries.{month_entry}
-use Rattle.parsing_nodes.specs.Record.{Record}
+use Rattle.parsing_components.specs.declared.fields.Record.{Record}
 use Rattle.parsing_steps.proofs.StepLemmas.{cut_byte}
 
 pub month_said : (names : List (List ℕ × Month)) (bytes rest : List ℕ) (m : Month) (n : ℕ) (r : Record) → taken (named true names) bytes ≡ Some (m, rest) → n ≡ month_number m → set_by (says (λ x. Some (read.Month x)) (taken (named true names)) bytes) r ≡ Some (record r { month = counted true months n }, rest)

@@ -14,7 +14,7 @@ use Rattle.parsing_combinator.proofs.Components.{taken_padded_exactly}
 use Rattle.parsing_components.specs.Ranged.{between, counted, months}
 use Rattle.parsing_components.specs.declared.said.Read.{Read}
 use Rattle.parsing_components.specs.declared.said.Read.TheVariants as read
-use Rattle.parsing_nodes.specs.Record.{Record}
+use Rattle.parsing_components.specs.declared.fields.Record.{Record}
 use Rattle.parsing_steps.specs.Found.{record_of, Reads, Finds}
 use Rattle.parsing_steps.specs.Joined.{HasStamp, after_year, first_of, others_of, after_byte}
 use Rattle.parsing_steps.specs.Parts.{number, part_piece}

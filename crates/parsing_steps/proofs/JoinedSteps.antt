@@ -5,7 +5,7 @@ use Rattle.std.specs.Option.{option_and_then}
 use Rattle.std.specs.Borrow.{Bor}
 use Rattle.std.proofs.lemmas.List.{append-nil, take-append-drop, drop_more}
 use Rattle.parsing_combinator.specs.Pieces.{byte}
-use Rattle.parsing_nodes.specs.Record.{Record}
+use Rattle.parsing_components.specs.declared.fields.Record.{Record}
 use Rattle.parsing_steps.specs.Found.{record_of, Reads}
 use Rattle.parsing_steps.specs.Joined.{first_of, others_of, parts_of, parts_of_all, IsSingle}
 use Rattle.parsing_steps.specs.Steps.{Taken, all_read, part_reads, steps_read}

@@ -23,8 +23,8 @@ use Rattle.parsing_fields.specs.Moment.{day_of_fields, time_of_fields, moment_of
 use Rattle.parsing_fields.specs.Numbers.{HaveNumbers}
 use Rattle.parsing_fields.proofs.lemmas.Moments.{fields_date, fields_time, moment_is}
 use Rattle.parsing_components.specs.Ranged.{counted, months}
-use Rattle.parsing_nodes.specs.Parts.{time_parts}
-use Rattle.parsing_nodes.specs.Whole.{moment_named, offset_named}
+use Rattle.parsing_components.specs.Parts.{time_parts}
+use Rattle.parsing_components.specs.Whole.{moment_named, offset_named}
 use Rattle.parsing_steps.specs.Found.{record_of, seen}
 use Rattle.parsing_steps.specs.declared.found.Found.{Found}
 

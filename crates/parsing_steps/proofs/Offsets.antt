@@ -3,9 +3,9 @@ use Rattle.std.proofs.Common.{◌≡◌, ◌≢◌, ℕ, false, ◌==◌, Option
 use Rattle.std.specs.Prelude.{◌*ℤ◌}
 use Rattle.std.proofs.lemmas.Bool.Decides.{nat_tests}
 use Rattle.parsing_components.specs.Ranged.{under}
-use Rattle.parsing_nodes.specs.Prefix.{beginning}
-use Rattle.parsing_nodes.specs.Whole.{offset_named}
-use Rattle.parsing_nodes.proofs.Offsets.{sign_named, no_second}
+use Rattle.parsing_components.specs.Prefix.{beginning}
+use Rattle.parsing_components.specs.Whole.{offset_named}
+use Rattle.parsing_components.proofs.AssumedOffsets.{sign_named, no_second}
 use Rattle.parsing_values.specs.Resolution.{signed_offset_of}
 use Rattle.parsing_steps.specs.Found.{record_of, seen_or}
 use Rattle.parsing_steps.specs.declared.found.Found.{Found}

@@ -6,10 +6,10 @@ use Rattle.std.proofs.lemmas.List.{nil_from_length}
 use Rattle.datetime_wall.specs.Wall.{Shown}
 use Rattle.parsing_fields.specs.declared.fields.Fields.{Fields}
 use Rattle.parsing_fields.specs.Moment.{moment_of}
-use Rattle.parsing_nodes.specs.Meaning.{Meaning}
-use Rattle.parsing_nodes.specs.Record.{Record}
-use Rattle.parsing_nodes.specs.Whole.{whole, names, moment_named, starting}
-use Rattle.parsing_nodes.specs.Prefix.{NamesPrefix, beginning}
+use Rattle.parsing_components.specs.Meaning.{Meaning}
+use Rattle.parsing_components.specs.declared.fields.Record.{Record}
+use Rattle.parsing_components.specs.Whole.{whole, names, moment_named, starting}
+use Rattle.parsing_components.specs.Prefix.{NamesPrefix, beginning}
 use Rattle.parsing_steps.specs.Found.{record_of}
 use Rattle.parsing_steps.specs.Steps.{AreStepsOf, Taken, steps_of, steps_read, step_reads}
 use Rattle.parsing_steps.specs.declared.found.Found.{Found}

@@ -12,9 +12,9 @@ use Rattle.parsing_combinator.specs.Pieces.{byte, skip_of}
 use Rattle.parsing_components.specs.Component.{reads_component, reads_component_v3}
 use Rattle.parsing_components.specs.Put.{put, set_by}
 use Rattle.parsing_components.specs.declared.said.Read.{Read}
-use Rattle.parsing_nodes.specs.Meaning.{Meaning, Answer, Counted, then_counted, all_of, literally, optionally}
-use Rattle.parsing_nodes.specs.Reads.{Language, reading, reading_of_all, reads, each_reads}
-use Rattle.parsing_nodes.specs.Record.{Record}
+use Rattle.parsing_components.specs.Meaning.{Meaning, Answer, Counted, then_counted, all_of, literally, optionally}
+use Rattle.parsing_components.specs.Reads.{Language, reading, reading_of_all, reads, each_reads}
+use Rattle.parsing_components.specs.declared.fields.Record.{Record}
 use Rattle.parsing_steps.specs.Drafts.{byte_step, before_of, pending_steps, draft_steps, optional_reading, AddsPart, Adds, ReadsAfter, IsItemPart, IsPairOf}
 use Rattle.parsing_steps.specs.Leads.{LeadsBy}
 use Rattle.parsing_steps.specs.Parts.{part_piece, IsPartOf, ReadsPart}

@@ -2,9 +2,9 @@
 use Rattle.std.specs.Prelude.{◌≡◌, true, false, ℕ, List, [], ◌∷◌, ◌++◌, Option, Some, None, Ok}
 use Rattle.std.specs.Option.{option_and_then}
 use Rattle.description_items.specs.Tree.{Tree, Literal, Optional}
-use Rattle.parsing_nodes.specs.Meaning.{Meaning}
-use Rattle.parsing_nodes.specs.Reads.{Language, reading}
-use Rattle.parsing_nodes.specs.Record.{Record}
+use Rattle.parsing_components.specs.Meaning.{Meaning}
+use Rattle.parsing_components.specs.Reads.{Language, reading}
+use Rattle.parsing_components.specs.declared.fields.Record.{Record}
 use Rattle.parsing_steps.specs.Steps.{part_reads, steps_of, steps_read}
 use Rattle.parsing_steps.specs.declared.draft.Draft.{Draft}
 use Rattle.parsing_steps.specs.declared.parts.Part as parts

@@ -4,8 +4,8 @@ use Rattle.std.specs.Borrow.{Bor}
 use Rattle.parsing_components.specs.Put.{set_by}
 use Rattle.parsing_components.specs.Ranged.{under, counted, months}
 use Rattle.parsing_components.specs.declared.said.Read.{Read}
-use Rattle.parsing_nodes.specs.Record.{Record}
-use Rattle.parsing_nodes.specs.Prefix.{beginning}
+use Rattle.parsing_components.specs.declared.fields.Record.{Record}
+use Rattle.parsing_components.specs.Prefix.{beginning}
 use Rattle.parsing_steps.specs.declared.found.Found.{Found}
 
 -- a number, where it was read, and else what was there before

@@ -1,8 +1,8 @@
 -- Items that go on reading after steps.
 use Rattle.std.specs.Prelude.{◌≡◌, List, ℕ, Some}
 use Rattle.description_items.specs.Tree.{Tree, listed}
-use Rattle.parsing_nodes.specs.Reads.{Language, reading_of_all}
-use Rattle.parsing_nodes.specs.Record.{Record}
+use Rattle.parsing_components.specs.Reads.{Language, reading_of_all}
+use Rattle.parsing_components.specs.declared.fields.Record.{Record}
 use Rattle.parsing_steps.specs.Steps.{steps_read}
 use Rattle.parsing_steps.specs.declared.step.Step.{Step}
 

@@ -3,8 +3,8 @@ use Rattle.std.specs.Prelude.{◌≡◌, ℕ, List, [], ◌∷◌, Option, Some,
 use Rattle.std.specs.Option.{option_and_then}
 use Rattle.parsing_combinator.specs.Pieces.{byte}
 use Rattle.parsing_components.specs.Put.{set_by}
-use Rattle.parsing_nodes.specs.Meaning.{Meaning}
-use Rattle.parsing_nodes.specs.Record.{Record}
+use Rattle.parsing_components.specs.Meaning.{Meaning}
+use Rattle.parsing_components.specs.declared.fields.Record.{Record}
 use Rattle.parsing_steps.specs.Joined.{parts_of}
 pub use Rattle.parsing_steps.specs.Joined.{steps_of}
 use Rattle.parsing_steps.specs.Parts.{part_piece}

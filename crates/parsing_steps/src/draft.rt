@@ -1,7 +1,7 @@
 //! Steps that are made of items.
 ghost use Rattle.std.specs.Prelude.{◌≡◌, ◌∷◌, ◌++◌, [], map, true, IfSome};
 ghost use Rattle.description_items.specs.Tree.{Literal, listed};
-ghost use Rattle.parsing_nodes.specs.Reads.{reading, reading_of_all};
+ghost use Rattle.parsing_components.specs.Reads.{reading, reading_of_all};
 ghost use Rattle.parsing_steps.specs.Drafts.{byte_step, draft_steps, before_of, optional_reading, AddsPart, Adds, IsItemPart, IsPairOf};
 ghost use Rattle.parsing_steps.specs.Steps.{steps_of, AreStepsOf};
 ghost use Rattle.parsing_steps.specs.declared.step.Before.TheVariants as Before;
@@ -9,7 +9,7 @@ ghost use Rattle.parsing_steps.specs.declared.step.Before.TheVariants as Before;
 use crate::parts::{Part, part_of};
 use crate::step::{Before, Step};
 use crate::steps::Steps;
-use parsing_nodes::{Node, NodeStep};
+use parsing_components::{Node, NodeStep};
 
 /// Steps, and a byte after them, which a part may follow in the same step.
 #[derive(Clone, Copy)]

@@ -2,15 +2,15 @@
 ghost use Rattle.std.specs.Option.{unwrap_or};
 ghost use Rattle.std.specs.Prelude.{◌≡◌, ◌<◌, ◌≤◌, ◌*ℤ◌, Option, Some, None, Ok, ℤ, pos, unsigned_abs, IfSome};
 ghost use Rattle.parsing_fields.specs.Moment.{moment_of};
-ghost use Rattle.parsing_nodes.specs.Whole.{moment_named, offset_named};
+ghost use Rattle.parsing_components.specs.Whole.{moment_named, offset_named};
 ghost use Rattle.parsing_steps.specs.Found.{record_of};
-ghost use Rattle.parsing_nodes.specs.Parts.{time_parts};
+ghost use Rattle.parsing_components.specs.Parts.{time_parts};
 ghost use Rattle.parsing_values.specs.NamedTime.{hour_of};
 
 use crate::found::{Found, UNREAD};
 use calendar::UtcOffset;
+use parsing_components::assumed_minutes;
 use parsing_fields::{Fields, Fraction, has_day, offset_minutes};
-use parsing_nodes::assumed_minutes;
 
 // The fraction of a second, which is none where none is written.
 #[inline(always)]

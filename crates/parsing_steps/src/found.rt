@@ -42,7 +42,7 @@ pub(crate) struct Found {
 
 impl Found {
     ghost use Rattle.std.specs.Prelude.{Option, ℤ};
-    ghost use Rattle.parsing_nodes.specs.Prefix.{beginning};
+    ghost use Rattle.parsing_components.specs.Prefix.{beginning};
     ghost use Rattle.parsing_steps.specs.Found.{record_of};
 
     /// Nothing was read.

@@ -2,10 +2,10 @@
 ghost use Rattle.std.specs.Prelude.{◌≡◌, Option, Some, Ok, ℤ, IfSome};
 ghost use Rattle.parsing_combinator.specs.Tame.{EndsWith};
 ghost use Rattle.parsing_fields.specs.Moment.{moment_of};
-ghost use Rattle.parsing_nodes.specs.Meaning.{Meaning};
-ghost use Rattle.parsing_nodes.specs.Record.{Record};
-ghost use Rattle.parsing_nodes.specs.Whole.{whole, names, moment_named, starting};
-ghost use Rattle.parsing_nodes.specs.Prefix.{NamesPrefix, beginning};
+ghost use Rattle.parsing_components.specs.Meaning.{Meaning};
+ghost use Rattle.parsing_components.specs.declared.fields.Record.{Record};
+ghost use Rattle.parsing_components.specs.Whole.{whole, names, moment_named, starting};
+ghost use Rattle.parsing_components.specs.Prefix.{NamesPrefix, beginning};
 ghost use Rattle.parsing_steps.specs.Found.{record_of};
 ghost use Rattle.parsing_steps.specs.Steps.{AreStepsOf, steps_of, steps_read};
 

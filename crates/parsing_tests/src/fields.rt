@@ -6,11 +6,9 @@ use description::{
     BorrowedFormatItem, Description, DescriptionVersion, parse_borrowed, parse_strftime_borrowed,
 };
 use parsing_combinator::digit_chunk;
+use parsing_components::assumed_minutes;
 use parsing_fields::{Fields, Fraction, Year, digit_pair, minute_of_day, signed_minutes};
-use parsing_nodes::assumed_minutes;
-use parsing_places::{
-    Moves, NamedShape, Number, Numbers, Shape, Window, Windows, read_long, read_numbers, read_stamp,
-};
+use parsing_places::{Moves, Window, Windows};
 use parsing_plan::Plan;
 use parsing_steps::Steps;
 use std::alloc::Global;
@@ -101,75 +99,41 @@ fn fields_of_formats(rt: HostRuntime) {
     assert!(rt; shapes() == [HALF, HALF, WHOLE, WHOLE, HALF, MINUTE, HALF]);
 }
 
-// `20210102T030405`, the basic form of ISO 8601.
-fn basic() -> Shape {
-    Shape {
-        prefix: Window {
-            low: *b"00000000T000000\x00",
-            high: [9, 9, 9, 9, 1, 9, 3, 9, 0, 2, 9, 5, 9, 5, 9, 255],
-            taken: Moves {
-                lanes: [
-                    4, 5, 6, 7, 9, 10, 11, 12, 128, 128, 128, 128, 128, 128, 13, 14,
-                ],
-            },
+// The first sixteen bytes of `20210102T030405` and one byte more.
+fn basic() -> Window {
+    Window {
+        low: *b"00000000T000000\x00",
+        high: [9, 9, 9, 9, 1, 9, 3, 9, 0, 2, 9, 5, 9, 5, 9, 255],
+        taken: Moves {
+            lanes: [
+                4, 5, 6, 7, 9, 10, 11, 12, 128, 128, 128, 128, 128, 128, 13, 14,
+            ],
         },
-        back: Window {
-            low: [0; 16],
-            high: [255; 16],
-            taken: Moves { lanes: [128; 16] },
-        },
-        length: 15,
-        back_at: 0,
-        year: 0,
-        high: Number {
-            has_tens: true,
-            place: 5,
-        },
-        low: Number {
-            has_tens: true,
-            place: 7,
-        },
-        hour: 9,
-        minute: 11,
-        has_second: true,
-        second: 13,
-        has_colon: true,
     }
 }
 
-// The fields of a text, from its numbers.
-fn shaped(text: &[u8]) -> Option<Option<(i64, u32)>> {
-    let numbers: Numbers = read_numbers(&basic(), text)?;
-    Some(instant(numbers.on_day(numbers.high, numbers.low)))
+// Bytes of any kind.
+fn any() -> Window {
+    Window {
+        low: [0; 16],
+        high: [255; 16],
+        taken: Moves { lanes: [128; 16] },
+    }
 }
 
-// The same of a text with more than nine digits of a fraction.
-fn shaped_long(text: &[u8]) -> Option<Option<(i64, u32)>> {
-    let numbers = read_long(&basic(), text)?;
-    Some(instant(numbers.on_day(numbers.high, numbers.low)))
-}
-
-#[test]
-fn fields_of_a_shape(rt: HostRuntime) {
-    assert!(rt; shaped_long(b"20210102T030405.50000000099+01:00") == Some(HALF));
-    assert!(rt; shaped(b"20210102T030405.5+01:00") == Some(HALF));
-    assert!(rt; shaped(b"20210132T030405Z") == Some(None));
-}
-
-// What the windows of `basic` let, take and spare.
+// What they let, take and spare.
 fn windows() -> [bool; 12] {
-    let shape = basic();
     let windows = Windows {
-        prefix: shape.prefix,
-        back: shape.back,
+        prefix: basic(),
+        back: any(),
         back_at: 0,
     };
     [
         Moves::checked([16; 16]).is_none(),
         Moves::checked([15; 16]).is_some(),
-        shape.back.taken.spares(0),
-        shape.prefix.lets(8, b'T', 0),
-        shape.prefix.takes(0, 4, 1),
+        windows.back.taken.spares(0),
+        windows.prefix.lets(8, b'T', 0),
+        windows.prefix.takes(0, 4, 1),
         windows.lets(8, b'T', 0),
         windows.take_one(3, 7),
         windows.take_two(4, 9, 2),
@@ -183,52 +147,6 @@ fn windows() -> [bool; 12] {
 #[test]
 fn windows_of_a_layout(rt: HostRuntime) {
     assert!(rt; windows() == [true; 12]);
-}
-
-// `01/May/2024:10:00:01 +0200`, as web servers write it.
-fn logged() -> NamedShape {
-    NamedShape {
-        prefix: Window {
-            low: *b"00/AAA/0000:00:0",
-            high: [3, 9, 0, 57, 57, 57, 0, 9, 9, 9, 9, 0, 2, 9, 0, 5],
-            taken: Moves {
-                lanes: [
-                    128, 128, 0, 1, 128, 128, 128, 128, 128, 128, 128, 128, 128, 128, 128, 128,
-                ],
-            },
-        },
-        back: Window {
-            low: *b"0:00:00:00 +0000",
-            high: [9, 0, 2, 9, 0, 5, 9, 0, 5, 9, 0, 2, 2, 9, 5, 9],
-            taken: Moves {
-                lanes: [
-                    128, 128, 128, 128, 2, 3, 5, 6, 12, 13, 14, 15, 128, 11, 8, 9,
-                ],
-            },
-        },
-        length: 26,
-        back_at: 10,
-        year: 7,
-        has_tens: true,
-        day: 1,
-        hour: 12,
-        minute: 15,
-        second: 18,
-        sign: 21,
-    }
-}
-
-#[test]
-fn numbers_of_a_named_shape(rt: HostRuntime) {
-    let stamp = read_stamp(&logged(), b"31/Dec/1999:23:59:59 -0330");
-    let numbers = stamp.map(|(year, day, minute, second, offset)| (
-        year.number(),
-        day,
-        minute,
-        second,
-        offset,
-    ));
-    assert!(rt; numbers == Some((1999, 31, 1439, 59, -210)));
 }
 
 // What the plan of a list of items reads of a line.

@@ -2,11 +2,13 @@
 
 ghost use Rattle.std.specs.Prelude.{◌≡◌, true, false};
 ghost use Rattle.parsing_layout.specs.Found.{AreDistinct};
+ghost use Rattle.parsing_layout.specs.Windows.{spares_two};
 
 use datetime_types::WallClock;
 use parsing_fields::Fields;
 use parsing_layout::{
-    Field, Found, Names, Part, Shape, read, read_long_moment, read_moment, read_small_moment,
+    Field, Found, Names, Numbers, Part, Shape, read, read_long_moment, read_long_numbers,
+    read_moment, read_named_moment, read_numbers, read_small_moment,
 };
 use parsing_places::{Moves, Window, Windows};
 
@@ -97,4 +99,64 @@ fn parts_at_once(rt: HostRuntime) {
     let long = read_long_moment(&basic(), true, b"20210102T030405.50000000099+01:00");
     assert!(rt; [instant(plain), instant(small), instant(long)] == [HALF; 3]);
     assert!(rt; instant(read_moment(&basic(), true, b"20210132T030405Z")) == None);
+}
+
+// `02/Jan/2021:03:04:05 +0100`, as web servers write it.
+fn logged() -> Shape
+    ensures whole { result.has_tail ≡ false }
+    ensures letters { result.month_is_named ≡ false }
+    ensures spared { spares_two result.windows 0 ≡ true }
+    ensures long { result.length ≡ 26 }
+{
+    Shape {
+        windows: Windows {
+            prefix: Window {
+                low: *b"00/\0\0\0/0000:00:0",
+                high: [3, 9, 0, 255, 255, 255, 0, 9, 9, 9, 9, 0, 2, 9, 0, 5],
+                taken: Moves {
+                    lanes: [
+                        128, 128, 0, 1, 128, 128, 128, 128, 128, 128, 128, 128, 128, 128, 128, 128,
+                    ],
+                },
+            },
+            back: Window {
+                low: *b"0:00:00:00 +0000",
+                high: [9, 0, 2, 9, 0, 5, 9, 0, 5, 9, 0, 2, 1, 9, 5, 9],
+                taken: Moves {
+                    lanes: [
+                        128, 128, 128, 128, 2, 3, 5, 6, 12, 13, 14, 15, 128, 11, 8, 9,
+                    ],
+                },
+            },
+            back_at: 10,
+        },
+        length: 26,
+        has_tail: false,
+        year: 7,
+        month_is_named: false,
+        month: 0,
+    }
+}
+
+#[test]
+fn parts_beside_a_name(rt: HostRuntime) {
+    let logged = logged();
+    let west = read_named_moment(&logged, 12, b"31/Dec/1999:23:59:59 -0330");
+    assert!(rt; instant(west) == Some((946_697_399, 0)));
+    assert!(rt; instant(read_named_moment(&logged, 11, b"31/Nov/1999:23:59:59 -0330")) == None);
+}
+
+// The moment on the day of a month that two numbers name.
+fn on_day(numbers: Option<Numbers>) -> Option<(i64, u32)> {
+    let numbers = numbers?;
+    instant(numbers.on_day(numbers.high, numbers.low))
+}
+
+#[test]
+fn numbers_at_once(rt: HostRuntime) {
+    let usual = on_day(read_numbers(&basic(), false, true, b"20210102T030405.5+0100"));
+    let long = on_day(read_long_numbers(&basic(), true, b"20210102T030405.50000000099+01:00"));
+    assert!(rt; [usual, long] == [HALF; 2]);
+    assert!(rt; on_day(read_numbers(&basic(), true, true, b"20210132T030405Z")) == None);
+    assert!(rt; on_day(read_numbers(&basic(), true, false, b"20210102T030405.5Z")) == None);
 }

@@ -2,7 +2,7 @@
 ghost use Rattle.std.specs.Prelude.{◌≡◌, ◌+◌, ◌≤◌, ◌<◌, true, false, Some, None, map, IfSome, IsSome};
 ghost use Rattle.std.specs.Option.{ForSome, ForNone};
 ghost use Rattle.description_items.specs.Tree.{listed};
-ghost use Rattle.parsing_nodes.specs.Reads.{reading_of_all};
+ghost use Rattle.parsing_components.specs.Reads.{reading_of_all};
 ghost use Rattle.parsing_places.specs.Windows.{SpareTwo};
 ghost use Rattle.parsing_layouts.specs.Layout.{HasDate, HasTime, HasNoOffset, HasNoClock, IsPrefix, IsPlain, HasRoom};
 ghost use Rattle.parsing_layouts.specs.Windows.{LetText, LetYear, TakesMonth, TakesDay, TakesClock, TakesOffset, SpareOffset, LetLastText, BeginsApart, SparesClock, SparesSign, TakesLastOffset};
@@ -12,7 +12,7 @@ use crate::items::{is_fraction, lead};
 use crate::layout::{LENGTH, Layout};
 use crate::places::{Back, NEVER, OffsetPlaces, Places, Prefix};
 use crate::windows::{last_window_of, windows_of};
-use parsing_nodes::Node;
+use parsing_components::Node;
 use parsing_places::{LANES, LastBytes, Window, Windows};
 
 // The places of an offset, or that there is none: `None` where it has hours or minutes alone, or the windows don't take it.

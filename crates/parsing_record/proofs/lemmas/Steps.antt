@@ -6,9 +6,9 @@ use Rattle.description_items.specs.Tree.{Tree, Trees, also, listed}
 use Rattle.parsing_combinator.specs.declared.fault.ParseFromDescription.{ParseFromDescription}
 use Rattle.parsing_combinator.specs.Fault.{Fault}
 use Rattle.parsing_combinator.specs.FaultOf.{reading_fault}
-use Rattle.parsing_nodes.specs.Record.{Record}
-use Rattle.parsing_nodes.specs.Meaning.{Answer, Counted, then_counted, all_of, first_of, first_success, or_next, or_found, found_or}
-use Rattle.parsing_nodes.specs.Reads.{Language, reads, each_reads, reading, reading_of_all, tried, tried_in_all}
+use Rattle.parsing_components.specs.declared.fields.Record.{Record}
+use Rattle.parsing_components.specs.Meaning.{Answer, Counted, then_counted, all_of, first_of, first_success, or_next, or_found, found_or}
+use Rattle.parsing_components.specs.Reads.{Language, reads, each_reads, reading, reading_of_all, tried, tried_in_all}
 
 -- the trees of the items from a place on
 abbrev pub from : {X : Type 0} → (X → Tree) → List X → ℕ → Trees

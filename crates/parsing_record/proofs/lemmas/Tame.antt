@@ -8,10 +8,10 @@ use Rattle.parsing_combinator.specs.ShortName.{HasShortName}
 use Rattle.parsing_combinator.specs.Readings.{then_read}
 use Rattle.parsing_combinator.specs.Tame.{Tame, IsTame}
 use Rattle.parsing_combinator.proofs.lemmas.Tame.{further}
-use Rattle.parsing_nodes.specs.Record.{Record}
+use Rattle.parsing_components.specs.declared.fields.Record.{Record}
 use Rattle.parsing_components.specs.Put.{put}
-use Rattle.parsing_nodes.specs.Meaning.{Answer, Meaning, Counted, meaning, literally, then_counted, all_of, or_unchanged, optionally, or_next, first_success, found_or, or_found, first_of}
-use Rattle.parsing_nodes.specs.Reads.{Language, reads, each_reads}
+use Rattle.parsing_components.specs.Meaning.{Answer, Meaning, Counted, meaning, literally, then_counted, all_of, or_unchanged, optionally, or_next, first_success, found_or, or_found, first_of}
+use Rattle.parsing_components.specs.Reads.{Language, reads, each_reads}
 
 abbrev pub IsTameMeaning : Meaning → Type 0
 IsTameMeaning m = (r : Record) (bytes : List ℕ) → Tame bytes (m r bytes)

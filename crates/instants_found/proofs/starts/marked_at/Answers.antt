@@ -1,6 +1,6 @@
 use Rattle.std.proofs.Common.{◌∙◌, map, sym}
 use Rattle.std.proofs.lemmas.Bool.{true≢false}
-use Rattle.parsing_first_bytes.proofs.Walk.{all_true, set_one}
+use Rattle.parsing_item_layouts.proofs.FrontLemmas.{all_true, set_one}
 use Rattle.instants_sources.specs.Grammar.{grammar_of}
 use Rattle.instants_found.specs.Starts.{NoneHas, index_of}
 use Rattle.instants_found.proofs.starts.marked_at.Goals as goal

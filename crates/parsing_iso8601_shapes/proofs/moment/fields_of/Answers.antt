@@ -2,8 +2,8 @@ use Rattle.std.proofs.Common.{◌≡◌, refl}
 use Rattle.parsing_fields.specs.declared.fields.Fields.{Fields}
 use Rattle.parsing_fields.specs.Numbers.{HaveNumbers}
 use Rattle.parsing_fields.proofs.lemmas.Moments.{of_fields}
-use Rattle.parsing_places.specs.declared.numbers.Numbers.{Numbers}
-use Rattle.parsing_iso8601_shapes.specs.Forms.{AreDated}
+use Rattle.parsing_layout.specs.declared.numbers.Numbers.{Numbers}
+use Rattle.parsing_iso8601_shapes.specs.Layout.{AreDated}
 use Rattle.parsing_iso8601_shapes.specs.declared.form.Dating.{Dating}
 use Rattle.parsing_iso8601_shapes.specs.declared.form.Dating.TheVariants.{Calendar}
 use Rattle.parsing_iso8601_shapes.proofs.moment.fields_of.Goals as goal

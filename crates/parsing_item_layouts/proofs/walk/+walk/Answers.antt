@@ -13,7 +13,7 @@ pub put_node-returns-in-Component : goal.put_node-returns-in-Component
 put_node-returns-in-Component g t c =
     let component = c.in-Component.component in
     let form = c.form_of.result in
-    let formed = g.N.Node.is_either (λ l. (line : List ℕ) → IfOk (l component line) (λ x. IsFormed form line x.1)) c.form_of.ensures.older c.form_of.ensures.newer in
+    let formed = g.N.Node.is_either (λ l. (line : List ℕ) → IfOk (l component line) (λ x. IsFormed form line x.1)) c.form_of.ensures.all.older c.form_of.ensures.all.newer in
     rw (sym c.in-Component.ensures) (part_leads g.F.Front.fits g.N.Node.language component form c.args.front.now c.put_form.new.front c.put_form.ensures formed)
 
 pub put_node-returns-in-Compound : goal.put_node-returns-in-Compound

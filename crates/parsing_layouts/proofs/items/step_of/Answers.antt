@@ -1,6 +1,6 @@
 use Rattle.std.proofs.Common.{sym, IfSome}
 use Rattle.description_items.specs.Tree.{Part}
-use Rattle.parsing_nodes.specs.Reads.{reading}
+use Rattle.parsing_components.specs.Reads.{reading}
 use Rattle.parsing_layouts.specs.Steps.{IsStepOf}
 use Rattle.parsing_layouts.proofs.ItemReads.{literal_read, of_items, of_nodes}
 use Rattle.parsing_layouts.proofs.items.step_of.Goals as goal

@@ -1,4 +1,4 @@
-use Rattle.parsing_nodes.specs.Reads.{reading}
+use Rattle.parsing_components.specs.Reads.{reading}
 use Rattle.parsing_layouts.proofs.ItemReads.{stepped}
 use Rattle.parsing_layouts.proofs.items.with_item.Goals as goal
 

@@ -1,8 +1,7 @@
 use Rattle.std.proofs.Common.{◌≡◌, ◌≤◌, ◌%◌, ◌∙◌, ap, arith, to_z, of_z, w16}
 use Rattle.std.specs.Prelude.{unsigned_abs, nat_eq}
 use Rattle.std.proofs.lemmas.Int.{ints}
-use Rattle.parsing_places.proofs.SumLemmas.{minus_is, sign_of}
-use Rattle.parsing_layouts.proofs.Numbers.{offset_written, either_sign}
+use Rattle.parsing_layouts.proofs.Numbers.{offset_written, either_sign, minus_is, sign_of}
 use Rattle.parsing_layouts.proofs.read.written_offset.Goals as goal
 
 pub returns-clause-writes : goal.returns-clause-writes

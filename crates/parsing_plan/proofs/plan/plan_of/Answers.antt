@@ -1,6 +1,6 @@
 use Rattle.std.proofs.Common.{map}
 use Rattle.description_items.specs.Tree.{listed}
-use Rattle.parsing_nodes.specs.Reads.{reading_of_all}
+use Rattle.parsing_components.specs.Reads.{reading_of_all}
 use Rattle.parsing_plan.proofs.Walk.{of_places, of_steps}
 use Rattle.parsing_plan.proofs.plan.plan_of.Goals as goal
 

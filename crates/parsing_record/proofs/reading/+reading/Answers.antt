@@ -1,7 +1,7 @@
 use Rattle.std.proofs.Common.{rules, ◌≡◌, ◌+◌, arith, refl, ◌∙◌, ap, Ok, Some, sym, subst}
 use Rattle.std.specs.Prelude.{option_map}
 use Rattle.parsing_combinator.specs.FaultOf.{reading_fault}
-use Rattle.parsing_nodes.specs.Reads.{reading, tried}
+use Rattle.parsing_components.specs.Reads.{reading, tried}
 use Rattle.parsing_record.proofs.lemmas.Sizes.{size, one_of_them}
 use Rattle.parsing_record.proofs.lemmas.Steps.{goes_on, stops, ends, after_refused, after_read, after_none, after_some, kept_new, kept_old, first_fault, goes_on_tried, stops_tried, ends_tried, after_refused_tried, after_read_tried, after_all_tried}
 use Rattle.parsing_record.proofs.reading.+reading.Goals as goal

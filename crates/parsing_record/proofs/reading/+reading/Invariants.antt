@@ -2,8 +2,8 @@ use Rattle.std.proofs.Common.{◌≡◌, ℕ, ◌+◌, ◌*◌, map}
 use Rattle.std.specs.Prelude.{option_map}
 use Rattle.description_items.specs.Tree.{listed}
 use Rattle.parsing_combinator.specs.FaultOf.{reading_fault}
-use Rattle.parsing_nodes.specs.Meaning.{first_of}
-use Rattle.parsing_nodes.specs.Reads.{reading_of_all, each_reads, tried_in_all}
+use Rattle.parsing_components.specs.Meaning.{first_of}
+use Rattle.parsing_components.specs.Reads.{reading_of_all, each_reads, tried_in_all}
 use Rattle.parsing_record.proofs.lemmas.Sizes.{size, size_all}
 use Rattle.parsing_record.proofs.lemmas.Steps.{from, after, tried_after}
 use Rattle.parsing_record.proofs.reading.+reading.Given as goal

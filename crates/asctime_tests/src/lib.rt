@@ -1,0 +1,9 @@
+//! A format that no program reads, to show what a new one takes: its definition and its layout (`specs`), a lemma (`proofs`), and
+//! its readings.
+#![tactic(auto)]
+
+mod asctime;
+#[cfg(test)]
+mod rows;
+
+pub use asctime::{read_exact, read_fields};

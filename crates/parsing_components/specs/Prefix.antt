@@ -1,0 +1,17 @@
+-- What a reading begins with where an offset is assumed, and what it names of a prefix of a line.
+use Rattle.std.specs.Prelude.{◌≡◌, ℕ, List, Option, Some, None, Ok, ℤ, pos, int_div, int_rem}
+use Rattle.datetime_wall.specs.Wall.{Shown}
+use Rattle.parsing_components.specs.Meaning.{Meaning}
+use Rattle.parsing_components.specs.Record.{Record, empty}
+use Rattle.parsing_components.specs.Whole.{moment_named}
+
+-- the record that a reading begins with where an offset is assumed: its hour and its minute
+abbrev pub beginning : Option ℤ → Record
+beginning None = empty
+beginning (Some offset) = record empty { offset_hour = Some (int_div offset (pos 3600)); offset_minute = Some (int_rem (int_div offset (pos 60)) (pos 60)) }
+
+-- the items read a prefix of the line from a record, leave this rest, and the record that they set names this moment
+pub record NamesPrefix (m : Meaning) (r : Record) (line rest : List ℕ) (moment : Shown) : Type 0 where
+  pub set : Record
+  pub reads : m r line ≡ Ok (set, rest)
+  pub names : moment_named set ≡ Ok moment

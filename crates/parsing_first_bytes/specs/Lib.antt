@@ -1,3 +1,0 @@
-pub mod FirstBytes
-pub mod Prefix
-pub mod FirstBounds

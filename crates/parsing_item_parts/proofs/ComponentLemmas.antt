@@ -1,0 +1,365 @@
+-- Each component reads what its parts say.
+use Rattle.std.proofs.Common.{◌≡◌, ◌∙◌, ◌≤◌, ◌<◌, ℕ, Bool, true, false, List, [], ◌∷◌, ◌++◌, map, length, take, drop, Option, Some, None, Ok, pos, refl, sym, ap, arith}
+use Rattle.std.specs.Prelude.{◌==◌, ◌&&◌, ◌||◌, bytes_eq, option_map, nat_le}
+use Rattle.std.specs.Char.{is_ascii_digit}
+use Rattle.std.specs.Int.{is_in_range}
+use Rattle.std.specs.Str.Parse.{digits_value}
+use Rattle.std.proofs.lemmas.Bool.Decides.{nat_tests}
+use Rattle.std.proofs.lemmas.List.Sums.{prefix_len_passes}
+use Rattle.std.proofs.lemmas.Slice.Eq.{bytes_eq-Decides}
+use Rattle.calendar_count.specs.Month.{month_number}
+use Rattle.calendar_count.specs.Range.{greatest_year}
+use Rattle.calendar_count.specs.declared.month.Month.{Month}
+use Rattle.calendar_count.specs.declared.weekday.Weekday.{Weekday}
+use Rattle.calendar_count.specs.declared.weekday.Weekday.TheVariants as weekday
+use Rattle.description_date_modifiers.specs.declared.choices.Padding.{Padding}
+use Rattle.description_date_modifiers.specs.declared.choices.Padding.TheVariants as padding
+use Rattle.description_time_modifiers.specs.declared.choices.SubsecondDigits.{SubsecondDigits}
+use Rattle.description_time_modifiers.specs.declared.choices.SubsecondDigits.TheVariants as digits_of
+use Rattle.description_items.specs.declared.component.Component.{Component}
+use Rattle.description_items.specs.declared.component.Component.TheVariants as component
+use Rattle.description_items.specs.Tree.{Tree, Literal, Compound, Optional, First, listed}
+use Rattle.description_items.specs.Tree as tree
+use Rattle.parsing_combinator.specs.Fault.{Fault}
+use Rattle.parsing_combinator.specs.Pieces.{digits, sign, byte_of, digit_count}
+use Rattle.parsing_combinator.specs.Readings.{Reading, piece_or}
+use Rattle.parsing_combinator.specs.Shape.{taken, digits_between, fraction_between}
+use Rattle.parsing_combinator.specs.Names.{named, period, periods, short_months, long_months, short_weekdays, long_weekdays}
+use Rattle.parsing_combinator.specs.Numbers.{padded, offset_hour, timestamp, year}
+use Rattle.parsing_combinator.proofs.Components.{taken_padded_exactly, taken_offset_hour, taken_timestamp, taken_year}
+use Rattle.parsing_combinator.proofs.FractionDigits.{digits_read}
+use Rattle.parsing_combinator.proofs.Longest.{taken_digits}
+use Rattle.parsing_components.specs.Component as parsed
+use Rattle.parsing_components.specs.Component.{reads_component, reads_component_v3, reads_modern, date_piece, year_piece, time_piece, offset_piece}
+use Rattle.parsing_components.specs.Put.{put, putting}
+use Rattle.parsing_components.specs.Ranged.{kept, between, up_to, counted, months, from_monday, since_epoch}
+use Rattle.parsing_components.specs.declared.said.Read.{Read}
+use Rattle.parsing_components.specs.declared.said.Read.TheVariants as read
+use Rattle.parsing_components.proofs.Entries.{month_entry}
+use Rattle.parsing_components.specs.Meaning.{literally}
+use Rattle.parsing_components.specs.Reads.{Language, reading, reading_of_all, reads}
+use Rattle.parsing_components.specs.declared.fields.Record.{Record}
+use Rattle.parsing_layout.specs.Layout.{Values, Says, piece_of, value_of, field_of, weekday_number, half_number}
+use Rattle.parsing_layout.specs.declared.parts.Field.{Field}
+use Rattle.parsing_layout.specs.declared.parts.Part.{Part}
+use Rattle.parsing_layout.specs.declared.stretch.Stretch.{Stretch}
+use Rattle.parsing_layout.specs.declared.parts.Field.TheVariants as field
+use Rattle.parsing_layout.specs.declared.parts.Names.TheVariants as names
+use Rattle.parsing_layout.specs.declared.parts.Part.TheVariants as part
+use Rattle.parsing_layout.proofs.LayoutLemmas.{numbered}
+use Rattle.parsing_layout.proofs.PieceLemmas.{inside, literal_said, byte_is}
+use Rattle.parsing_item_layouts.specs.Forms.{padded_part, fraction_part, full_year, year_form, hour_form, signed_form, timestamp_form}
+use Rattle.parsing_item_layouts.specs.declared.forms.Piece.TheVariants as piece
+use Rattle.parsing_item_layouts.proofs.FormLemmas.{taken_fraction}
+use Rattle.parsing_item_parts.specs.Items.{said, said_by, set_all, IsItem, parts_in, parts_of, parts_of_item, parts_of_all}
+use Rattle.parsing_item_parts.proofs.ItemLemmas.{chosen, items_read}
+
+-- a reading of one part
+part_item : (reading : Reading Read) (p : Part)
+    → ((line rest : List ℕ) (v : Values) (x : Read) → piece_of p line ≡ Some (value_of p v, rest) → said_by (field_of p) v ≡ Some x → reading line ≡ Ok (x, rest)) → IsItem (putting reading) (p ∷ [])
+part_item reading p h line v rest r new says sets =
+    let c = chosen (said_by (field_of p) v) [] v r new sets in
+    let there : piece_of p line ≡ Some (value_of p v, rest) = rw says.2 at says.1 in
+    let same : put c.0 r ≡ new = inside (put c.0 r) new c.2 in
+    rw (h line rest v c.0 there c.1, same) refl
+
+-- ---- numbers of two digits
+
+padded_read : (fault : Fault) (says_it : ℕ → Option Read) (p : Padding) (f : Field) (line rest : List ℕ) (n : ℕ) (x : Read)
+    → piece_of (padded_part p f) line ≡ Some (n, rest) → says_it n ≡ Some x → piece_or fault (kept says_it (taken (padded p 2 2) line)) ≡ Ok (x, rest)
+padded_read fault says_it padding.Zero f line rest n x e k = rw (taken_padded_exactly padding.Zero 2 line, e, k) refl
+padded_read fault says_it padding.Space f line rest n x e k = rw (taken_padded_exactly padding.Space 2 line, e, k) refl
+padded_read fault says_it padding.None f line rest n x e k = rw (taken_padded_exactly padding.None 2 line, e, k) refl
+
+padded_item : (reading : Reading Read) (fault : Fault) (says_it : ℕ → Option Read) (p : Padding) (f : Field)
+    → ((line : List ℕ) → reading line ≡ piece_or fault (kept says_it (taken (padded p 2 2) line))) → ((v : Values) → said f v ≡ says_it (v f))
+    → IsItem (putting reading) (padded_part p f ∷ [])
+padded_item reading fault says_it padding.Zero f is same =
+    part_item reading (padded_part padding.Zero f)
+    (λ line rest v x e k. is line ∙ padded_read fault says_it padding.Zero f line rest (v f) x e (sym (same v) ∙ k))
+padded_item reading fault says_it padding.Space f is same =
+    part_item reading (padded_part padding.Space f)
+    (λ line rest v x e k. is line ∙ padded_read fault says_it padding.Space f line rest (v f) x e (sym (same v) ∙ k))
+padded_item reading fault says_it padding.None f is same =
+    part_item reading (padded_part padding.None f)
+    (λ line rest v x e k. is line ∙ padded_read fault says_it padding.None f line rest (v f) x e (sym (same v) ∙ k))
+
+-- ---- names
+
+number_said : {A : Type 0} → (number : A → ℕ) (o : Option (A × List ℕ)) (n : ℕ) (rest : List ℕ) → numbered number o ≡ Some (n, rest)
+    → (a : A) × (o ≡ Some (a, rest)) × (number a ≡ n)
+number_said number None n rest e = absurd cc
+number_said number (Some x) n rest e =
+    let same = inside (number x.0, x.1) (n, rest) e in
+    (x.0, ap (λ (r : List ℕ). Some (x.0, r)) (ap (λ (z : ℕ × List ℕ). z.1) same), ap (λ (z : ℕ × List ℕ). z.0) same)
+
+name_read : {A : Type 0} → (fault : Fault) (number : A → ℕ) (make : A → Read) (back : ℕ → Option Read)
+    → ((a : A) (n : ℕ) → number a ≡ n → back n ≡ Some (make a)) → (o : Option (A × List ℕ)) (n : ℕ) (rest : List ℕ) (x : Read)
+    → numbered number o ≡ Some (n, rest) → back n ≡ Some x → piece_or fault (kept (λ a. Some (make a)) o) ≡ Ok (x, rest)
+name_read fault number make back there o n rest x e k =
+    let s = number_said number o n rest e in
+    let same : make s.0 ≡ x = inside (make s.0) x (sym (there s.0 n s.2) ∙ k) in
+    rw (s.1, same) refl
+
+weekday_there : (w : Weekday) → counted true from_monday (weekday_number w) ≡ Some w
+weekday_there weekday.Monday = refl
+weekday_there w = refl
+
+abbrev month_said : ℕ → Option Read
+month_said n = option_map read.Month (counted true months n)
+
+abbrev weekday_said : ℕ → Option Read
+weekday_said n = option_map read.Weekday (counted true from_monday n)
+
+month_back : (m : Month) (n : ℕ) → month_number m ≡ n → month_said n ≡ Some (read.Month m)
+month_back m n e = rw (month_entry m n e) refl
+
+weekday_back : (w : Weekday) (n : ℕ) → weekday_number w ≡ n → weekday_said n ≡ Some (read.Weekday w)
+weekday_back w n e = rw (← e, weekday_there w) refl
+
+half_back : (b : Bool) (n : ℕ) → half_number b ≡ n → Some (read.Afternoon (n == 1)) ≡ Some (read.Afternoon b)
+half_back true n e = rw (← e) refl
+half_back false n e = rw (← e) refl
+
+-- ---- fractions
+
+abbrev subsecond_said : ℕ → Option Read
+subsecond_said n = Some (read.Subsecond n)
+
+exact_item : (reading : Reading Read) (fault : Fault) (n : ℕ)
+    → ((line : List ℕ) → reading line ≡ piece_or fault (kept subsecond_said (taken (fraction_between n n) line)))
+    → IsItem (putting reading) (part.Fraction n ∷ [])
+exact_item reading fault n is =
+    part_item reading (part.Fraction n)
+    (λ line rest v x s k. is line ∙ rw (taken_fraction n line, s, inside (read.Subsecond (v field.Nanosecond)) x k) refl)
+
+fraction_item : (reading : Reading Read) (fault : Fault) (d : SubsecondDigits)
+    → ((line : List ℕ) → reading line ≡ piece_or fault (kept subsecond_said (taken (parsed.fraction_of d) line)))
+    → IsItem (putting reading) (fraction_part d ∷ [])
+fraction_item reading fault digits_of.One is = exact_item reading fault 1 is
+fraction_item reading fault digits_of.Two is = exact_item reading fault 2 is
+fraction_item reading fault digits_of.Three is = exact_item reading fault 3 is
+fraction_item reading fault digits_of.Four is = exact_item reading fault 4 is
+fraction_item reading fault digits_of.Five is = exact_item reading fault 5 is
+fraction_item reading fault digits_of.Six is = exact_item reading fault 6 is
+fraction_item reading fault digits_of.Seven is = exact_item reading fault 7 is
+fraction_item reading fault digits_of.Eight is = exact_item reading fault 8 is
+fraction_item reading fault digits_of.Nine is = exact_item reading fault 9 is
+fraction_item reading fault digits_of.OneOrMore is =
+    part_item reading part.OpenFraction (λ line rest v x s k. is line ∙ rw (s, inside (read.Subsecond (v field.Nanosecond)) x k) refl)
+
+-- ---- digits without a sign
+
+digit_no_sign : (c : ℕ) → is_ascii_digit c ≡ true → ((c == 43) || (c == 45)) ≡ false
+digit_no_sign c e = grind (arith, nat_tests)
+
+no_sign : (line : List ℕ) → 0 < digit_count line → sign line ≡ None
+unfolding byte_of
+no_sign [] some = refl
+no_sign (c ∷ cs) some = rw (digit_no_sign c (prefix_len_passes is_ascii_digit (c ∷ cs) 0 0 some)) refl
+
+small_year : (n : ℕ) → is_in_range 0 9999 n ≡ true → nat_le n greatest_year ≡ true
+small_year n e = grind (arith, nat_tests)
+
+abbrev any_year : Bool × ℕ → Option Read
+any_year = up_to greatest_year (λ negative y. read.Year y)
+
+year_in : (b : Bool) (n : ℕ) (x : Read) → is_in_range 0 9999 n ≡ b → between 0 9999 (λ y. read.Year (pos y)) n ≡ Some x → any_year (false, n) ≡ Some x
+year_in true n x is e = rw (small_year n is) (rw is at e)
+year_in false n x is e = absurd (let never : None ≡ Some x = rw is at e in cc)
+
+year_read : (fault : Fault) (extended : Bool) (line rest : List ℕ) (n : ℕ) (x : Read) → digits 4 line ≡ Some (n, rest)
+    → between 0 9999 (λ y. read.Year (pos y)) n ≡ Some x
+    → piece_or fault (kept any_year (taken (year padding.Zero false extended) line)) ≡ Ok (x, rest)
+year_read fault extended line rest n x e k =
+    let d = digits_read 4 line n rest e in
+    rw
+    (taken_year padding.Zero false extended line, no_sign line (omega (arith, d.enough)), taken_padded_exactly padding.Zero 4 line, e, year_in (is_in_range 0 9999 n) n x refl k) refl
+
+year_item : (reading : Reading Read) (fault : Fault) (extended : Bool) (p : Padding) (mandatory : Bool) (ps : List Part)
+    → ((line : List ℕ) → reading line ≡ piece_or fault (kept any_year (taken (year p mandatory extended) line)))
+    → parts_in (year_form p mandatory extended (full_year p)) ≡ Some ps → IsItem (putting reading) ps
+year_item reading fault extended padding.Zero false ps is e =
+    rw (← inside _ ps e)
+    (part_item reading (part.Digits field.Year 4) (λ line rest v x s k. is line ∙ year_read fault extended line rest (v field.Year) x s k))
+year_item reading fault extended padding.Zero true ps is e = absurd cc
+year_item reading fault extended padding.Space false ps is e = absurd cc
+year_item reading fault extended padding.Space true ps is e = absurd cc
+year_item reading fault extended padding.None false ps is e = absurd cc
+year_item reading fault extended padding.None true ps is e = absurd cc
+
+some_digits_there : (b : Bool) (most : ℕ) (line rest : List ℕ) (n : ℕ) → 1 ≤ most → nat_le 1 (digit_count line) ≡ b
+    → taken (digits_between 1 most) line ≡ Some (n, rest) → 0 < digit_count line
+some_digits_there true most line rest n le is e = grind (arith, nat_tests)
+some_digits_there false most line rest n le is e =
+    absurd (let none = rw is at (taken_digits (digits_value 10) 1 most line le) in let never : None ≡ Some (n, rest) = sym none ∙ e in cc)
+
+abbrev unix_said : Bool × ℕ → Option Read
+unix_said = since_epoch read.Unix 1_000_000_000
+
+unix_read : (fault : Fault) (line rest : List ℕ) (n : ℕ) (x : Read) → taken (digits_between 1 14) line ≡ Some (n, rest)
+    → unix_said (false, n) ≡ Some x → piece_or fault (kept unix_said (taken (timestamp false 14) line)) ≡ Ok (x, rest)
+unix_read fault line rest n x e k =
+    rw (taken_timestamp false 14 line, no_sign line (some_digits_there (nat_le 1 (digit_count line)) 14 line rest n (omega arith) refl e), e, k) refl
+
+unix_item : (reading : Reading Read) (fault : Fault) (mandatory : Bool) (ps : List Part)
+    → ((line : List ℕ) → reading line ≡ piece_or fault (kept unix_said (taken (timestamp mandatory 14) line)))
+    → parts_in (timestamp_form mandatory (piece.Part (part.Run field.Unix 14))) ≡ Some ps → IsItem (putting reading) ps
+unix_item reading fault false ps is e =
+    rw (← inside _ ps e) (part_item reading (part.Run field.Unix 14) (λ line rest v x s k. is line ∙ unix_read fault line rest (v field.Unix) x s k))
+unix_item reading fault true ps is e = absurd cc
+
+-- ---- offsets
+
+hour_there : (p : Padding) (line after rest : List ℕ) (mark n : ℕ) → sign line ≡ Some (mark, after)
+    → piece_of (padded_part p field.OffsetHour) after ≡ Some (n, rest) → taken (offset_hour p true) line ≡ Some ((mark == 45, n), rest)
+hour_there padding.Zero line after rest mark n s e =
+    rw (taken_offset_hour padding.Zero true line, s, taken_padded_exactly padding.Zero 2 after, e) refl
+hour_there padding.Space line after rest mark n s e =
+    rw (taken_offset_hour padding.Space true line, s, taken_padded_exactly padding.Space 2 after, e) refl
+hour_there padding.None line after rest mark n s e =
+    rw (taken_offset_hour padding.None true line, s, taken_padded_exactly padding.None 2 after, e) refl
+
+abbrev hour_said : Bool × ℕ → Option Read
+hour_said = up_to 25 (λ negative hour. read.OffsetHour hour negative)
+
+hour_field : (p : Padding) → field_of (padded_part p field.OffsetHour) ≡ Some field.OffsetHour
+hour_field padding.Zero = refl
+hour_field padding.Space = refl
+hour_field padding.None = refl
+
+hour_item : (reading : Reading Read) (fault : Fault) (p : Padding) (mandatory : Bool) (ps : List Part)
+    → ((line : List ℕ) → reading line ≡ piece_or fault (kept hour_said (taken (offset_hour p mandatory) line)))
+    → parts_in (hour_form p mandatory) ≡ Some ps → IsItem (putting reading) ps
+hour_item reading fault p false ps is e = absurd cc
+hour_item reading fault p true ps is e = rw (← inside _ ps e) (λ line v rest r new says sets.
+    let hour = says.2 in
+    let c = chosen (said_by (field_of (padded_part p field.OffsetHour)) v) [] v r new sets in
+    let there : piece_of (padded_part p field.OffsetHour) says.0 ≡ Some (v field.OffsetHour, rest) = rw (hour.2, hour_field p) at hour.1 in
+    let says_it : said_by (field_of (padded_part p field.OffsetHour)) v ≡ hour_said (v field.Sign == 45, v field.OffsetHour) =
+    ap (λ (o : Option Field). said_by o v) (hour_field p) in
+    let x : hour_said (v field.Sign == 45, v field.OffsetHour) ≡ Some c.0 = sym says_it ∙ c.1 in
+    let same : put c.0 r ≡ new = inside (put c.0 r) new c.2 in
+    rw (is line, hour_there p line says.0 rest (v field.Sign) (v field.OffsetHour) says.1 there, x, same) refl)
+
+-- ---- components
+
+-- bytes after a sign or without one are no parts
+no_parts : (mandatory : Bool) (signed bare : Stretch) (ps : List Part)
+    → parts_in (signed_form mandatory (piece.Bytes signed) (piece.Bytes bare)) ≡ Some ps → ⊥
+no_parts true signed bare ps e = absurd cc
+no_parts false signed bare ps e = absurd cc
+
+component_item : (c : Component) (ps : List Part) → parts_of c ≡ Some ps → IsItem (putting (reads_component c)) ps
+unfolding period reads_component reads_modern date_piece year_piece time_piece offset_piece
+component_item (component.Day m) ps e =
+    rw (← inside _ ps e) (padded_item (reads_component (component.Day m)) _ (between 1 31 read.Day) m.padding field.Day (λ line. refl) (λ v. refl))
+component_item (component.MonthNumerical m) ps e =
+    rw (← inside _ ps e) (padded_item (reads_component (component.MonthNumerical m)) _ month_said m.padding field.Month (λ line. refl) (λ v. refl))
+component_item (component.MonthShort m) ps e =
+    rw (← inside _ ps e)
+    (part_item (reads_component (component.MonthShort m)) (part.Name names.ShortMonth m.case_sensitive) (λ line rest v x s k. name_read _ month_number read.Month month_said month_back (taken (named m.case_sensitive short_months) line) (v field.Month) rest x s k))
+component_item (component.MonthLong m) ps e =
+    rw (← inside _ ps e)
+    (part_item (reads_component (component.MonthLong m)) (part.Name names.LongMonth m.case_sensitive) (λ line rest v x s k. name_read _ month_number read.Month month_said month_back (taken (named m.case_sensitive long_months) line) (v field.Month) rest x s k))
+component_item (component.WeekdayShort m) ps e =
+    rw (← inside _ ps e)
+    (part_item (reads_component (component.WeekdayShort m)) (part.Name names.ShortWeekday m.case_sensitive) (λ line rest v x s k. name_read _ weekday_number read.Weekday weekday_said weekday_back (taken (named m.case_sensitive short_weekdays) line) (v field.Weekday) rest x s k))
+component_item (component.WeekdayLong m) ps e =
+    rw (← inside _ ps e)
+    (part_item (reads_component (component.WeekdayLong m)) (part.Name names.LongWeekday m.case_sensitive) (λ line rest v x s k. name_read _ weekday_number read.Weekday weekday_said weekday_back (taken (named m.case_sensitive long_weekdays) line) (v field.Weekday) rest x s k))
+component_item (component.WeekNumberIso m) ps e =
+    rw (← inside _ ps e)
+    (padded_item (reads_component (component.WeekNumberIso m)) _ (between 1 53 read.IsoWeek) m.padding field.IsoWeek (λ line. refl) (λ v. refl))
+component_item (component.Hour24 m) ps e =
+    rw (← inside _ ps e)
+    (padded_item (reads_component (component.Hour24 m)) _ (between 0 23 read.Hour24) m.padding field.Hour (λ line. refl) (λ v. refl))
+component_item (component.Hour12 m) ps e =
+    rw (← inside _ ps e)
+    (padded_item (reads_component (component.Hour12 m)) _ (between 1 12 read.Hour12) m.padding field.HourOfHalf (λ line. refl) (λ v. refl))
+component_item (component.Minute m) ps e =
+    rw (← inside _ ps e)
+    (padded_item (reads_component (component.Minute m)) _ (between 0 59 read.Minute) m.padding field.Minute (λ line. refl) (λ v. refl))
+component_item (component.Second m) ps e =
+    rw (← inside _ ps e)
+    (padded_item (reads_component (component.Second m)) _ (between 0 60 read.Second) m.padding field.Second (λ line. refl) (λ v. refl))
+component_item (component.Period m) ps e =
+    rw (← inside _ ps e)
+    (part_item (reads_component (component.Period m)) (part.Name names.HalfOfDay (m.is_uppercase && m.case_sensitive)) (λ line rest v x s k. name_read _ half_number read.Afternoon (λ n. Some (read.Afternoon (n == 1))) half_back (taken (named (m.is_uppercase && m.case_sensitive) periods) line) (v field.Half) rest x s k))
+component_item (component.Subsecond m) ps e = rw (← inside _ ps e) (fraction_item (reads_component (component.Subsecond m)) _ m.digits (λ line. refl))
+component_item (component.CalendarYearFullExtendedRange m) ps e =
+    year_item (reads_component (component.CalendarYearFullExtendedRange m)) _ true m.padding m.sign_is_mandatory ps (λ line. refl) e
+component_item (component.CalendarYearFullStandardRange m) ps e =
+    year_item (reads_component (component.CalendarYearFullStandardRange m)) _ false m.padding m.sign_is_mandatory ps (λ line. refl) e
+component_item (component.IsoYearFullExtendedRange m) ps e = absurd (no_parts m.sign_is_mandatory _ _ ps e)
+component_item (component.IsoYearFullStandardRange m) ps e = absurd (no_parts m.sign_is_mandatory _ _ ps e)
+component_item (component.CalendarYearCenturyExtendedRange m) ps e = absurd (no_parts m.sign_is_mandatory _ _ ps e)
+component_item (component.CalendarYearCenturyStandardRange m) ps e = absurd (no_parts m.sign_is_mandatory _ _ ps e)
+component_item (component.IsoYearCenturyExtendedRange m) ps e = absurd (no_parts m.sign_is_mandatory _ _ ps e)
+component_item (component.IsoYearCenturyStandardRange m) ps e = absurd (no_parts m.sign_is_mandatory _ _ ps e)
+component_item (component.OffsetHour m) ps e =
+    hour_item (reads_component (component.OffsetHour m)) _ m.padding m.sign_is_mandatory ps (λ line. refl) e
+component_item (component.OffsetMinute m) ps e =
+    rw (← inside _ ps e)
+    (padded_item (reads_component (component.OffsetMinute m)) _ (between 0 59 read.OffsetMinute) m.padding field.OffsetMinute (λ line. refl) (λ v. refl))
+component_item (component.UnixTimestampSecond m) ps e =
+    unix_item (reads_component (component.UnixTimestampSecond m)) _ m.sign_is_mandatory ps (λ line. refl) e
+component_item (component.UnixTimestampMillisecond m) ps e = absurd (no_parts m.sign_is_mandatory _ _ ps e)
+component_item (component.UnixTimestampMicrosecond m) ps e = absurd (no_parts m.sign_is_mandatory _ _ ps e)
+component_item (component.UnixTimestampNanosecond m) ps e = absurd (no_parts m.sign_is_mandatory _ _ ps e)
+component_item c ps e = absurd cc
+
+-- version 3 reads these components alike
+same_v3 : (c : Component) (ps : List Part) (line : List ℕ) → parts_of c ≡ Some ps → reads_component_v3 c line ≡ reads_component c line
+unfolding reads_component_v3
+same_v3 (component.Ignore m) ps line e = absurd cc
+same_v3 c ps line e = refl
+
+component_item_v3 : (c : Component) (ps : List Part) → parts_of c ≡ Some ps → IsItem (putting (reads_component_v3 c)) ps
+component_item_v3 c ps e line v rest r new says sets = rw (same_v3 c ps line e) (component_item c ps e line v rest r new says sets)
+
+-- ---- literals
+
+text_there : (text line rest : List ℕ) (v : Values) → Says (map part.Byte text) line v rest → line ≡ text ++ rest
+text_there [] line rest v says = says
+text_there (c ∷ cs) line rest v says =
+    byte_is c line says.0 (literal_said _ says.0 says.1) ∙ ap (λ (xs : List ℕ). c ∷ xs) (text_there cs says.0 rest v says.2)
+
+text_sets : (text : List ℕ) (v : Values) (r : Record) → set_all (map part.Byte text) v r ≡ Some r
+text_sets [] v r = refl
+text_sets (c ∷ cs) v r = text_sets cs v r
+
+take_text : (text rest : List ℕ) → take (length text) (text ++ rest) ≡ text
+take_text [] rest = refl
+take_text (c ∷ cs) rest = ap (λ (xs : List ℕ). c ∷ xs) (take_text cs rest)
+
+drop_text : (text rest : List ℕ) → drop (length text) (text ++ rest) ≡ rest
+drop_text [] rest = refl
+drop_text (c ∷ cs) rest = drop_text cs rest
+
+literal_item : (language : Language) (text : List ℕ) → IsItem (reading language (Literal text)) (map part.Byte text)
+unfolding reads literally
+literal_item language text line v rest r new says sets =
+    let e = text_there text line rest v says in
+    let there : take (length text) line ≡ text = ap (take (length text)) e ∙ take_text text rest in
+    let after : drop (length text) line ≡ rest = ap (drop (length text)) e ∙ drop_text text rest in
+    let same : bytes_eq (take (length text) line) text ≡ true = (bytes_eq-Decides (take (length text) line) text).1 there in
+    let kept_record : r ≡ new = inside r new (sym (text_sets text v r) ∙ sets) in
+    rw (same, after, kept_record) refl
+
+-- ---- the whole
+
+item : (language : Language) → ((c : Component) (ps : List Part) → parts_of c ≡ Some ps → IsItem (putting (language c)) ps)
+    → (t : Tree) (ps : List Part) → parts_of_item t ≡ Some ps → IsItem (reading language t) ps
+unfolding reads
+item language each (Literal text) ps e = rw (← inside _ ps e) (literal_item language text)
+item language each (tree.Part c) ps e = each c ps e
+item language each (Compound ts) ps e = absurd cc
+item language each (Optional b t) ps e = absurd cc
+item language each (First ts) ps e = absurd cc
+
+-- what a text says by the parts of a description's items, their readings set in a record, in each language
+pub description_read : (ts : List Tree) (ps : List Part) → parts_of_all ts ≡ Some ps
+    → IsItem (reading_of_all reads_component (listed ts)) ps × IsItem (reading_of_all reads_component_v3 (listed ts)) ps
+description_read ts ps e =
+    (items_read reads_component (item reads_component component_item) ts ps e, items_read reads_component_v3 (item reads_component_v3 component_item_v3) ts ps e)

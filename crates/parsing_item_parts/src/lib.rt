@@ -1,0 +1,12 @@
+//! The parts of descriptions: what a text says by them, the items of the description read.
+#![tactic(auto)]
+
+mod list;
+mod listed;
+mod parts;
+mod reading;
+mod said;
+
+pub use list::Parts;
+pub use listed::Listed;
+pub use parts::part_of;

@@ -1,5 +1,0 @@
-use Rattle.parsing_fields.proofs.lemmas.Moments.{of_fields}
-use Rattle.parsing_rfc2822_shapes.proofs.places.read_other_fields.Goals as goal
-
-pub returns : goal.returns
-returns c = of_fields _ _ c.read_from_day.result c.read_from_day.ensures (λ f read. read c.args.input.now c.in_ok-tens.ensures)

@@ -1,0 +1,297 @@
+//! The fields of texts such as `Tue, 01 Jul 2003 10:52:37 +0200`.
+//!
+//! From its day on a text has one of four layouts, each with a day of two digits or of one: the usual one, which may have white
+//! space and comments at its end, one with a zone's name, one without seconds, and one with a year of two digits. Before the day
+//! of other texts than the usual one a weekday may be missing, or have two spaces after it.
+ghost use Rattle.std.specs.Prelude.{◌≡◌, ◌≤◌, ◌+◌, ◌⊎◌, if◌then◌else◌, nat_lt, [], drop, length, true, IfSome, List, Ok};
+ghost use Rattle.parsing_fields.specs.Moment.{moment_of};
+ghost use Rattle.parsing_fields.specs.Numbers.{HaveNumbers};
+ghost use Rattle.parsing_layout.specs.declared.parts.Part.{Part};
+ghost use Rattle.parsing_layout.specs.Shape.{fits};
+ghost use Rattle.parsing_rfc2822.specs.Direct.{direct};
+ghost use Rattle.parsing_rfc2822.specs.Skips as Skips;
+ghost use Rattle.parsing_rfc2822.specs.WhiteSpace as White;
+ghost use Rattle.parsing_rfc2822_shapes.specs.Layout.{BeginsDay, HasZone, IsNamed, SaysDate, SaysFields};
+ghost use Rattle.parsing_rfc2822_shapes.specs.Layout.{from_day, short_from_day};
+
+use crate::letters::{has_weekday, month_number};
+use crate::shape::{
+    one_digit, one_digit_short_year, one_digit_with_name, one_digit_without_second, two_digits,
+    two_digits_short_year, two_digits_with_name, two_digits_without_second,
+};
+use parsing_combinator::two_digits as digit_pair;
+use parsing_fields::{Fields, Year, has_day, offset_minutes};
+use parsing_layout::{Shape, read_named_moment};
+use parsing_rfc2822::{is_plain_comment, past_spacing, zone_of};
+use parsing_values::OffsetDateTime;
+
+// The first year that four digits may write.
+const FIRST_YEAR: u16 = 1900;
+
+// Where the day begins: after a weekday, a comma, and one space or two, or at once.
+#[inline(always)]
+fn at_day(input: &[u8]) -> Option<&[u8]>
+    requires { 8 ≤ length input.now }
+    ensures begins { IfSome result (λ text. BeginsDay input.now text.now) }
+    ensures long { IfSome result (λ text. 2 ≤ length text.now) }
+{
+    if input[0] <= b'9' {
+        return Some(input);
+    }
+    if !has_weekday(input) {
+        return None;
+    }
+    if input[5] == b' ' {
+        return Some(&input[6..]);
+    }
+    Some(&input[5..])
+}
+
+// The fields that a shape tells of a text that begins with its day, of so many digits.
+#[inline(always)]
+fn read_shape(shape: &Shape, count: usize, text: &[u8]) -> Option<Fields>
+    requires named { IsNamed shape.now }
+    requires long { shape.now.length ≤ length text.now }
+    requires room { count + 4 ≤ length text.now }
+    ensures { (time : List Part) → fits shape.now (from_day count time) ≡ true
+        → IfSome result (SaysDate count time text.now (drop shape.now.length text.now)) }
+{
+    let month = month_number(&text[count..])?;
+    let fields = read_named_moment(shape, month, text)?;
+    if fields.year.is_before(Year::new(FIRST_YEAR)) {
+        return None;
+    }
+    Some(fields)
+}
+
+// Whether nothing but white space and comments is there.
+#[inline(always)]
+fn is_spacing(rest: &[u8]) -> bool
+    ensures { result ≡ true → Skips.optional White.comments_and_white_space rest.now ≡ [] }
+{
+    if is_plain_comment(rest) {
+        return true;
+    }
+    past_spacing(rest).is_empty()
+}
+
+// The fields of a text that begins with its day and ends with an offset in digits, with single spaces and all numbers of the
+// clock.
+#[inline(always)]
+fn read_usual(text: &[u8]) -> Option<Fields>
+    requires low { 25 ≤ length text.now }
+    requires high { length text.now ≤ 26 }
+    ensures { IfSome result (SaysFields text.now) }
+{
+    if text.len() == 25 {
+        return read_shape(&one_digit(), 1, text);
+    }
+    read_shape(&two_digits(), 2, text)
+}
+
+// The same with white space or comments after the offset.
+#[inline(always)]
+fn read_spaced(text: &[u8]) -> Option<Fields>
+    requires { 27 ≤ length text.now }
+    ensures { IfSome result (SaysFields text.now) }
+{
+    if text[1] == b' ' {
+        if !is_spacing(&text[25..]) {
+            return None;
+        }
+        return read_shape(&one_digit(), 1, text);
+    }
+    if !is_spacing(&text[26..]) {
+        return None;
+    }
+    read_shape(&two_digits(), 2, text)
+}
+
+// The fields with the zone that three letters after a space name.
+#[inline(always)]
+fn with_name(fields: Fields, end: &[u8]) -> Option<Fields>
+    requires { length end.now ≡ 4 }
+    ensures { IfSome result (HasZone fields end.now) }
+{
+    if end[0] != b' ' || end[1] < b'A' {
+        return None;
+    }
+    let hours = zone_of(&end[1..])?;
+    Some(Fields {
+        year: fields.year,
+        month: fields.month,
+        day: fields.day,
+        minute: fields.minute,
+        offset: i32::from(offset_minutes(true, hours, 0)),
+        second: fields.second,
+        fraction: fields.fraction,
+    })
+}
+
+// The fields of a text that begins with its day and ends with a zone's name, with single spaces.
+#[inline(always)]
+fn read_with_name(text: &[u8]) -> Option<Fields>
+    requires low { 23 ≤ length text.now }
+    requires high { length text.now ≤ 24 }
+    ensures { IfSome result (SaysFields text.now) }
+{
+    if text.len() == 23 {
+        let fields = read_shape(&one_digit_with_name(), 1, text)?;
+        return with_name(fields, &text[19..]);
+    }
+    let fields = read_shape(&two_digits_with_name(), 2, text)?;
+    with_name(fields, &text[20..])
+}
+
+// Fields at the full minute.
+#[inline(always)]
+fn at_minute(fields: Fields) -> Fields
+    ensures { HaveNumbers result fields.year fields.month fields.day fields.minute 0
+        fields.fraction fields.offset }
+{
+    Fields {
+        year: fields.year,
+        month: fields.month,
+        day: fields.day,
+        minute: fields.minute,
+        offset: fields.offset,
+        second: 0,
+        fraction: fields.fraction,
+    }
+}
+
+// The fields of a text that begins with its day and ends with an offset in digits, with single spaces and no second.
+#[inline(always)]
+fn read_without_second(text: &[u8]) -> Option<Fields>
+    requires low { 22 ≤ length text.now }
+    requires high { length text.now ≤ 23 }
+    ensures { IfSome result (SaysFields text.now) }
+{
+    if text.len() == 22 {
+        let fields = read_shape(&one_digit_without_second(), 1, text)?;
+        return Some(at_minute(fields));
+    }
+    let fields = read_shape(&two_digits_without_second(), 2, text)?;
+    Some(at_minute(fields))
+}
+
+// The year from 1950 to 2049 that two digits name.
+#[inline(always)]
+fn full_year(year: u8) -> Year
+    requires { year ≤ 99 }
+    ensures value { result ≡ (if nat_lt year 50 then year + 2000 else year + 1900) }
+    ensures bound { result ≤ 9999 }
+{
+    if year < 50 {
+        return Year::new(u16::from(year) + 2000);
+    }
+    Year::new(u16::from(year) + 1900)
+}
+
+// The fields that a shape tells of a text that begins with its day, of so many digits, and has a year of two digits. (The year of
+// its lanes is that of other digits, in which a 29 February may be missing: such a text is left to the exact way.)
+#[inline(always)]
+fn read_short_shape(shape: &Shape, count: usize, text: &[u8]) -> Option<Fields>
+    requires named { IsNamed shape.now }
+    requires whole { length text.now ≡ shape.now.length }
+    requires room { count + 6 ≤ length text.now }
+    ensures { (count ≡ 1) ⊎ (count ≡ 2) → fits shape.now (short_from_day count) ≡ true
+        → IfSome result (SaysFields text.now) }
+{
+    let month = month_number(&text[count..])?;
+    let (year, _) = digit_pair(&text[count + 5..])?;
+    let date = read_named_moment(shape, month, text)?;
+    let year = full_year(year);
+    if !has_day(year, date.month, date.day) {
+        return None;
+    }
+    Some(Fields {
+        year,
+        month: date.month,
+        day: date.day,
+        minute: date.minute,
+        offset: date.offset,
+        second: date.second,
+        fraction: date.fraction,
+    })
+}
+
+// The fields of a text that begins with its day and ends with an offset in digits, with single spaces and a year of two digits.
+#[inline(always)]
+fn read_short_year(text: &[u8]) -> Option<Fields>
+    requires low { 23 ≤ length text.now }
+    requires high { length text.now ≤ 24 }
+    ensures { IfSome result (SaysFields text.now) }
+{
+    if text.len() == 23 {
+        return read_short_shape(&one_digit_short_year(), 1, text);
+    }
+    read_short_shape(&two_digits_short_year(), 2, text)
+}
+
+// The fields of a text that begins with its day, by how many bytes it has. (The name of a zone ends with a letter.)
+#[inline(always)]
+fn read_from_day(text: &[u8]) -> Option<Fields>
+    ensures { IfSome result (SaysFields text.now) }
+{
+    let fields = match text.len() {
+        25 | 26 => read_usual(text)?,
+        0..=21 => return None,
+        23 | 24 if text[text.len() - 1] > b'9' => read_with_name(text)?,
+        23 if text[1] == b' ' => read_short_year(text)?,
+        22 | 23 => read_without_second(text)?,
+        24 => read_short_year(text)?,
+        _ => read_spaced(text)?,
+    };
+    Some(fields)
+}
+
+/// The fields of a text of another shape than the usual one: with a zone's name, two spaces after the comma, no seconds, a year
+/// of two digits, or a comment at the end. `None` says nothing of the text.
+// A call of its own, so that `read_fields` stays small enough to be inlined into a loop over lines.
+#[inline(never)]
+pub fn read_other_fields(input: &[u8]) -> Option<Fields>
+    ensures { IfSome result (λ fields. direct input.now ≡ Ok (moment_of fields)) }
+{
+    if input.len() < 8 {
+        return None;
+    }
+    let text = at_day(input)?;
+    read_from_day(text)
+}
+
+/// The fields of a text with a weekday, single spaces between its parts, all numbers of the clock, and an offset in digits, where
+/// its numbers are in range and its second is no leap second: `None` says nothing of the text.
+#[inline(always)]
+pub fn read_usual_fields(input: &[u8]) -> Option<Fields>
+    ensures { IfSome result (λ fields. direct input.now ≡ Ok (moment_of fields)) }
+{
+    if input.len() != 30 && input.len() != 31 {
+        return None;
+    }
+    if !has_weekday(input) {
+        return None;
+    }
+    read_usual(&input[5..])
+}
+
+/// The fields of a text, where all its numbers are in range and its second is no leap second: `None` says nothing of the
+/// text.
+#[inline(always)]
+pub fn read_fields(input: &[u8]) -> Option<Fields>
+    ensures { IfSome result (λ fields. direct input.now ≡ Ok (moment_of fields)) }
+{
+    match read_usual_fields(input) {
+        Some(fields) => Some(fields),
+        None => read_other_fields(input),
+    }
+}
+
+/// The moment that a text names, where the fast way finds one: `None` says nothing of the text.
+#[inline(always)]
+pub fn read_fast(input: &[u8]) -> Option<OffsetDateTime>
+    ensures { IfSome result (λ moment. direct input.now ≡ Ok moment) }
+{
+    let fields = read_fields(input)?;
+    Some(fields.moment())
+}
