@@ -3,8 +3,6 @@ ghost use Rattle.std.specs.Prelude.{◌≡◌, Ok, IfSome};
 ghost use Rattle.parsing_combinator.specs.FaultOf.{Gives, fault_of, reading_fault};
 ghost use Rattle.parsing_combinator.specs.Readings.{value_read};
 ghost use Rattle.parsing_fields.specs.Moment as Moment;
-ghost use Rattle.parsing_layout.specs.Found.{values_in};
-ghost use Rattle.parsing_layout.specs.declared.parts.Field.TheVariants as field;
 ghost use Rattle.asctime_tests.specs.Asctime.{asctime, numbers, moment_of};
 
 use calendar::{Time, UtcOffset};
@@ -15,61 +13,42 @@ use parsing_combinator::{
     Parse, ParseFromDescription, byte, four_digits, padded_two, short_month, short_weekday,
     two_digits,
 };
-use parsing_fields::{Fields, Fraction, Year, minute_of_day};
-use parsing_layout::{Field, Found, Names, Part, read};
+use parsing_fields::{Fields, Fraction, minute_of_day};
+use parsing_layout::{Field, Item, Names, Part};
+use parsing_strides::{Found, Strides};
 use parsing_values::{OffsetDateTime, resolve};
 
 // The parts of a text, one after another.
-static PARTS: [Part; 13] = [
-    Part::Name(Names::ShortWeekday, true),
-    Part::Byte(b' '),
-    Part::Name(Names::ShortMonth, true),
-    Part::Byte(b' '),
-    Part::Spaced(Field::Day),
-    Part::Byte(b' '),
-    Part::Digits(Field::Hour, 2),
-    Part::Byte(b':'),
-    Part::Digits(Field::Minute, 2),
-    Part::Byte(b':'),
-    Part::Digits(Field::Second, 2),
-    Part::Byte(b' '),
-    Part::Digits(Field::Year, 4),
+static ITEMS: [Item; 13] = [
+    Item::Part(Part::Name(Names::ShortWeekday, true)),
+    Item::Part(Part::Byte(b' ')),
+    Item::Part(Part::Name(Names::ShortMonth, true)),
+    Item::Part(Part::Byte(b' ')),
+    Item::Part(Part::Spaced(Field::Day)),
+    Item::Part(Part::Byte(b' ')),
+    Item::Part(Part::Digits(Field::Hour, 2)),
+    Item::Part(Part::Byte(b':')),
+    Item::Part(Part::Digits(Field::Minute, 2)),
+    Item::Part(Part::Byte(b':')),
+    Item::Part(Part::Digits(Field::Second, 2)),
+    Item::Part(Part::Byte(b' ')),
+    Item::Part(Part::Digits(Field::Year, 4)),
 ];
-
-// The number of a field, where it is below 256.
-fn small(found: &Found, field: Field) -> Option<u8>
-    ensures { IfSome result (λ n. n ≡ values_in found.now field) }
-{
-    u8::try_from(found.get(field)).ok()
-}
-
-// The year, where it has four digits.
-fn year(found: &Found) -> Option<Year>
-    ensures { IfSome result (λ y. y ≡ values_in found.now field.Year) }
-{
-    let number = u16::try_from(found.get(Field::Year)).ok()?;
-    if number > 9999 {
-        return None;
-    }
-    Some(Year::new(number))
-}
 
 /// The fields of a text, where its numbers are in range: `None` says nothing of the text.
 pub fn read_fields(text: &[u8]) -> Option<Fields>
     ensures { IfSome result (λ fields. asctime text.now ≡ Ok (Moment.moment_of fields)) }
 {
-    let mut found = Found::new();
-    let rest = read(&PARTS, text, &mut found)?;
+    let strides = Strides::of_items(&ITEMS)?;
+    let mut found = Found::usual();
+    let rest = strides.read(text, &mut found)?;
     if !rest.is_empty() {
         return None;
     }
-    let minute = minute_of_day(small(&found, Field::Hour)?, small(&found, Field::Minute)?)?;
-    let year = year(&found)?;
-    let month = small(&found, Field::Month)?;
-    let day = small(&found, Field::Day)?;
-    let second = small(&found, Field::Second)?;
-    let fraction = Fraction::new(0);
-    Fields::new(year, month, day, minute, second, fraction, 0)
+    let minute = minute_of_day(found.get(Field::Hour), found.get(Field::Minute))?;
+    let (month, day) = (found.get(Field::Month), found.get(Field::Day));
+    let (second, fraction) = (found.get(Field::Second), Fraction::new(0));
+    Fields::new(found.year(), month, day, minute, second, fraction, 0)
 }
 
 // The year, the month, the day, and the time of day.

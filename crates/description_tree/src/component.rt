@@ -12,6 +12,7 @@ use description_items::Component;
 
 impl FormatDescriptionV3Inner<'_> {
     /// The component, if the node is one.
+    #[inline(always)]
     pub fn component(&self) -> Option<Component>
         ensures some { IfSome result (λ component. inner_tree self.now ≡ Part component) }
         ensures modern { IfSome result (λ component. modern component ≡ component) }
@@ -28,6 +29,7 @@ impl FormatDescriptionV3Inner<'_> {
 }
 
 // A day, a month, a weekday or a week.
+#[inline(always)]
 fn date_part(node: &Inner<'_>) -> Option<Component>
     ensures some { IfSome result (λ component. inner_tree node.now ≡ Part component) }
     ensures modern { IfSome result (λ component. modern component ≡ component) }
@@ -52,6 +54,7 @@ fn date_part(node: &Inner<'_>) -> Option<Component>
 }
 
 // A year.
+#[inline(always)]
 fn year_part(node: &Inner<'_>) -> Option<Component>
     ensures some { IfSome result (λ component. inner_tree node.now ≡ Part component) }
     ensures modern { IfSome result (λ component. modern component ≡ component) }
@@ -78,6 +81,7 @@ fn year_part(node: &Inner<'_>) -> Option<Component>
 }
 
 // A part of a time, of an offset or of the text itself.
+#[inline(always)]
 fn time_part(node: &Inner<'_>) -> Option<Component>
     ensures some { IfSome result (λ component. inner_tree node.now ≡ Part component) }
     ensures modern { IfSome result (λ component. modern component ≡ component) }

@@ -3,13 +3,13 @@ use Rattle.std.proofs.Common.{◌≡◌, ℕ, List, Option, Some, None, Ok, refl
 use Rattle.std.specs.Prelude.{IfSome}
 use Rattle.parsing_fields.specs.Moment.{moment_of}
 use Rattle.parsing_fields.specs.declared.fields.Fields.{Fields}
-use Rattle.parsing_layouts.specs.Places.{ArePlacesOf, IsUnixTimeOf}
-use Rattle.parsing_layouts.specs.declared.places.Places.{Places}
+use Rattle.parsing_plan.specs.Places.{ArePlacesOf, IsUnixTimeOf}
+use Rattle.parsing_plan.specs.declared.places.Places.{Places}
 use Rattle.parsing_plan.specs.Plan.{IsPlanOf}
 use Rattle.parsing_record.specs.Prefix.{beginning}
 use Rattle.parsing_plan.specs.declared.plan.Plan.{Plan}
 use Rattle.parsing_plan.specs.declared.plan.Plan.TheVariants as plan
-use Rattle.parsing_layouts.specs.declared.unix.UnixTime.{UnixTime}
+use Rattle.parsing_plan.specs.declared.unix.UnixTime.{UnixTime}
 use Rattle.parsing_record.specs.Meaning.{Meaning}
 use Rattle.parsing_components.specs.declared.fields.Record.{Record}
 use Rattle.parsing_record.specs.Whole.{starting, whole, names, moment_named}

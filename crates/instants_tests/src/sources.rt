@@ -110,7 +110,7 @@ fn second_by_plan(source: &Source, line: &[u8]) -> Option<(Option<i64>, Option<i
     match plan {
         Plan::Places(places) => Some((by_plan, second_of(places.read(line, None)))),
         Plan::Unix(unix) => Some((by_plan, second_of(unix.read_within(line)))),
-        Plan::Steps(_) => Some((by_plan, None)),
+        Plan::Listed(_) => Some((by_plan, None)),
     }
 }
 

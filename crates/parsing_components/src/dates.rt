@@ -71,6 +71,7 @@ fn days_counted(one_indexed: bool, n: u32) -> Option<u32>
 }
 
 /// The weekday of a number that counts from Sunday.
+#[inline(always)]
 pub(crate) fn sunday_number(one_indexed: bool, bytes: &[u8]) -> Option<(Weekday, &[u8])>
     ensures { cut_view result ≡ says (counted one_indexed from_sunday) (taken (digits_between 1 1)) bytes.now }
 {
@@ -80,6 +81,7 @@ pub(crate) fn sunday_number(one_indexed: bool, bytes: &[u8]) -> Option<(Weekday,
 }
 
 /// The weekday of a number that counts from Monday.
+#[inline(always)]
 pub(crate) fn monday_number(one_indexed: bool, bytes: &[u8]) -> Option<(Weekday, &[u8])>
     ensures { cut_view result ≡ says (counted one_indexed from_monday) (taken (digits_between 1 1)) bytes.now }
 {

@@ -12,6 +12,7 @@ impl Node for BorrowedFormatItem<'_> {
 
     ghost tree = { tree_of };
 
+    #[inline(always)]
     fn step(&self) -> NodeStep<'_, Self> {
         match self {
             BorrowedFormatItem::Literal(literal) => NodeStep::Literal(literal),

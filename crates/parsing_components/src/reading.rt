@@ -23,34 +23,27 @@ fn offset_piece(component: Component, bytes: &[u8]) -> Option<(Read, &[u8])>
             (hour, negative),
             rest,
         )| (Read::OffsetHour(hour, negative), rest)),
-        Component::OffsetMinute(m) => two(m.padding, 0, 59, bytes).map(|(n, rest)| (
-            Read::OffsetMinute(n),
-            rest,
-        )),
-        Component::OffsetSecond(m) => two(m.padding, 0, 59, bytes).map(|(n, rest)| (
-            Read::OffsetSecond(n),
-            rest,
-        )),
+        Component::OffsetMinute(m) => {
+            two(m.padding, 0, 59, bytes).map(|(n, rest)| (Read::OffsetMinute(n), rest))
+        }
+        Component::OffsetSecond(m) => {
+            two(m.padding, 0, 59, bytes).map(|(n, rest)| (Read::OffsetSecond(n), rest))
+        }
         Component::UnixTimestampSecond(m) => unix(
             m.sign_is_mandatory,
             14,
             1_000_000_000,
             bytes,
         ).map(|(n, rest)| (Read::Unix(n), rest)),
-        Component::UnixTimestampMillisecond(m) => unix(
-            m.sign_is_mandatory,
-            17,
-            1_000_000,
-            bytes,
-        ).map(|(n, rest)| (Read::Unix(n), rest)),
-        Component::UnixTimestampMicrosecond(m) => unix(m.sign_is_mandatory, 20, 1_000, bytes).map(|(
-            n,
-            rest,
-        )| (Read::Unix(n), rest)),
-        Component::UnixTimestampNanosecond(m) => unix(m.sign_is_mandatory, 23, 1, bytes).map(|(
-            n,
-            rest,
-        )| (Read::Unix(n), rest)),
+        Component::UnixTimestampMillisecond(m) => {
+            unix(m.sign_is_mandatory, 17, 1_000_000, bytes).map(|(n, rest)| (Read::Unix(n), rest))
+        }
+        Component::UnixTimestampMicrosecond(m) => {
+            unix(m.sign_is_mandatory, 20, 1_000, bytes).map(|(n, rest)| (Read::Unix(n), rest))
+        }
+        Component::UnixTimestampNanosecond(m) => {
+            unix(m.sign_is_mandatory, 23, 1, bytes).map(|(n, rest)| (Read::Unix(n), rest))
+        }
         Component::Ignore(m) => ignored(m.count, bytes).map(|rest| (Read::Nothing, rest)),
         _ => None,
     }
@@ -64,32 +57,27 @@ fn time_piece(component: Component, bytes: &[u8]) -> Option<(Read, &[u8])>
     ensures range { IfSome result (λ x. IsInRange x.0) }
 {
     match component {
-        Component::Hour12(m) => two(m.padding, 1, 12, bytes).map(|(n, rest)| (
-            Read::Hour12(n),
-            rest,
-        )),
-        Component::Hour24(m) => two(m.padding, 0, 23, bytes).map(|(n, rest)| (
-            Read::Hour24(n),
-            rest,
-        )),
-        Component::Minute(m) => two(m.padding, 0, 59, bytes).map(|(n, rest)| (
-            Read::Minute(n),
-            rest,
-        )),
+        Component::Hour12(m) => {
+            two(m.padding, 1, 12, bytes).map(|(n, rest)| (Read::Hour12(n), rest))
+        }
+        Component::Hour24(m) => {
+            two(m.padding, 0, 23, bytes).map(|(n, rest)| (Read::Hour24(n), rest))
+        }
+        Component::Minute(m) => {
+            two(m.padding, 0, 59, bytes).map(|(n, rest)| (Read::Minute(n), rest))
+        }
         Component::Period(m) => {
             period(m.is_uppercase, m.case_sensitive, bytes).map(|(is_later, rest)| (
                 Read::Afternoon(is_later),
                 rest,
             ))
         }
-        Component::Second(m) => two(m.padding, 0, 60, bytes).map(|(n, rest)| (
-            Read::Second(n),
-            rest,
-        )),
-        Component::Subsecond(m) => subsecond(m.digits, bytes).map(|(n, rest)| (
-            Read::Subsecond(n),
-            rest,
-        )),
+        Component::Second(m) => {
+            two(m.padding, 0, 60, bytes).map(|(n, rest)| (Read::Second(n), rest))
+        }
+        Component::Subsecond(m) => {
+            subsecond(m.digits, bytes).map(|(n, rest)| (Read::Subsecond(n), rest))
+        }
         other => offset_piece(other, bytes),
     }
 }

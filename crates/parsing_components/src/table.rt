@@ -96,6 +96,7 @@ fn read_modern<'a>(
 
 /// Sets what the component says at the start of the bytes, and returns the bytes after it.
 #[tactic(auto, unfolding(crate::specs::Component::reads_component))]
+#[inline(always)]
 pub fn read_component<'a>(
     component: Component,
     bytes: &'a [u8],
@@ -106,11 +107,21 @@ pub fn read_component<'a>(
         (putting (Components.reads_component component) fields.old bytes.now) }
     ensures within { IsWithin fields.new }
 {
-    read_modern(component.modern(), bytes, fields)
+    let newer = match component {
+        Component::Month(_)
+        | Component::Weekday(_)
+        | Component::WeekNumber(_)
+        | Component::Year(_)
+        | Component::Hour(_)
+        | Component::UnixTimestamp(_) => component.modern(),
+        newer => newer,
+    };
+    read_modern(newer, bytes, fields)
 }
 
 /// Sets what the component says as version 3 reads: no character may go on after ignored bytes.
 #[tactic(auto, unfolding(crate::specs::Component::reads_component_v3))]
+#[inline(always)]
 pub fn read_component_v3<'a>(
     component: Component,
     bytes: &'a [u8],
@@ -122,10 +133,9 @@ pub fn read_component_v3<'a>(
     ensures within { IsWithin fields.new }
 {
     match component {
-        Component::Ignore(ignore) => match ignored_characters(ignore.count, bytes) {
-            Some(rest) => Ok(rest),
-            None => Err(ParseFromDescription::InvalidComponent("ignore")),
-        },
+        Component::Ignore(ignore) => ignored_characters(ignore.count, bytes).ok_or(
+            ParseFromDescription::InvalidComponent("ignore"),
+        ),
         other => read_component(other, bytes, fields),
     }
 }

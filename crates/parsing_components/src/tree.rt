@@ -12,10 +12,8 @@ impl Node for Inner<'_> {
 
     ghost tree = { inner_tree };
 
+    #[inline(always)]
     fn step(&self) -> NodeStep<'_, Self> {
-        if let Some(component) = self.component() {
-            return NodeStep::Component(component);
-        }
         match self {
             Inner::BorrowedLiteral(text) => NodeStep::Literal(text.as_bytes()),
             Inner::OwnedLiteral(text) => NodeStep::Literal(text.as_bytes()),
@@ -25,7 +23,10 @@ impl Node for Inner<'_> {
             Inner::OwnedOptional { format, item } => NodeStep::Optional(*format, item),
             Inner::BorrowedFirst(lent) => NodeStep::First(lent.items),
             Inner::OwnedFirst(nodes) => NodeStep::First(nodes),
-            _ => unreachable!(),
+            part => match part.component() {
+                Some(component) => NodeStep::Component(component),
+                None => unreachable!(),
+            },
         }
     }
 }

@@ -34,12 +34,6 @@ far a b e some = grind (arith, nat_tests)
 pub within : (at : ℕ) → at < 12 → 0 < (row at).back_at → (row at).back_at + 16 ≤ (row at).length
 within at lt = far _ _ (passes (λ r. (r.back_at == 0) || nat_le (r.back_at + 16) r.length) at refl lt)
 
-at_least : (a b : ℕ) → nat_le a b ≡ true → a ≤ b
-at_least a b e = grind (arith, nat_tests)
-
-pub room : (at : ℕ) → at < 12 → 4 ≤ (row at).length
-room at lt = at_least 4 _ (passes (λ r. nat_le 4 r.length) at refl lt)
-
 -- the windows of a row
 abbrev pub windows_of : (r : Row) → are_moves r.lanes ≡ true → are_moves r.back_lanes ≡ true → Windows
 windows_of r p q = record { prefix = record { low = r.low; high = r.above; taken = record { lanes = r.lanes; right = p } }; back = record { low = r.back_low; high = r.back_above; taken = record { lanes = r.back_lanes; right = q } }; back_at = r.back_at }
@@ -60,29 +54,29 @@ bounds (suc (suc (suc (suc (suc (suc (suc (suc (suc (suc (suc zero))))))))))) lt
 bounds (suc (suc (suc (suc (suc (suc (suc (suc (suc (suc (suc (suc n)))))))))))) lt p q = absurd (omega (arith, lt))
 
 -- the shape of a row was made for its layout
-abbrev pub shape_of : (r : Row) (p : are_moves r.lanes ≡ true) (q : are_moves r.back_lanes ≡ true) → (0 < r.back_at → r.back_at + 16 ≤ r.length) → lets_year (windows_of r p q) r.length 0 ≡ true → 0 + 4 ≤ r.length → are_bounded (windows_of r p q) true ≡ true → Shape
-shape_of r p q near year long bounded = record { windows = windows_of r p q; length = r.length; has_tail = true; year = 0; month_is_named = false; month = 0; within = near; year_is = year; month_room = long; bounded = bounded }
+abbrev pub shape_of : (r : Row) (p : are_moves r.lanes ≡ true) (q : are_moves r.back_lanes ≡ true) → (0 < r.back_at → r.back_at + 16 ≤ r.length) → lets_year (windows_of r p q) r.length 0 ≡ true → are_bounded (windows_of r p q) true ≡ true → Shape
+shape_of r p q near year bounded = record { windows = windows_of r p q; length = r.length; has_tail = true; year = 0; within = near; year_is = year; bounded = bounded }
 
-fits_by : (at : ℕ) → at < 12 → (p : are_moves (row at).lanes ≡ true) (q : are_moves (row at).back_lanes ≡ true) (a : 0 < (row at).back_at → (row at).back_at + 16 ≤ (row at).length) (b : lets_year (windows_of (row at) p q) (row at).length 0 ≡ true) (c : 0 + 4 ≤ (row at).length) (d : are_bounded (windows_of (row at) p q) true ≡ true)
-    → fits (shape_of (row at) p q a b c d) (front_parts (row at).dating (row at).is_extended (nat_lt at 6)) ≡ true
-fits_by zero lt p q a b c d = refl
-fits_by (suc zero) lt p q a b c d = refl
-fits_by (suc (suc zero)) lt p q a b c d = refl
-fits_by (suc (suc (suc zero))) lt p q a b c d = refl
-fits_by (suc (suc (suc (suc zero)))) lt p q a b c d = refl
-fits_by (suc (suc (suc (suc (suc zero))))) lt p q a b c d = refl
-fits_by (suc (suc (suc (suc (suc (suc zero)))))) lt p q a b c d = refl
-fits_by (suc (suc (suc (suc (suc (suc (suc zero))))))) lt p q a b c d = refl
-fits_by (suc (suc (suc (suc (suc (suc (suc (suc zero)))))))) lt p q a b c d = refl
-fits_by (suc (suc (suc (suc (suc (suc (suc (suc (suc zero))))))))) lt p q a b c d = refl
-fits_by (suc (suc (suc (suc (suc (suc (suc (suc (suc (suc zero)))))))))) lt p q a b c d = refl
-fits_by (suc (suc (suc (suc (suc (suc (suc (suc (suc (suc (suc zero))))))))))) lt p q a b c d = refl
-fits_by (suc (suc (suc (suc (suc (suc (suc (suc (suc (suc (suc (suc n)))))))))))) lt p q a b c d = absurd (omega (arith, lt))
+fits_by : (at : ℕ) → at < 12 → (p : are_moves (row at).lanes ≡ true) (q : are_moves (row at).back_lanes ≡ true) (a : 0 < (row at).back_at → (row at).back_at + 16 ≤ (row at).length) (b : lets_year (windows_of (row at) p q) (row at).length 0 ≡ true) (d : are_bounded (windows_of (row at) p q) true ≡ true)
+    → fits (shape_of (row at) p q a b d) (front_parts (row at).dating (row at).is_extended (nat_lt at 6)) ≡ true
+fits_by zero lt p q a b d = refl
+fits_by (suc zero) lt p q a b d = refl
+fits_by (suc (suc zero)) lt p q a b d = refl
+fits_by (suc (suc (suc zero))) lt p q a b d = refl
+fits_by (suc (suc (suc (suc zero)))) lt p q a b d = refl
+fits_by (suc (suc (suc (suc (suc zero))))) lt p q a b d = refl
+fits_by (suc (suc (suc (suc (suc (suc zero)))))) lt p q a b d = refl
+fits_by (suc (suc (suc (suc (suc (suc (suc zero))))))) lt p q a b d = refl
+fits_by (suc (suc (suc (suc (suc (suc (suc (suc zero)))))))) lt p q a b d = refl
+fits_by (suc (suc (suc (suc (suc (suc (suc (suc (suc zero))))))))) lt p q a b d = refl
+fits_by (suc (suc (suc (suc (suc (suc (suc (suc (suc (suc zero)))))))))) lt p q a b d = refl
+fits_by (suc (suc (suc (suc (suc (suc (suc (suc (suc (suc (suc zero))))))))))) lt p q a b d = refl
+fits_by (suc (suc (suc (suc (suc (suc (suc (suc (suc (suc (suc (suc n)))))))))))) lt p q a b d = absurd (omega (arith, lt))
 
 second_of : (form at : ℕ) (s : Bool) → form < 6 → at ≡ row_of form s → nat_lt at 6 ≡ s
 second_of form at true lt is = grind (arith, nat_tests)
 second_of form at false lt is = grind (arith, nat_tests)
 
-pub row_fits : (form at : ℕ) (s : Bool) → form < 6 → at ≡ row_of form s → at < 12 → (p : are_moves (row at).lanes ≡ true) (q : are_moves (row at).back_lanes ≡ true) (a : 0 < (row at).back_at → (row at).back_at + 16 ≤ (row at).length) (b : lets_year (windows_of (row at) p q) (row at).length 0 ≡ true) (c : 0 + 4 ≤ (row at).length) (d : are_bounded (windows_of (row at) p q) true ≡ true)
-    → fits (shape_of (row at) p q a b c d) (front_parts (row at).dating (row at).is_extended s) ≡ true
-row_fits form at s small is lt p q a b c d = rw (second_of form at s small is) at (fits_by at lt p q a b c d)
+pub row_fits : (form at : ℕ) (s : Bool) → form < 6 → at ≡ row_of form s → at < 12 → (p : are_moves (row at).lanes ≡ true) (q : are_moves (row at).back_lanes ≡ true) (a : 0 < (row at).back_at → (row at).back_at + 16 ≤ (row at).length) (b : lets_year (windows_of (row at) p q) (row at).length 0 ≡ true) (d : are_bounded (windows_of (row at) p q) true ≡ true)
+    → fits (shape_of (row at) p q a b d) (front_parts (row at).dating (row at).is_extended s) ≡ true
+row_fits form at s small is lt p q a b d = rw (second_of form at s small is) at (fits_by at lt p q a b d)

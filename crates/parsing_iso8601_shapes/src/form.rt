@@ -10,7 +10,7 @@ pub(crate) enum Dating {
     Calendar,
     /// A day of the year, as `102`.
     Ordinal,
-    /// A week and a day of it, as `W15-5`.
+    /// A week and a day of it, as in `1985W155`.
     Week,
 }
 
@@ -22,5 +22,4 @@ pub(crate) struct Form {
     /// Whether hyphens and colons stand between the numbers.
     pub(crate) is_extended: bool,
     ghost tail: { shape.has_tail ≡ true },
-    ghost numbered: { shape.month_is_named ≡ false },
 }

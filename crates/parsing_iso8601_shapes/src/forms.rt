@@ -229,8 +229,6 @@ pub(crate) fn form_at(form: usize, has_second: bool) -> Form
             length: row.length,
             has_tail: true,
             year: 0,
-            month_is_named: false,
-            month: 0,
         },
         dating: row.dating,
         is_extended: row.is_extended,

@@ -111,10 +111,14 @@ pub fn read_rare_fields(input: &[u8]) -> Option<Fields>
         return None;
     }
     let form = form_at(form_of(input), true);
-    match read_long_form(&form, input) {
-        Some(fields) => Some(fields),
-        None => read_form(&form, false, true, input),
-    }
+    // (the sign of an offset without a colon is the fifth byte from the end)
+    let sign = input[input.len() - 5];
+    let fields = if form.is_extended && (sign == b'+' || sign == b'-') {
+        read_form(&form, false, true, input)?
+    } else {
+        read_long_form(&form, input)?
+    };
+    Some(fields)
 }
 
 // The fields of a text of one of these two kinds, in a call of its own, so that `read_fields` stays small.

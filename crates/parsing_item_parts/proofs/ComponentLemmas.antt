@@ -18,7 +18,7 @@ use Rattle.description_time_modifiers.specs.declared.choices.SubsecondDigits.{Su
 use Rattle.description_time_modifiers.specs.declared.choices.SubsecondDigits.TheVariants as digits_of
 use Rattle.description_items.specs.declared.component.Component.{Component}
 use Rattle.description_items.specs.declared.component.Component.TheVariants as component
-use Rattle.description_items.specs.Tree.{Tree, Literal, Compound, Optional, First, listed}
+use Rattle.description_items.specs.Tree.{Literal}
 use Rattle.description_items.specs.Tree as tree
 use Rattle.parsing_combinator.specs.Fault.{Fault}
 use Rattle.parsing_combinator.specs.Pieces.{digits, sign, byte_of, digit_count}
@@ -37,7 +37,7 @@ use Rattle.parsing_components.specs.declared.said.Read.{Read}
 use Rattle.parsing_components.specs.declared.said.Read.TheVariants as read
 use Rattle.parsing_components.proofs.Entries.{month_entry}
 use Rattle.parsing_components.specs.Meaning.{literally}
-use Rattle.parsing_components.specs.Reads.{Language, reading, reading_of_all, reads}
+use Rattle.parsing_components.specs.Reads.{Language, reading, reads}
 use Rattle.parsing_components.specs.declared.fields.Record.{Record}
 use Rattle.parsing_layout.specs.Layout.{Values, Says, piece_of, value_of, field_of, weekday_number, half_number}
 use Rattle.parsing_layout.specs.declared.parts.Field.{Field}
@@ -51,8 +51,8 @@ use Rattle.parsing_layout.proofs.PieceLemmas.{inside, literal_said, byte_is}
 use Rattle.parsing_item_layouts.specs.Forms.{padded_part, fraction_part, full_year, year_form, hour_form, signed_form, timestamp_form}
 use Rattle.parsing_item_layouts.specs.declared.forms.Piece.TheVariants as piece
 use Rattle.parsing_item_layouts.proofs.FormLemmas.{taken_fraction}
-use Rattle.parsing_item_parts.specs.Items.{said, said_by, set_all, IsItem, parts_in, parts_of, parts_of_item, parts_of_all}
-use Rattle.parsing_item_parts.proofs.ItemLemmas.{chosen, items_read}
+use Rattle.parsing_item_parts.specs.Items.{said, said_by, set_all, IsItem, parts_in, parts_of}
+use Rattle.parsing_item_parts.proofs.ItemLemmas.{chosen}
 
 -- a reading of one part
 part_item : (reading : Reading Read) (p : Part)
@@ -337,7 +337,7 @@ drop_text : (text rest : List ℕ) → drop (length text) (text ++ rest) ≡ res
 drop_text [] rest = refl
 drop_text (c ∷ cs) rest = drop_text cs rest
 
-literal_item : (language : Language) (text : List ℕ) → IsItem (reading language (Literal text)) (map part.Byte text)
+pub literal_item : (language : Language) (text : List ℕ) → IsItem (reading language (Literal text)) (map part.Byte text)
 unfolding reads literally
 literal_item language text line v rest r new says sets =
     let e = text_there text line rest v says in
@@ -347,19 +347,12 @@ literal_item language text line v rest r new says sets =
     let kept_record : r ≡ new = inside r new (sym (text_sets text v r) ∙ sets) in
     rw (same, after, kept_record) refl
 
--- ---- the whole
+-- ---- in each language
 
-item : (language : Language) → ((c : Component) (ps : List Part) → parts_of c ≡ Some ps → IsItem (putting (language c)) ps)
-    → (t : Tree) (ps : List Part) → parts_of_item t ≡ Some ps → IsItem (reading language t) ps
+pub component_read : (c : Component) (ps : List Part) → parts_of c ≡ Some ps → IsItem (reading reads_component (tree.Part c)) ps
 unfolding reads
-item language each (Literal text) ps e = rw (← inside _ ps e) (literal_item language text)
-item language each (tree.Part c) ps e = each c ps e
-item language each (Compound ts) ps e = absurd cc
-item language each (Optional b t) ps e = absurd cc
-item language each (First ts) ps e = absurd cc
+component_read c ps e = component_item c ps e
 
--- what a text says by the parts of a description's items, their readings set in a record, in each language
-pub description_read : (ts : List Tree) (ps : List Part) → parts_of_all ts ≡ Some ps
-    → IsItem (reading_of_all reads_component (listed ts)) ps × IsItem (reading_of_all reads_component_v3 (listed ts)) ps
-description_read ts ps e =
-    (items_read reads_component (item reads_component component_item) ts ps e, items_read reads_component_v3 (item reads_component_v3 component_item_v3) ts ps e)
+pub component_read_v3 : (c : Component) (ps : List Part) → parts_of c ≡ Some ps → IsItem (reading reads_component_v3 (tree.Part c)) ps
+unfolding reads
+component_read_v3 c ps e = component_item_v3 c ps e

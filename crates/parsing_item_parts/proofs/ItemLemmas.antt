@@ -1,22 +1,24 @@
 -- Items read what their parts say, one after the other.
-use Rattle.std.proofs.Common.{◌≡◌, ◌∙◌, ℕ, List, [], ◌∷◌, ◌++◌, map, Option, Some, None, Ok, refl, sym, ap, append_assoc}
-use Rattle.std.specs.Prelude.{IfSome, option_map}
+use Rattle.std.proofs.Common.{◌≡◌, ◌∙◌, ◌+◌, ℕ, List, [], ◌∷◌, ◌++◌, map, take, Option, Some, None, Ok, Err, refl, sym, ap, append_assoc}
+use Rattle.std.specs.Prelude.{IfSome}
 use Rattle.std.specs.Option.{option_and_then}
 use Rattle.std.proofs.lemmas.List.{append-nil}
-use Rattle.description_items.specs.declared.component.Component.{Component}
-use Rattle.description_items.specs.Tree.{Tree, Literal, listed}
-use Rattle.description_items.specs.Tree as tree
+use Rattle.parsing_combinator.specs.Fault.{Fault}
+use Rattle.description_items.specs.Tree.{Tree, listed}
 use Rattle.parsing_components.specs.Put.{put}
 use Rattle.parsing_components.specs.declared.said.Read.{Read}
-use Rattle.parsing_components.specs.Meaning.{Answer, Counted, then_counted, all_of}
+use Rattle.parsing_components.specs.Meaning.{Meaning, Answer, Counted, then_counted, all_of}
 use Rattle.parsing_components.specs.Reads.{Language, reading, reading_of_all, reads, each_reads}
 use Rattle.parsing_components.specs.declared.fields.Record.{Record}
-use Rattle.parsing_layout.specs.Layout.{Values, field_of}
+use Rattle.parsing_layout.specs.Layout.{Values, Says, piece_of, value_of, field_of}
 use Rattle.parsing_layout.specs.declared.parts.Part.{Part}
 use Rattle.parsing_layout.proofs.LayoutLemmas.{says_first}
 use Rattle.parsing_layout.proofs.PieceLemmas.{inside}
-use Rattle.parsing_layout.specs.declared.parts.Part.TheVariants as part
-use Rattle.parsing_item_parts.specs.Items.{said_by, set_all, IsItem, AddsItem, parts_kept, parts_of, parts_of_item, parts_of_all}
+use Rattle.parsing_layout.specs.Items.{SaysItems, IsThere}
+use Rattle.parsing_layout.specs.declared.items.Item.{Item}
+use Rattle.parsing_layout.specs.declared.items.Item.TheVariants as item
+use Rattle.parsing_item_parts.specs.Items.{said_by, set_all, IsItem, AreItems, AddsItem, items_kept, parts_kept}
+use Rattle.parsing_item_parts.specs.declared.list.Items.{Items}
 use Rattle.parsing_item_parts.specs.declared.list.Parts.{Parts}
 
 -- ---- what two lists set
@@ -54,58 +56,137 @@ unfolding each_reads all_of
 first_read language t ts r new line rest e =
     counted_read (reads language t r line).0 (reads language t r line).1 (all_of (each_reads language (listed ts))) new rest e
 
-no_items : (language : Language) → IsItem (reading_of_all language (listed [])) []
+pub no_parts : (language : Language) → IsItem (reading_of_all language (listed [])) []
 unfolding each_reads all_of
-no_items language line v rest r new says sets = let same : r ≡ new = inside r new sets in rw (same, says) refl
+no_parts language line v rest r new says sets = let same : r ≡ new = inside r new sets in rw (same, says) refl
 
-item_and_items : (language : Language) (t : Tree) (ts : List Tree) (ps qs : List Part) → IsItem (reading language t) ps
+pub item_and_items : (language : Language) (t : Tree) (ts : List Tree) (ps qs : List Part) → IsItem (reading language t) ps
     → IsItem (reading_of_all language (listed ts)) qs → IsItem (reading_of_all language (listed (t ∷ ts))) (ps ++ qs)
 item_and_items language t ts ps qs first others line v rest r new says sets =
     let s = says_first ps qs line rest v says in
     let b = set_both ps qs v r new sets in
     first_read language t ts r b.mid line s.0 (first line v s.0 r b.mid s.1 b.first) ∙ others s.0 v rest b.mid new s.2 b.second
 
--- ---- the parts of all items, from those of each
+-- ---- items, and what a text says by them
 
-cut : (o : Option (List Part)) (ps all : List Part) → option_map (λ qs. ps ++ qs) o ≡ Some all → (qs : List Part) × (o ≡ Some qs) × (ps ++ qs ≡ all)
-cut None ps all e = absurd cc
-cut (Some qs) ps all e = (qs, refl, inside (ps ++ qs) all e)
+-- what a text says by two lists
+pub record SaysBoth (xs ys : List Item) (line : List ℕ) (v : Values) (rest : List ℕ) (way : List Part) : Type 0 where
+  pub mid : List ℕ
+  pub first : List Part
+  pub second : List Part
+  pub both : way ≡ first ++ second
+  pub by_first : SaysItems xs line v mid first
+  pub by_second : SaysItems ys mid v rest second
 
-parted : (o : Option (List Part)) (ts : List Tree) (all : List Part)
-    → option_and_then (λ ps. option_map (λ qs. ps ++ qs) (parts_of_all ts)) o ≡ Some all
-    → (ps : List Part) × (o ≡ Some ps) × ((qs : List Part) × (parts_of_all ts ≡ Some qs) × (ps ++ qs ≡ all))
-parted None ts all e = absurd cc
-parted (Some ps) ts all e = (ps, refl, cut (parts_of_all ts) ps all e)
+pub says_split : (xs ys : List Item) (line : List ℕ) (v : Values) (rest : List ℕ) (way : List Part) → SaysItems (xs ++ ys) line v rest way
+    → SaysBoth xs ys line v rest way
+says_split [] ys line v rest way says =
+    record { mid = line; first = []; second = way; both = refl; by_first = (refl, refl); by_second = says }
+says_split (i ∷ xs) ys line v rest way says =
+    let b = says_split xs ys says.0 v rest says.2 says.5 in
+    record {
+      mid = b.mid;
+      first = says.1 ++ b.first;
+      second = b.second;
+      both = says.3 ∙ ap (λ (zs : List Part). says.1 ++ zs) b.both ∙ sym (append_assoc says.1 b.first b.second);
+      by_first = (says.0, says.1, b.first, refl, says.4, b.by_first);
+      by_second = b.by_second;
+    }
 
--- where each item reads what its parts say, all do
-pub items_read : (language : Language) → ((t : Tree) (ps : List Part) → parts_of_item t ≡ Some ps → IsItem (reading language t) ps)
-    → (ts : List Tree) (all : List Part) → parts_of_all ts ≡ Some all → IsItem (reading_of_all language (listed ts)) all
-items_read language each [] all e = let same : [] ≡ all = inside [] all e in rw (← same) (no_items language)
-items_read language each (t ∷ ts) all e =
-    let p = parted (parts_of_item t) ts all e in
-    let q = p.2 in
-    rw (← q.2) (item_and_items language t ts p.0 q.0 (each t p.0 p.1) (items_read language each ts q.0 q.1))
+certain_said : (ps : List Part) (line : List ℕ) (v : Values) (rest : List ℕ) (way : List Part) → SaysItems (map item.Part ps) line v rest way
+    → IsThere ps line v rest way
+certain_said [] line v rest way says = says
+certain_said (p ∷ ps) line v rest way says =
+    let others = certain_said ps says.0 v rest says.2 says.5 in
+    let one = says.4.1 in
+    let there : piece_of p line ≡ Some (value_of p v, says.0) = rw one.2 at one.1 in
+    (says.3 ∙ ap (λ (xs : List Part). xs ++ says.2) says.4.0 ∙ ap (λ (xs : List Part). p ∷ xs) others.0, (says.0, there, others.1))
 
--- an item more
-pub parts_more : (ts : List Tree) (t : Tree) (ps qs : List Part) → parts_of_all ts ≡ Some ps → parts_of_item t ≡ Some qs
-    → parts_of_all (ts ++ t ∷ []) ≡ Some (ps ++ qs)
-parts_more [] t ps qs e k = let none : [] ≡ ps = inside [] ps e in rw (k, ← none) (ap (λ (xs : List Part). Some xs) (append-nil qs))
-parts_more (u ∷ ts) t ps qs e k =
-    let p = parted (parts_of_item u) ts ps e in
-    let q = p.2 in
-    rw (p.1, parts_more ts t q.0 qs q.1 k) (ap (λ (xs : List Part). Some xs) (sym (append_assoc p.0 q.0 qs) ∙ ap (λ (xs : List Part). xs ++ qs) q.2))
+said_certain : (ps : List Part) (line : List ℕ) (v : Values) (rest : List ℕ) → Says ps line v rest → SaysItems (map item.Part ps) line v rest ps
+said_certain [] line v rest says = (refl, says)
+said_certain (p ∷ ps) line v rest says =
+    (says.0, p ∷ [], ps, refl, (refl, (says.0, says.1, refl)), said_certain ps says.0 v rest says.2)
 
--- ---- lists that grow by an item
+pub items_of_parts : (m : Meaning) (ps : List Part) → IsItem m ps → AreItems m (map item.Part ps)
+items_of_parts m ps is line v rest way r new says sets =
+    let there = certain_said ps line v rest way says in is line v rest r new there.1 (rw there.0 at sets)
 
-pub text_added : (text : List ℕ) (old : Parts) (o : Option Parts) → IfSome o (λ l. parts_kept l ≡ parts_kept old ++ map part.Byte text)
-    → IfSome o (AddsItem (Literal text) old)
-text_added text old None h = tt
-text_added text old (Some new) h = record { more = map part.Byte text; item = refl; added = h }
+pub parts_of_items : (m : Meaning) (ps : List Part) → AreItems m (map item.Part ps) → IsItem m ps
+parts_of_items m ps are line v rest r new says sets = are line v rest ps r new (said_certain ps line v rest says) sets
 
-pub component_added : (c : Component) (more : List Part) (old : Parts) (o : Option Parts) → parts_of c ≡ Some more
-    → IfSome o (λ l. parts_kept l ≡ parts_kept old ++ more) → IfSome o (AddsItem (tree.Part c) old)
-component_added c more old None is h = tt
-component_added c more old (Some new) is h = record { more = more; item = is; added = h }
+-- ---- an item more
+
+counted_refused : (x : Answer) (n : ℕ) (next : Counted) (f : Fault) → x ≡ Err f → (then_counted x n next).0 ≡ Err f
+counted_refused x n next f e = rw e refl
+
+pub refused : (language : Language) (t : Tree) (ts : List Tree) (r : Record) (line : List ℕ) (f : Fault) → reading language t r line ≡ Err f
+    → reading_of_all language (listed (t ∷ ts)) r line ≡ Err f
+unfolding each_reads all_of
+refused language t ts r line f e =
+    counted_refused (reads language t r line).0 (reads language t r line).1 (all_of (each_reads language (listed ts))) f e
+
+nothing_left : (language : Language) (r : Record) (rest : List ℕ) → reading_of_all language (listed []) r rest ≡ Ok (r, rest)
+unfolding each_reads all_of
+nothing_left language r rest = refl
+
+abbrev ReadsThen : Language → List Tree → Tree → Type 0
+ReadsThen language ts t = (r at new : Record) (line mid rest : List ℕ) → reading_of_all language (listed ts) r line ≡ Ok (at, mid) → reading language t at mid ≡ Ok (new, rest)
+    → reading_of_all language (listed (ts ++ t ∷ [])) r line ≡ Ok (new, rest)
+
+then_at : (language : Language) (u : Tree) (ts : List Tree) (t : Tree) (o : Answer) (r at new : Record) (line mid rest : List ℕ) → ReadsThen language ts t
+    → reading language u r line ≡ o → reading_of_all language (listed (u ∷ ts)) r line ≡ Ok (at, mid) → reading language t at mid ≡ Ok (new, rest)
+    → reading_of_all language (listed (u ∷ (ts ++ t ∷ []))) r line ≡ Ok (new, rest)
+then_at language u ts t (Ok x) r at new line mid rest others is e last =
+    first_read language u (ts ++ t ∷ []) r x.0 line x.1 is
+    ∙ others x.0 at new x.1 mid rest (sym (first_read language u ts r x.0 line x.1 is) ∙ e) last
+then_at language u ts t (Err f) r at new line mid rest others is e last =
+    absurd (let never : Err f ≡ Ok (at, mid) = sym (refused language u ts r line f is) ∙ e in cc)
+
+read_then : (language : Language) (ts : List Tree) (t : Tree) → ReadsThen language ts t
+read_then language [] t r at new line mid rest e last =
+    let same : (r, line) ≡ (at, mid) = let both : Ok (r, line) ≡ Ok (at, mid) = sym (nothing_left language r line) ∙ e in cc in
+    let there : reading language t r line ≡ Ok (new, rest) = ap (λ (x : Record × List ℕ). reading language t x.0 x.1) same ∙ last in
+    first_read language t [] r new line rest there ∙ nothing_left language new rest
+read_then language (u ∷ ts) t r at new line mid rest e last =
+    then_at language u ts t (reading language u r line) r at new line mid rest (read_then language ts t) refl e last
+
+pub item_more : (language : Language) (ts : List Tree) (t : Tree) (xs ys : List Item) → AreItems (reading_of_all language (listed ts)) xs
+    → AreItems (reading language t) ys → AreItems (reading_of_all language (listed (ts ++ t ∷ []))) (xs ++ ys)
+item_more language ts t xs ys all one line v rest way r new says sets =
+    let s = says_split xs ys line v rest way says in
+    let b = set_both s.first s.second v r new (rw s.both at sets) in
+    read_then language ts t r b.mid new line s.mid rest
+    (all line v s.mid s.first r b.mid s.by_first b.first) (one s.mid v rest s.second b.mid new s.by_second b.second)
+
+-- ---- lists that grow
 
 pub two_added : (ps mid new : List Part) (p q : Part) → mid ≡ ps ++ p ∷ [] → new ≡ mid ++ q ∷ [] → new ≡ ps ++ p ∷ q ∷ []
 two_added ps mid new p q first second = second ∙ ap (λ (xs : List Part). xs ++ q ∷ []) first ∙ append_assoc ps (p ∷ []) (q ∷ [])
+
+-- what each item has, one after the other
+pub each_more : (each : Item → List Part) (all : List Item → List Part) → all [] ≡ [] → ((i : Item) (is : List Item) → all (i ∷ is) ≡ each i ++ all is)
+    → (is : List Item) (i : Item) → all (is ++ i ∷ []) ≡ all is ++ each i
+each_more each all none more [] i = more i [] ∙ ap (λ (xs : List Part). each i ++ xs) none ∙ append-nil (each i) ∙ sym (ap (λ (xs : List Part). xs ++ each i) none)
+each_more each all none more (j ∷ is) i =
+    more j (is ++ i ∷ []) ∙ ap (λ (xs : List Part). each j ++ xs) (each_more each all none more is i) ∙ sym (append_assoc (each j) (all is) (each i))
+    ∙ sym (ap (λ (xs : List Part). xs ++ each i) (more j is))
+
+pub grown : (each : Item → List Part) (all : List Item → List Part) → all [] ≡ [] → ((i : Item) (is : List Item) → all (i ∷ is) ≡ each i ++ all is)
+    → (is : List Item) (k : ℕ) (i : Item) (old new : List Part) → take (k + 1) is ≡ take k is ++ i ∷ [] → old ≡ all (take k is) → new ≡ old ++ each i
+    → new ≡ all (take (k + 1) is)
+grown each all none more is k i old new cut so_far added =
+    rw cut (added ∙ ap (λ (xs : List Part). xs ++ each i) so_far ∙ sym (each_more each all none more (take k is) i))
+
+pub alone_grown : (is : List Item) (k : ℕ) (i : Item) (old new : List Item) → take (k + 1) is ≡ take k is ++ i ∷ [] → old ≡ take k is
+    → new ≡ old ++ i ∷ [] → new ≡ take (k + 1) is
+alone_grown is k i old new cut so_far added = rw cut (added ∙ ap (λ (xs : List Item). xs ++ i ∷ []) so_far)
+
+pub node_added : (language : Language) (t : Tree) (more : List Item) (old : Items) (o : Option Items) → AreItems (reading language t) more
+    → IfSome o (λ l. items_kept l ≡ items_kept old ++ more) → IfSome o (AddsItem language t old)
+node_added language t more old None are h = tt
+node_added language t more old (Some new) are h = record { more = more; read = are; added = h }
+
+pub alone_read : (m : Meaning) (is : List Item) (o : Option Parts) → AreItems m is → IfSome o (λ l. map item.Part (parts_kept l) ≡ is)
+    → IfSome o (λ l. IsItem m (parts_kept l))
+alone_read m is None are same = tt
+alone_read m is (Some l) are same = parts_of_items m (parts_kept l) (rw same are)

@@ -1,7 +1,7 @@
 pub mod ComponentLemmas
-pub mod EndLemmas
 pub mod ItemLemmas
 pub mod MomentLemmas
+pub mod OptionalLemmas
 pub mod ReadingLemmas
 pub mod RecordLemmas
 pub mod SaidLemmas

@@ -1,81 +1,164 @@
--- What parts say, from the tests of it.
-use Rattle.std.proofs.Common.{◌≡◌, ◌==◌, ◌&&◌, ◌||◌, Bool, true, false, not, List, [], ◌∷◌, Option, Some, None, refl, arith}
-use Rattle.std.proofs.lemmas.Bool.Decides.{nat_tests}
-use Rattle.parsing_layout.specs.Layout.{field_of}
+-- What a text says by items, from what has to be there and what may be.
+use Rattle.std.proofs.Common.{◌≡◌, ◌∙◌, ◌<◌, ◌||◌, ◌++◌, ℕ, Bool, true, false, List, [], ◌∷◌, refl, sym, ap, arith, inl, inr}
+use Rattle.parsing_layout.specs.Items.{SaysItem, SaysItems, certain, possible, all_certain, all_possible}
+use Rattle.parsing_layout.specs.Layout.{Values, field_of}
 use Rattle.parsing_layout.specs.declared.parts.Field.{Field}
+use Rattle.parsing_layout.specs.Range.{most, IsAllInRange}
+use Rattle.parsing_layout.specs.Said.{Said, is_of, fields_of}
+use Rattle.parsing_layout.specs.declared.items.Item.{Item}
 use Rattle.parsing_layout.specs.declared.parts.Part.{Part}
-use Rattle.parsing_layout.specs.Found.{place_of, IsApart, Spares, SparesField, AreDistinct}
+use Rattle.parsing_layout.specs.declared.items.Item.TheVariants as item
 use Rattle.parsing_layout.specs.declared.parts.Field.TheVariants as field
-use Rattle.parsing_item_parts.specs.Recorded.{Fields, is_of, fields_of, says_again, are_apart, say_day, say_hour, say_offset}
+use Rattle.parsing_strides.specs.Found.{values_in}
+use Rattle.parsing_item_parts.specs.Listed.{IsWay, items_listed}
+use Rattle.parsing_item_parts.specs.Recorded.{said_or}
+use Rattle.parsing_item_parts.specs.declared.listed.Listed.{Listed}
 
-pub both_true : (a b : Bool) → (a && b) ≡ true → (a ≡ true) × (b ≡ true)
-both_true true b e = (refl, e)
-both_true false b e = absurd cc
+-- ---- the fields of two lists
 
-pub is_not : (a : Bool) → not a ≡ true → a ≡ false
-is_not true e = absurd cc
-is_not false e = refl
+or_assoc : (a b c : Bool) → ((a || b) || c) ≡ (a || (b || c))
+or_assoc true b c = refl
+or_assoc false b c = refl
 
-neither : (a b : Bool) → (a || b) ≡ false → (a ≡ false) × (b ≡ false)
-neither true b e = absurd cc
-neither false b e = (refl, e)
+said_by_both : (ps qs : List Part) (f : Field) → fields_of (ps ++ qs) f ≡ (fields_of ps f || fields_of qs f)
+said_by_both [] qs f = refl
+said_by_both (p ∷ ps) qs f =
+    ap (λ (b : Bool). is_of f (field_of p) || b) (said_by_both ps qs f) ∙ sym (or_assoc (is_of f (field_of p)) (fields_of ps f) (fields_of qs f))
 
-apart : (f : Field) (o : Option Field) → is_of f o ≡ false → IsApart (place_of f) o
-apart f None e = tt
-apart f (Some g) e =
-    λ same. absurd (let is : (place_of g == place_of f) ≡ true = grind (arith, nat_tests, same) in let never : true ≡ false = rw is at e in cc)
+-- ---- what has to be there is, and what can't be is not
 
-pub spared : (ps : List Part) (f : Field) → fields_of ps f ≡ false → Spares ps (place_of f)
-spared [] f e = tt
-spared (p ∷ ps) f e = let n = neither (is_of f (field_of p)) (fields_of ps f) e in (apart f (field_of p) n.0, spared ps f n.1)
+or_more : (a b c d : Bool) → (a ≡ true → c ≡ true) → (b ≡ true → d ≡ true) → (a || b) ≡ true → (c || d) ≡ true
+or_more true b c d first second e = rw (first refl) refl
+or_more false b true d first second e = refl
+or_more false b false d first second e = second e
 
-spared_again : (ps : List Part) (o : Option Field) → says_again ps o ≡ false → SparesField ps o
-spared_again ps None e = tt
-spared_again ps (Some f) e = spared ps f e
+or_less : (a b c d : Bool) → (a ≡ false → c ≡ false) → (b ≡ false → d ≡ false) → (a || b) ≡ false → (c || d) ≡ false
+or_less true b c d first second e = absurd cc
+or_less false b c d first second e = rw (first refl) (second e)
 
-pub distinct : (ps : List Part) → are_apart ps ≡ true → AreDistinct ps
-distinct [] e = tt
-distinct (p ∷ ps) e = let b =
-    both_true (not (says_again ps (field_of p))) (are_apart ps) e in
-    (spared_again ps (field_of p) (is_not (says_again ps (field_of p)) b.0), distinct ps b.1)
+first_certain : (i : Item) (line : List ℕ) (v : Values) (rest : List ℕ) (way : List Part) (f : Field) → SaysItem i line v rest way
+    → fields_of (certain i) f ≡ true → fields_of way f ≡ true
+first_certain (item.Part p) line v rest way f there e = rw there.0 e
+first_certain (item.Optional b p) line v rest way f there e = absurd cc
 
--- what is tested of a day
-pub record SayDay (has : Fields) : Type 0 where
+first_possible : (i : Item) (line : List ℕ) (v : Values) (rest : List ℕ) (way : List Part) (f : Field) → SaysItem i line v rest way
+    → fields_of (possible i) f ≡ false → fields_of way f ≡ false
+first_possible (item.Part p) line v rest way f there e = rw there.0 e
+first_possible (item.Optional b p) line v rest way f (inl there) e = rw there.0 e
+first_possible (item.Optional b p) line v rest way f (inr missing) e = rw missing.none refl
+
+pub certainly : (is : List Item) (line : List ℕ) (v : Values) (rest : List ℕ) (way : List Part) (f : Field) → SaysItems is line v rest way
+    → fields_of (all_certain is) f ≡ true → fields_of way f ≡ true
+certainly [] line v rest way f says e = absurd cc
+certainly (i ∷ is) line v rest way f says e =
+    rw (says.3, said_by_both says.1 says.2 f)
+    (or_more (fields_of (certain i) f) (fields_of (all_certain is) f) _ _ (first_certain i line v says.0 says.1 f says.4) (certainly is says.0 v rest says.2 f says.5) (sym (said_by_both (certain i) (all_certain is) f) ∙ e))
+
+pub possibly : (is : List Item) (line : List ℕ) (v : Values) (rest : List ℕ) (way : List Part) (f : Field) → SaysItems is line v rest way
+    → fields_of (all_possible is) f ≡ false → fields_of way f ≡ false
+possibly [] line v rest way f says e = rw says.0 refl
+possibly (i ∷ is) line v rest way f says e =
+    rw (says.3, said_by_both says.1 says.2 f)
+    (or_less (fields_of (possible i) f) (fields_of (all_possible is) f) _ _ (first_possible i line v says.0 says.1 f says.4) (possibly is says.0 v rest says.2 f says.5) (sym (said_by_both (possible i) (all_possible is) f) ∙ e))
+
+-- ---- a number that is in its range was read, where it was out of it before
+
+must : (b : Bool) → (b ≡ false → ⊥) → b ≡ true
+must true never = refl
+must false never = absurd (never refl)
+
+is_read : (l : Listed) (has : Said) (v : Values) (f : Field) → IsWay l has v → IsAllInRange v → most f < values_in l.unread f → has f ≡ true
+is_read l has v f way range out = must (has f) (λ none. let few = (range f).1 in let kept = way.unread f none in omega (arith, out, few, kept))
+
+-- parts that say a day and a minute, and no second of a minute that they don't say
+pub record SayDay (has : Said) : Type 0 where
   pub year : has field.Year ≡ true
   pub month : has field.Month ≡ true
   pub day : has field.Day ≡ true
   pub minute : has field.Minute ≡ true
-  pub second : has field.Second ≡ true
   pub unix : has field.Unix ≡ false
+  pub finer : has field.Second ≡ false → has field.Nanosecond ≡ false
 
-pub day_said : (has : Fields) → say_day has ≡ true → SayDay has
-day_said has e =
-    let unix = both_true _ _ e in
-    let second = both_true _ _ unix.0 in
-    let minute = both_true _ _ second.0 in
-    let day = both_true _ _ minute.0 in
-    let month = both_true _ _ day.0 in
-    record { year = month.0; month = month.1; day = day.1; minute = minute.1; second = second.1; unix = is_not _ unix.1 }
+no_finer : (l : Listed) (has : Said) (v : Values) (b : Bool) → l.kind.is_unix ≡ false → IsWay l has v → IsAllInRange v → l.kind.has_second ≡ b
+    → has field.Second ≡ false → has field.Nanosecond ≡ false
+no_finer l has v true dated way range is none =
+    absurd (let there = is_read l has v field.Second way range ((l.out_of_range dated).second is) in let never : true ≡ false = sym there ∙ none in cc)
+no_finer l has v false dated way range is none = way.possible field.Nanosecond ((l.dated dated).fraction is)
+
+pub day_said : (l : Listed) (has : Said) (v : Values) → l.kind.is_unix ≡ false → IsWay l has v → IsAllInRange v → SayDay has
+day_said l has v dated way range =
+    let out = l.out_of_range dated in
+    let s = l.dated dated in
+    record {
+      year = way.certain field.Year s.year;
+      month = is_read l has v field.Month way range out.month;
+      day = is_read l has v field.Day way range out.day;
+      minute = is_read l has v field.Minute way range out.minute;
+      unix = way.possible field.Unix s.unix;
+      finer = no_finer l has v l.kind.has_second dated way range refl;
+    }
 
 -- ---- of the hour and the offset
 
-pub whole_hour : (half : Bool) (has : Fields) → half ≡ false → say_hour half has ≡ true → has field.Hour ≡ true
-whole_hour true has is e = absurd cc
-whole_hour false has is e = e
+pub whole_hour : (l : Listed) (has : Said) (v : Values) → l.kind.is_unix ≡ false → IsWay l has v → IsAllInRange v → l.kind.is_half ≡ false
+    → has field.Hour ≡ true
+whole_hour l has v dated way range is = is_read l has v field.Hour way range ((l.out_of_range dated).hour is)
 
-pub record SayHalf (has : Fields) : Type 0 where
+pub record SayHalf (has : Said) : Type 0 where
   pub none : has field.Hour ≡ false
   pub hour : has field.HourOfHalf ≡ true
   pub half : has field.Half ≡ true
 
-pub half_hour : (half : Bool) (has : Fields) → half ≡ true → say_hour half has ≡ true → SayHalf has
-half_hour true has is e =
-    let half = both_true _ _ e in
-    let hour = both_true _ _ half.0 in
-    record { none = is_not _ hour.0; hour = hour.1; half = half.1 }
-half_hour false has is e = absurd cc
+pub half_hour : (l : Listed) (has : Said) (v : Values) → l.kind.is_unix ≡ false → IsWay l has v → IsAllInRange v → l.kind.is_half ≡ true
+    → SayHalf has
+half_hour l has v dated way range is =
+    let out = l.out_of_range dated in
+    record {
+      none = way.possible field.Hour ((l.dated dated).hour is);
+      hour = is_read l has v field.HourOfHalf way range (out.half_hour is);
+      half = is_read l has v field.Half way range (out.half is);
+    }
 
-pub written : (there : Bool) (has : Fields) → there ≡ true → say_offset there has ≡ true
+pub written : (l : Listed) (has : Said) (v : Values) → l.kind.is_unix ≡ false → IsWay l has v → IsAllInRange v → l.kind.has_offset ≡ true
     → (has field.OffsetHour ≡ true) × (has field.OffsetMinute ≡ true)
-written true has is e = both_true (has field.OffsetHour) (has field.OffsetMinute) e
-written false has is e = absurd cc
+written l has v dated way range is =
+    let out = l.out_of_range dated in
+    (is_read l has v field.OffsetHour way range (out.offset_hour is), is_read l has v field.OffsetMinute way range (out.offset_minute is))
+
+pub unwritten : (l : Listed) (has : Said) (v : Values) → l.kind.is_unix ≡ false → IsWay l has v → l.kind.has_offset ≡ false
+    → (has field.OffsetHour ≡ false) × (has field.OffsetMinute ≡ false)
+unwritten l has v dated way is =
+    let s = l.dated dated in (way.possible field.OffsetHour (s.offset_hour is), way.possible field.OffsetMinute (s.offset_minute is))
+
+-- ---- what is 0 where it is not said
+
+zero_or : (b : Bool) (has : Said) (v : Values) (f : Field) → has f ≡ b → (b ≡ false → v f ≡ 0) → v f ≡ said_or has v f 0
+zero_or true has v f is none = rw is refl
+zero_or false has v f is none = rw is (none refl)
+
+second_zero : (l : Listed) (has : Said) (v : Values) (b : Bool) → l.kind.is_unix ≡ false → IsWay l has v → IsAllInRange v
+    → l.kind.has_second ≡ b → has field.Second ≡ false → v field.Second ≡ 0
+second_zero l has v true dated way range is none =
+    absurd (let there = is_read l has v field.Second way range ((l.out_of_range dated).second is) in let never : true ≡ false = sym there ∙ none in cc)
+second_zero l has v false dated way range is none = way.unread field.Second none ∙ (l.out_of_range dated).no_second is
+
+pub second_said : (l : Listed) (has : Said) (v : Values) → l.kind.is_unix ≡ false → IsWay l has v → IsAllInRange v
+    → v field.Second ≡ said_or has v field.Second 0
+second_said l has v dated way range =
+    zero_or (has field.Second) has v field.Second refl (second_zero l has v l.kind.has_second dated way range refl)
+
+pub no_fraction : (l : Listed) (has : Said) (v : Values) → IsWay l has v → has field.Nanosecond ≡ false → v field.Nanosecond ≡ 0
+no_fraction l has v way none = way.unread field.Nanosecond none ∙ l.no_fraction
+
+pub fraction_said : (l : Listed) (has : Said) (v : Values) → IsWay l has v → v field.Nanosecond ≡ said_or has v field.Nanosecond 0
+fraction_said l has v way = zero_or (has field.Nanosecond) has v field.Nanosecond refl (no_fraction l has v way)
+
+-- ---- what is read of a line
+
+pub way_of : (l : Listed) (line : List ℕ) (v : Values) (rest : List ℕ) (way : List Part) → SaysItems (items_listed l) line v rest way
+    → ((f : Field) → fields_of way f ≡ false → v f ≡ values_in l.unread f) → IsWay l (fields_of way) v
+way_of l line v rest way says kept = record {
+  certain = λ f. certainly (items_listed l) line v rest way f says;
+  possible = λ f. possibly (items_listed l) line v rest way f says;
+  unread = kept;
+}

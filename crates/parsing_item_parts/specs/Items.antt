@@ -3,7 +3,7 @@ use Rattle.std.specs.Prelude.{◌≡◌, ℕ, ◌==◌, pos, Bool, true, false, 
 use Rattle.std.specs.Option.{option_and_then}
 use Rattle.base.specs.Bytes.{hyphen}
 use Rattle.description_items.specs.declared.component.Component.{Component}
-use Rattle.description_items.specs.Tree.{Tree, Literal}
+use Rattle.description_items.specs.Tree.{Tree}
 use Rattle.description_items.specs.Tree as tree
 use Rattle.parsing_components.specs.Put.{put}
 use Rattle.parsing_components.specs.Ranged.{between, up_to, counted, months, from_monday, since_epoch}
@@ -14,6 +14,10 @@ use Rattle.parsing_components.specs.declared.fields.Record.{Record}
 use Rattle.parsing_layout.specs.Layout.{Values, Says, field_of}
 use Rattle.parsing_layout.specs.declared.parts.Field.{Field}
 use Rattle.parsing_layout.specs.declared.parts.Part.{Part}
+use Rattle.parsing_layout.specs.Items.{SaysItems}
+use Rattle.parsing_layout.specs.declared.items.Item.{Item}
+use Rattle.parsing_layout.specs.declared.items.Item.TheVariants as item
+use Rattle.parsing_components.specs.Reads.{Language, reading}
 use Rattle.parsing_layout.specs.declared.parts.Field.TheVariants as field
 use Rattle.parsing_layout.specs.declared.parts.Part.TheVariants as part
 use Rattle.parsing_item_layouts.specs.Forms.{form_of}
@@ -22,6 +26,7 @@ use Rattle.parsing_item_layouts.specs.declared.forms.Piece.{Piece}
 use Rattle.parsing_item_layouts.specs.declared.forms.Form.TheVariants as form
 use Rattle.parsing_item_layouts.specs.declared.forms.Piece.TheVariants as piece
 use Rattle.parsing_item_parts.specs.declared.list.Parts.{Parts}
+use Rattle.parsing_item_parts.specs.declared.list.Items.{Items}
 
 -- ---- what the values of a text set
 
@@ -78,22 +83,32 @@ parts_in (form.Either signed bare) = option_map (sign_and false) (part_in bare)
 abbrev pub parts_of : Component → Option (List Part)
 parts_of c = parts_in (form_of c)
 
-abbrev pub parts_of_item : Tree → Option (List Part)
-parts_of_item (Literal text) = Some (map part.Byte text)
-parts_of_item (tree.Part c) = parts_of c
-parts_of_item other = None
+-- ---- the items of descriptions
 
-abbrev pub parts_of_all : List Tree → Option (List Part)
-parts_of_all [] = Some []
-parts_of_all (t ∷ ts) = option_and_then (λ ps. option_map (λ qs. ps ++ qs) (parts_of_all ts)) (parts_of_item t)
+-- the parts of a literal
+abbrev pub literal_items : List ℕ → List Item
+literal_items text = map (λ b. item.Part (part.Byte b)) text
 
--- ---- lists of parts that are kept
+-- an item of a description reads what a text that has these items sets
+abbrev pub AreItems : Meaning → List Item → Type 0
+AreItems m is = (line : List ℕ) (v : Values) (rest : List ℕ) (way : List Part) (r new : Record) → SaysItems is line v rest way → set_all way v r ≡ Some new → m r line ≡ Ok (new, rest)
+
+-- a component that is one part
+pub record IsOnePart (t : Tree) (p : Part) : Type 0 where
+  pub component : Component
+  pub tree_is : t ≡ tree.Part component
+  pub part_is : parts_of component ≡ Some (p ∷ [])
+
+-- ---- lists that are kept
 
 abbrev pub parts_kept : Parts → List Part
 parts_kept l = take l.count l.parts
 
--- with the parts of an item more
-pub record AddsItem (t : Tree) (old new : Parts) : Type 0 where
-  pub more : List Part
-  pub item : parts_of_item t ≡ Some more
-  pub added : parts_kept new ≡ parts_kept old ++ more
+abbrev pub items_kept : Items → List Item
+items_kept l = take l.count l.items
+
+-- with the items of an item of a description more
+pub record AddsItem (language : Language) (t : Tree) (old new : Items) : Type 0 where
+  pub more : List Item
+  pub read : AreItems (reading language t) more
+  pub added : items_kept new ≡ items_kept old ++ more

@@ -1,3 +1,4 @@
 pub mod Items
 pub mod Recorded
+pub mod Kind
 pub mod Listed

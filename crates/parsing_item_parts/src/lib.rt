@@ -3,10 +3,10 @@
 
 mod list;
 mod listed;
+mod nodes;
 mod parts;
 mod reading;
-mod said;
 
-pub use list::Parts;
+pub use list::{Items, Parts};
 pub use listed::Listed;
 pub use parts::part_of;

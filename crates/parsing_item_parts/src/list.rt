@@ -1,12 +1,10 @@
-//! Lists of parts.
+//! Lists of parts, and of items some of which may be missing.
 ghost use Rattle.std.specs.Prelude.{◌≤◌};
 
-use crate::parts::part_of;
-use parsing_components::{Node, NodeStep};
-use parsing_layout::Part;
+use parsing_layout::{Item, Part};
 
-// The most parts.
-const MOST: usize = 40;
+/// The most items, and the most parts.
+pub(crate) const MOST: usize = 40;
 
 /// Parts, one after the other.
 #[derive(Clone, Copy)]
@@ -18,10 +16,9 @@ pub struct Parts {
 
 impl Parts {
     ghost use Rattle.std.specs.Prelude.{◌≡◌, ◌∷◌, ◌++◌, [], map, IfSome};
-    ghost use Rattle.description_items.specs.Tree.{listed};
-    ghost use Rattle.parsing_layout.specs.declared.parts.Part.TheVariants as part;
-    ghost use Rattle.parsing_components.specs.Reads.{reading_of_all};
-    ghost use Rattle.parsing_item_parts.specs.Items.{AddsItem, IsItem, parts_kept, sign_and};
+    ghost use Rattle.parsing_layout.specs.Items.{all_certain, all_possible, certain, possible};
+    ghost use Rattle.parsing_layout.specs.declared.items.Item.TheVariants as item;
+    ghost use Rattle.parsing_item_parts.specs.Items.{parts_kept};
 
     // No parts.
     fn new() -> Parts
@@ -56,51 +53,113 @@ impl Parts {
         })
     }
 
-    // With the bytes of a literal more.
-    fn with_text(self, text: &[u8]) -> Option<Parts>
-        ensures { IfSome result (λ l. parts_kept l ≡ parts_kept self ++ map part.Byte text.now) }
+    // With the parts of an item that have to be there.
+    fn with_certain(self, item: Item) -> Option<Parts>
+        ensures { IfSome result (λ l. parts_kept l ≡ parts_kept self ++ certain item) }
     {
-        let mut list = self;
-        for byte in text {
-            list = list.with(Part::Byte(*byte))?;
-        }
-        Some(list)
-    }
-
-    // With a part more, after a sign or without one.
-    fn with_signed(self, is_signed: bool, part: Part) -> Option<Parts>
-        ensures { IfSome result (λ l. parts_kept l ≡ parts_kept self ++ sign_and is_signed part) }
-    {
-        if !is_signed {
-            return self.with(part);
-        }
-        let list = self.with(Part::Sign)?;
-        list.with(part)
-    }
-
-    // With the parts of an item more.
-    fn with_item<N: Node>(self, item: &N) -> Option<Parts>
-        ensures { IfSome result (AddsItem (N.tree item.now) self) }
-    {
-        match item.step() {
-            NodeStep::Literal(text) => self.with_text(text),
-            NodeStep::Component(component) => {
-                let (is_signed, part) = part_of(&component)?;
-                self.with_signed(is_signed, part)
-            }
-            _ => None,
+        match item {
+            Item::Part(part) => self.with(part),
+            Item::Optional(_, _) => Some(self),
         }
     }
 
-    /// The parts of items that are read one after the other: `None` where an item is not known by parts, or they are too many.
-    pub fn of_nodes<N: Node>(nodes: &[N]) -> Option<Parts>
+    // With the parts of an item that may be there.
+    fn with_possible(self, item: Item) -> Option<Parts>
+        ensures { IfSome result (λ l. parts_kept l ≡ parts_kept self ++ possible item) }
+    {
+        match item {
+            Item::Part(part) => self.with(part),
+            Item::Optional(byte, part) => self.with(Part::Byte(byte))?.with(part),
+        }
+    }
+
+    // With the part of an item that has to be there.
+    fn with_alone(self, one: Item) -> Option<Parts>
         ensures { IfSome result
-            (λ l. IsItem (reading_of_all N.language (listed (map N.tree nodes.now))) (parts_kept l)) }
+            (λ l. map item.Part (parts_kept l) ≡ map item.Part (parts_kept self) ++ one ∷ []) }
     {
-        let mut list = Parts::new();
-        for node in nodes {
-            list = list.with_item(node)?;
+        match one {
+            Item::Part(part) => self.with(part),
+            Item::Optional(_, _) => None,
         }
-        Some(list)
+    }
+
+    /// The parts of items that have to be there.
+    pub(crate) fn certain_of(items: &[Item]) -> Option<Parts>
+        ensures { IfSome result (λ l. parts_kept l ≡ all_certain items.now) }
+    {
+        let mut parts = Parts::new();
+        for item in items {
+            parts = parts.with_certain(*item)?;
+        }
+        Some(parts)
+    }
+
+    /// All parts of items.
+    pub(crate) fn possible_of(items: &[Item]) -> Option<Parts>
+        ensures { IfSome result (λ l. parts_kept l ≡ all_possible items.now) }
+    {
+        let mut parts = Parts::new();
+        for item in items {
+            parts = parts.with_possible(*item)?;
+        }
+        Some(parts)
+    }
+
+    /// The parts of items, where none may be missing.
+    pub(crate) fn alone_of(items: &[Item]) -> Option<Parts>
+        ensures { IfSome result (λ l. map item.Part (parts_kept l) ≡ items.now) }
+    {
+        let mut parts = Parts::new();
+        for item in items {
+            parts = parts.with_alone(*item)?;
+        }
+        Some(parts)
+    }
+}
+
+/// Items, one after the other.
+#[derive(Clone, Copy)]
+pub struct Items {
+    pub(crate) items: [Item; MOST],
+    pub(crate) count: usize,
+    ghost few: { count ≤ 40 },
+}
+
+impl Items {
+    ghost use Rattle.std.specs.Prelude.{◌≡◌, ◌∷◌, ◌++◌, [], IfSome};
+    ghost use Rattle.parsing_item_parts.specs.Items.{items_kept};
+
+    /// No items.
+    pub(crate) fn new() -> Items
+        ensures { items_kept result ≡ [] }
+    {
+        Items {
+            items: [Item::Part(Part::Any); MOST],
+            count: 0,
+        }
+    }
+
+    /// As a slice.
+    #[inline(always)]
+    pub fn as_slice(&self) -> &[Item]
+        ensures { result.now ≡ items_kept self.now }
+    {
+        &self.items[..self.count]
+    }
+
+    /// With an item more: `None` where they are too many.
+    pub(crate) fn with(self, item: Item) -> Option<Items>
+        ensures { IfSome result (λ l. items_kept l ≡ items_kept self ++ item ∷ []) }
+    {
+        if self.count >= MOST {
+            return None;
+        }
+        let mut items = self.items;
+        items[self.count] = item;
+        Some(Items {
+            items,
+            count: self.count + 1,
+        })
     }
 }

@@ -11,3 +11,8 @@ pub mod ShapeLemmas
 pub mod StretchLemmas
 pub mod BoundsLemmas
 pub mod NamedLemmas
+pub mod FrontLemmas
+pub mod NameLemmas
+pub mod EndLemmas
+pub mod SpacedLemmas
+pub mod ItemsLemmas

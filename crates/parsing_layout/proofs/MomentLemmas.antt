@@ -9,13 +9,13 @@ use Rattle.parsing_combinator.specs.Pieces as Pieces
 use Rattle.parsing_fields.specs.Written.{WriteFraction}
 use Rattle.parsing_fields.specs.declared.fields.Fields.{Fields}
 use Rattle.parsing_places.specs.Windows.{SpareTwo}
-use Rattle.parsing_places.specs.declared.lanes.Moves.{Moves}
 use Rattle.parsing_places.specs.declared.shape.Window.{Window}
 use Rattle.parsing_places.proofs.ReadLemmas.{or_zero, zero_or}
 use Rattle.parsing_values.specs.Resolution.{signed_offset_of}
 use Rattle.parsing_layout.specs.Layout.{Part, Values, Says, length_of}
 use Rattle.parsing_layout.specs.Moment.{AreTaken, AreInRange, AreOfSums, HasOffset, SaysTailed}
 use Rattle.parsing_layout.specs.Shape.{fits, of_clock, own, lane_values}
+use Rattle.parsing_layout.specs.Sums.{AreFew}
 use Rattle.parsing_layout.specs.Tail.{FitsEnd, SparesOffset, IsEnd, fraction_parts}
 use Rattle.parsing_layout.specs.Windows.{spares_two, is_bounded, is_offset_bounded}
 use Rattle.parsing_layout.specs.declared.shape.Shape.{Shape}
@@ -69,8 +69,17 @@ pub record IsPlaced (s : Shape) (zone : List Part) (text : List ℕ) (bytes nano
   pub point : 0 < bytes → get_or text s.length 0 ≡ dot
   pub written : WriteFraction (drop (length text - length_of zone - (bytes - 1)) text) (bytes - 1) nanosecond
 
-module _ (s : Shape) (w : Window) (moves : Moves) (text digits : List ℕ) (d m o t : ℕ) (tail : s.has_tail ≡ true) (is_end : IsEnd w)
-    (x : AreTaken s w moves text d m o t digits) (small : (k : ℕ) → get_or text k 0 < 256) where
+-- an offset that lanes say, by its sums
+pub signed_said : (n : List ℕ) (o t : ℕ) (minutes : ℤ) → AreFew n → o ≡ 60 * get_or n 8 0 + get_or n 10 0 → t ≡ get_or n 12 0 + 64 * get_or n 14 0 → t % 2 ≡ 0
+    → ((hour minute : ℕ) → o ≡ 60 * hour + minute → hour ≤ 23 → minute ≤ 59 → signed_offset_of (nat_eq (t % 4) 2) hour minute ≡ Ok (pos 60 *ℤ minutes))
+    → (get_or n 8 0 ≤ 23) × (signed_offset_of (get_or n 12 0 + 43 == hyphen) (get_or n 8 0) (get_or n 10 0) ≡ Ok (pos 60 *ℤ minutes))
+signed_said n o t minutes few offsets seconds even value =
+    let sign : t % 4 ≡ get_or n 12 0 = omega (arith, seconds, few.sign) in
+    let same = same_sign t (get_or n 12 0) sign few.sign (omega (arith, seconds, even)) in
+    (omega (arith, few.offset_hour), rw same at (value (get_or n 8 0) (get_or n 10 0) offsets (omega (arith, few.offset_hour)) few.offset_minute))
+
+module _ (s : Shape) (w : Window) (text : List ℕ) (at d m o t : ℕ) (tail : s.has_tail ≡ true) (is_end : IsEnd w)
+    (x : AreTaken s w text at d m o t) (small : (k : ℕ) → get_or text k 0 < 256) where
   first_lane : (k : ℕ) → k < 16 → 128 ≤ get_or w.taken.lanes k 0 → get_or x.both k 0 ≡ get_or x.front k 0
   first_lane k lt free = x.joined k lt ∙ rw (x.end_taken.none k lt free) (or_zero (get_or x.front k 0))
 
@@ -78,34 +87,24 @@ module _ (s : Shape) (w : Window) (moves : Moves) (text digits : List ℕ) (d m 
   clock_lane j lt (inl low) = (first_lane (2 * j) (omega arith) (is_end.no_clock (2 * j) (omega arith)), first_lane (2 * j + 1) (omega arith) (is_end.no_clock (2 * j + 1) (omega arith)))
   clock_lane j lt (inr is) = rw is (first_lane 14 (lit< tt) is_end.no_tens, first_lane 15 (lit< tt) is_end.no_ones)
 
-  own_lane : (j : ℕ) → j < 8 → own s.has_tail j ≡ true → (get_or x.both (2 * j) 0 ≡ get_or x.front (2 * j) 0) × (get_or x.both (2 * j + 1) 0 ≡ get_or x.front (2 * j + 1) 0)
+  pub own_lane : (j : ℕ) → j < 8 → own s.has_tail j ≡ true → (get_or x.both (2 * j) 0 ≡ get_or x.front (2 * j) 0) × (get_or x.both (2 * j + 1) 0 ≡ get_or x.front (2 * j + 1) 0)
   own_lane j lt mine = clock_lane j lt (clock_lanes j (rw tail at mine))
 
   second_lane : (k : ℕ) → k < 16 → get_or x.front k 0 ≡ 0 → get_or x.both k 0 ≡ get_or x.end k 0
   second_lane k lt zero = x.joined k lt ∙ rw zero (zero_or (get_or x.end k 0))
 
-  end_lane : (j : ℕ) → 4 ≤ j → j ≤ 6 → (get_or x.both (2 * j) 0 ≡ get_or x.end (2 * j) 0) × (get_or x.both (2 * j + 1) 0 ≡ get_or x.end (2 * j + 1) 0)
+  pub end_lane : (j : ℕ) → 4 ≤ j → j ≤ 6 → (get_or x.both (2 * j) 0 ≡ get_or x.end (2 * j) 0) × (get_or x.both (2 * j + 1) 0 ≡ get_or x.end (2 * j + 1) 0)
   end_lane j low high =
       let free = spare_of s (are_there s tail) j low high in (
         second_lane (2 * j) (omega (arith, high)) (x.front_taken.none (2 * j) (omega (arith, high)) (record { prefix_free = free.first_prefix; back_free = free.first_back })),
         second_lane (2 * j + 1) (omega (arith, high)) (x.front_taken.none (2 * j + 1) (omega (arith, high)) (record { prefix_free = free.second_prefix; back_free = free.second_back })),
       )
 
-  -- the bounds of numbers, and so of sums
-  pub record AreFew : Type 0 where
-    pub month : get_or x.n 0 0 ≤ 59
-    pub day : get_or x.n 2 0 ≤ 99
-    pub minute : get_or x.n 6 0 ≤ 59
-    pub second : get_or x.n 14 0 ≤ 59
-    pub offset_hour : get_or x.n 8 0 ≤ 19
-    pub offset_minute : get_or x.n 10 0 ≤ 59
-    pub sign : get_or x.n 12 0 ≤ 2
-
-  pub are_few : AreFew
+  pub are_few : AreFew x.n
   are_few =
       let b = are_there s tail in
       let clock = λ (j most : ℕ) (lt : j < 8) (few : most ≤ 9) (is : of_clock j ≡ true) (e : is_bounded s.windows (2 * j) most ≡ true). bounded s text x.front x.both x.n x.front_taken own_lane x.paired j most lt few (rw tail is) e in
-      let ends = end_few w text (length text) x.end x.both x.n x.end_taken end_lane x.paired small is_end in
+      let ends = end_few w text at x.end x.both x.n x.end_taken end_lane x.paired small is_end in
       record {
         month = clock 0 5 (lit< tt) (lit≤ tt) refl b.month;
         day = clock 1 9 (lit< tt) (lit≤ tt) refl b.day;
@@ -128,51 +127,53 @@ module _ (s : Shape) (w : Window) (moves : Moves) (text digits : List ℕ) (d m 
         seconds_few = omega (arith, x.seconds_are, f.sign, f.second);
       }
 
+-- of a whole text
+
+module _ (s : Shape) (w : Window) (text : List ℕ) (d m o t : ℕ) (tail : s.has_tail ≡ true) (is_end : IsEnd w)
+    (x : AreTaken s w text (length text) d m o t) (small : (k : ℕ) → get_or text k 0 < 256) where
+  few : AreFew x.n
+  few = are_few s w text (length text) d m o t tail is_end x small
+
   -- what lanes say of a layout, of a fraction that is read beside them, and of a zone
-  module _ (year nanosecond bytes : ℕ) (front zone : List Part) (year_is : Pieces.digits 4 (drop s.year text) ≡ Some (year, drop (s.year + 4) text)) (even : t % 2 ≡ 0) (numbered : s.month_is_named ≡ false)
+  module _ (year nanosecond bytes : ℕ) (front zone : List Part) (year_is : Pieces.digits 4 (drop s.year text) ≡ Some (year, drop (s.year + 4) text)) (even : t % 2 ≡ 0)
       (fits_front : fits s front ≡ true) (fits_end : FitsEnd w zone) (sixteen : 16 ≤ length text) (p : IsPlaced s zone text bytes nanosecond) where
     abbrev pub values : Values
-    values = lane_values year (get_or x.n 0 0) nanosecond x.n
+    values = lane_values year nanosecond x.n
 
     sign_even : get_or x.n 12 0 % 2 ≡ 0
     sign_even = omega (arith, x.seconds_are, even)
 
     pub front_said : Says front text values (drop s.length text)
-    front_said = lanes_say s text x.front x.both x.n year (get_or x.n 0 0) nanosecond x.front_taken own_lane x.paired small (omega (arith, p.all)) year_is (λ e. refl) (λ e. absurd (let bad : true ≡ false = sym e ∙ numbered in cc)) sign_even front fits_front
+    front_said = lanes_say s text x.front x.both x.n year nanosecond x.front_taken (own_lane s w text (length text) d m o t tail is_end x small) x.paired small (omega (arith, p.all)) year_is sign_even front fits_front
 
     pub end_said : Says (fraction_parts bytes ++ zone) (drop s.length text) values []
     end_said =
         let end = length text - length_of zone in
         let nothing : drop (length text) text ≡ [] = drop_all (length text) text (omega arith) in
         let fraction = fraction_says text s.length end bytes nanosecond values refl (omega (arith, p.all)) (λ some. (omega (arith, p.all, some))) p.point p.written in
-        let offset = rw nothing at (end_says w text (length text) x.end x.both x.n year (get_or x.n 0 0) nanosecond x.end_taken end_lane x.paired small sixteen (omega arith) sign_even zone fits_end) in
+        let offset = rw nothing at (end_says w text (length text) x.end x.both x.n values (refl, refl, refl) x.end_taken (end_lane s w text (length text) d m o t tail is_end x small) x.paired small sixteen (omega arith) sign_even zone fits_end) in
         says_both (fraction_parts bytes) zone (drop s.length text) (drop end text) [] values fraction offset
 
     pub offset_said : (minutes : ℤ) → ((hour minute : ℕ) → o ≡ 60 * hour + minute → hour ≤ 23 → minute ≤ 59 → signed_offset_of (nat_eq (t % 4) 2) hour minute ≡ Ok (pos 60 *ℤ minutes)) → (is_utc : Bool) → (is_utc ≡ true → SparesOffset w) → HasOffset is_utc values minutes
     offset_said minutes value true utc =
-        let none = end_none w text (length text) x.end x.both x.n x.end_taken end_lane x.paired small (utc refl) in
+        let none = end_none w text (length text) x.end x.both x.n x.end_taken (end_lane s w text (length text) d m o t tail is_end x small) x.paired small (utc refl) in
         let plain : nat_eq (t % 4) 2 ≡ false = let zero : t % 4 ≡ 0 = omega (arith, x.seconds_are, none) in rw zero refl in
         rw plain at (value 0 0 (omega (arith, x.offsets_are, none)) (lit≤ tt) (lit≤ tt))
-    offset_said minutes value false utc =
-        let few = are_few in
-        let sign : t % 4 ≡ get_or x.n 12 0 = omega (arith, x.seconds_are, few.sign) in
-        let same = same_sign t (get_or x.n 12 0) sign few.sign (omega (arith, x.seconds_are, even)) in
-        (omega (arith, few.offset_hour), rw same at (value (get_or x.n 8 0) (get_or x.n 10 0) x.offsets_are (omega (arith, few.offset_hour)) few.offset_minute))
+    offset_said minutes value false utc = signed_said x.n o t minutes few x.offsets_are x.seconds_are even value
 
-  module _ (nanosecond bytes : ℕ) (front zone : List Part) (numbered : s.month_is_named ≡ false) (fits_front : fits s front ≡ true) (fits_end : FitsEnd w zone) (sixteen : 16 ≤ length text) (p : IsPlaced s zone text bytes nanosecond)
+  module _ (nanosecond bytes : ℕ) (front zone : List Part) (fits_front : fits s front ≡ true) (fits_end : FitsEnd w zone) (sixteen : 16 ≤ length text) (p : IsPlaced s zone text bytes nanosecond)
       (bound : nanosecond < 1_000_000_000) (is_utc : Bool) (more : bytes ≡ 1 → ⊥) (utc : is_utc ≡ true → SparesOffset w) where
     -- the central lemma of texts with a tail
     pub tail_said : (f : Fields) → AreOfSums f text s.year d m o t nanosecond → SaysTailed front is_utc zone text f
     tail_said f y =
-        let few = are_few in
         let h = y.numbers in
-        let v = values f.year nanosecond bytes front zone y.year_is y.even numbered fits_front fits_end sixteen p in
+        let v = values f.year nanosecond bytes front zone y.year_is y.even fits_front fits_end sixteen p in
         record {
           bytes = bytes;
           more = more;
           moment = record {
             values = v;
-            says = says_both front (fraction_parts bytes ++ zone) text (drop s.length text) [] v (front_said f.year nanosecond bytes front zone y.year_is y.even numbered fits_front fits_end sixteen p) (end_said f.year nanosecond bytes front zone y.year_is y.even numbered fits_front fits_end sixteen p);
+            says = says_both front (fraction_parts bytes ++ zone) text (drop s.length text) [] v (front_said f.year nanosecond bytes front zone y.year_is y.even fits_front fits_end sixteen p) (end_said f.year nanosecond bytes front zone y.year_is y.even fits_front fits_end sixteen p);
             numbers = record {
               same_year = h.same_year;
               same_month = h.same_month ∙ (omega (arith, x.days_are, few.month));
@@ -185,7 +186,7 @@ module _ (s : Shape) (w : Window) (moves : Moves) (text digits : List ℕ) (d m 
             hour_few = omega (arith, x.minutes_are, h.same_minute, f.within_a_day);
             minute_few = few.minute;
             fraction_few = bound;
-            offset_is = offset_said f.year nanosecond bytes front zone y.year_is y.even numbered fits_front fits_end sixteen p f.offset y.value is_utc utc;
+            offset_is = offset_said f.year nanosecond bytes front zone y.year_is y.even fits_front fits_end sixteen p f.offset y.value is_utc utc;
           };
           none = λ e. none_written _ (bytes - 1) nanosecond (omega (arith, e)) p.written;
         }

@@ -1,12 +1,12 @@
 -- What lanes take of a text, and of its end, as the numbers of what it says.
-use Rattle.std.proofs.Common.{◌≡◌, ◌≤◌, ◌<◌, ◌/◌, ◌∙◌, ◌==◌, ℕ, Bool, true, false, List, get_or, refl, sym, ap, arith}
+use Rattle.std.proofs.Common.{◌≡◌, ◌≤◌, ◌<◌, ◌/◌, ◌∙◌, ◌==◌, ℕ, Bool, true, false, List, get_or, length, refl, sym, ap, arith}
 use Rattle.std.proofs.lemmas.Bool.Decides.{nat_tests}
 use Rattle.parsing_places.specs.Tail.{is_fraction}
 use Rattle.parsing_places.specs.declared.lanes.Moves.{Moves}
 use Rattle.parsing_places.specs.declared.shape.Window.{Window}
 use Rattle.parsing_layout.specs.Layout.{Part, length_of}
 use Rattle.parsing_layout.specs.Numbers.{AreOfSums, SaysNumbers, second_if}
-use Rattle.parsing_layout.specs.Shape.{fits, takes_all}
+use Rattle.parsing_layout.specs.Shape.{fits, takes_all, takes_part}
 use Rattle.parsing_layout.specs.Tail.{FitsEnd, SparesOffset}
 use Rattle.parsing_layout.specs.declared.numbers.Numbers.{Numbers}
 use Rattle.parsing_layout.specs.declared.shape.Shape.{Shape}
@@ -21,22 +21,22 @@ some_few bytes ok = grind (arith, nat_tests)
 
 -- a shape is as long as its layout
 pub long_as : (s : Shape) (front : List Part) → fits s front ≡ true → s.length ≡ length_of front
-long_as s front e = sym (same (length_of front) s.length (both (takes_all s front 0) (length_of front == s.length) e).1)
+long_as s front e = sym (same (length_of front) s.length (both (takes_all (takes_part s) front 0) (length_of front == s.length) e).1)
 
 module _ (s : Shape) (w : Window) (moves : Moves) (text digits : List ℕ) (d m o t at taken : ℕ) (h : Whole s w moves text digits d m o t at taken) where
   pub numbers_said : (has_second : Bool) (nanosecond bytes : ℕ) (n : Numbers) (front zone : List Part) → AreOfSums n has_second text s.year d m o t nanosecond → fits s front ≡ true → FitsEnd w zone → IsPlaced s zone text bytes nanosecond → (bytes ≡ 1 → ⊥) → (has_second ≡ false → bytes ≡ 0)
       → nanosecond < 1_000_000_000 → (is_utc : Bool) → (is_utc ≡ true → SparesOffset w) → SaysNumbers has_second is_utc front bytes zone text n
   numbers_said has_second nanosecond bytes n front zone y fits_front fits_end p more short bound is_utc utc =
       let x = h.taken in
-      let few = are_few s w moves text digits d m o t h.tail h.is_end x h.small in
+      let few = are_few s w text (length text) d m o t h.tail h.is_end x h.small in
       let long = long_as s front fits_front in
       let high : n.high ≡ get_or x.n 0 0 = y.high_is ∙ (omega (arith, x.days_are, few.month)) in
       let low : n.low ≡ get_or x.n 2 0 = y.low_is ∙ (omega (arith, x.days_are, few.month)) in
       let seconds : t / 64 ≡ get_or x.n 14 0 = omega (arith, x.seconds_are, few.sign) in
       record {
-        values = values s w moves text digits d m o t h.tail h.is_end x h.small n.year nanosecond bytes front zone y.year_is y.even h.numbered fits_front fits_end h.sixteen p;
-        front_says = rw long at (front_said s w moves text digits d m o t h.tail h.is_end x h.small n.year nanosecond bytes front zone y.year_is y.even h.numbered fits_front fits_end h.sixteen p);
-        end_says = rw long at (end_said s w moves text digits d m o t h.tail h.is_end x h.small n.year nanosecond bytes front zone y.year_is y.even h.numbered fits_front fits_end h.sixteen p);
+        values = values s w text d m o t h.tail h.is_end x h.small n.year nanosecond bytes front zone y.year_is y.even fits_front fits_end h.sixteen p;
+        front_says = rw long at (front_said s w text d m o t h.tail h.is_end x h.small n.year nanosecond bytes front zone y.year_is y.even fits_front fits_end h.sixteen p);
+        end_says = rw long at (end_said s w text d m o t h.tail h.is_end x h.small n.year nanosecond bytes front zone y.year_is y.even fits_front fits_end h.sixteen p);
         more = more;
         none = λ e. y.fraction_is ∙ none_written _ _ nanosecond (omega (arith, e)) p.written;
         short = short;
@@ -47,5 +47,5 @@ module _ (s : Shape) (w : Window) (moves : Moves) (text digits : List ℕ) (d m 
         hour_few = omega (arith, x.minutes_are, y.minute_is, n.within_a_day);
         minute_few = few.minute;
         fraction_few = omega (arith, y.fraction_is, bound);
-        offset_is = offset_said s w moves text digits d m o t h.tail h.is_end x h.small n.year nanosecond bytes front zone y.year_is y.even h.numbered fits_front fits_end h.sixteen p n.offset y.value is_utc utc;
+        offset_is = offset_said s w text d m o t h.tail h.is_end x h.small n.year nanosecond bytes front zone y.year_is y.even fits_front fits_end h.sixteen p n.offset y.value is_utc utc;
       }

@@ -20,14 +20,13 @@ use Rattle.parsing_places.proofs.ReadLemmas.{Pair, Paired, pair_read, same_lane}
 use Rattle.parsing_layout.specs.Layout.{Field, Part, Values, Says, Fits, piece_of, value_of, width, length_of, exact_fraction}
 use Rattle.parsing_layout.specs.declared.parts.Field.TheVariants as field
 use Rattle.parsing_layout.specs.declared.parts.Part.TheVariants as part
-use Rattle.parsing_layout.specs.Shape.{lane_values}
-use Rattle.parsing_layout.specs.Tail.{TakesEnd, TakesEndDigits, FitsEnd, SparesOffset, IsEnd, fraction_parts, zone_parts}
+use Rattle.parsing_layout.specs.Tail.{TakesEnd, TakesEndDigits, TakesOffset, FitsEnd, SparesOffset, IsEnd, fraction_parts, zone_parts}
 use Rattle.parsing_layout.proofs.LayoutLemmas.{says_there}
 use Rattle.parsing_layout.proofs.TakenLemmas.{literal_there, sign_read}
 
 -- ---- the fraction
 
-exact_there : (bytes : List ℕ) (count n : ℕ) → WriteFraction bytes count n → exact_fraction count bytes ≡ Some (n, drop count bytes)
+pub exact_there : (bytes : List ℕ) (count n : ℕ) → WriteFraction bytes count n → exact_fraction count bytes ≡ Some (n, drop count bytes)
 unfolding exact_fraction
 exact_there bytes count n w =
     let enough : nat_le count (digit_count bytes) ≡ true = let e = w.enough in grind (arith, nat_tests) in
@@ -80,10 +79,26 @@ zone_fits Zulu w z c p = zulu_fits w (z refl)
 zone_fits Colon w z c p = let t = c refl in record { few = lit≤ tt; taken = (sign_taken w 1 10 t, ((refl, t.hour_tens, t.hour_ones), ((lit< tt, lets_byte w 13 58 (t.colon (lit< tt))), ((refl, t.minute_tens, t.minute_ones), tt)))) }
 zone_fits Plain w z c p = let t = p refl in record { few = lit≤ tt; taken = (sign_taken w 0 11 t, ((refl, t.hour_tens, t.hour_ones), ((refl, t.minute_tens, t.minute_ones), tt))) }
 
-pub zone_offset : (e : Ending) (w : Window) → (e ≡ Zulu → TakesZulu w) → (e ≡ Colon → TakesSigned 1 w 10) → (e ≡ Plain → TakesSigned 0 w 11) → SparesOffset w ⊎ ((width place : ℕ) × TakesSigned width w place)
+offset_taken : (w : Window) (width place : ℕ) → TakesSigned width w place → TakesOffset w
+offset_taken w width place t = record {
+  hour = place + 1;
+  hour_next = place + 2;
+  minute = place + width + 3;
+  minute_next = place + width + 4;
+  sign = place;
+  hour_tens = t.hour_tens;
+  hour_ones = t.hour_ones;
+  minute_tens = t.minute_tens;
+  minute_ones = t.minute_ones;
+  alone = t.alone;
+  sign_is = t.sign_is;
+  lets = record { inside = omega (arith, t.end); low_is = t.sign_low; high_is = t.sign_high };
+}
+
+pub zone_offset : (e : Ending) (w : Window) → (e ≡ Zulu → TakesZulu w) → (e ≡ Colon → TakesSigned 1 w 10) → (e ≡ Plain → TakesSigned 0 w 11) → SparesOffset w ⊎ TakesOffset w
 zone_offset Zulu w z c p = inl (z refl).nothing
-zone_offset Colon w z c p = inr (1, 10, c refl)
-zone_offset Plain w z c p = inr (0, 11, p refl)
+zone_offset Colon w z c p = inr (offset_taken w 1 10 (c refl))
+zone_offset Plain w z c p = inr (offset_taken w 0 11 (p refl))
 
 pub zulu_spares : (e : Ending) (w : Window) → (e ≡ Zulu → TakesZulu w) → is_zulu e ≡ true → SparesOffset w
 zulu_spares Zulu w z is = (z refl).nothing
@@ -117,6 +132,13 @@ module _ (w : Window) (text : List ℕ) (end : ℕ) (v2 v n : List ℕ) (h : Hav
       let second = same_lane v2 v text (2 * j + 1) (place + 1) 9 e.1 (rw next at (h.taken (2 * j + 1) (at + 1) 9 (omega (arith, high)) (lit≤ tt) u)) in
       pair_read v n text (2 * j) place most first second (paired j (omega (arith, high)) (omega (arith, first.few, few)) second.few)
 
+  few : (j at next most : ℕ) → 4 ≤ j → j ≤ 6 → most ≤ 9 → Takes w (2 * j) at most → Takes w (2 * j + 1) next 9 → get_or n (2 * j) 0 ≤ most * 10 + 9
+  few j at next most low high small_most t u =
+      let e = same_two j low high in
+      let x = (h.taken (2 * j) at most (omega (arith, high)) small_most t).few in
+      let y = (h.taken (2 * j + 1) next 9 (omega (arith, high)) (lit≤ tt) u).few in
+      omega (arith, paired j (omega (arith, high)) (omega (arith, e.0, x, small_most)) (omega (arith, e.1, y)), e.0, e.1, x, y)
+
   nothing : SparesOffset w → (j : ℕ) → 4 ≤ j → j ≤ 6 → get_or n (2 * j) 0 ≡ 0
   nothing free j low high =
       let e = same_two j low high in
@@ -139,40 +161,35 @@ module _ (w : Window) (text : List ℕ) (end : ℕ) (v2 v n : List ℕ) (h : Hav
   pub end_few : IsEnd w → (get_or n 8 0 ≤ 19) × (get_or n 10 0 ≤ 59) × (get_or n 12 0 ≤ 2)
   end_few is_end = elim is_end.offset [
     | inl free ↦ (omega (arith, nothing free 4 (lit≤ tt) (lit≤ tt)), omega (arith, nothing free 5 (lit≤ tt) (lit≤ tt)), omega (arith, nothing free 6 (lit≤ tt) (lit≤ tt)))
-    | inr there ↦
-        let t = there.2 in
-        let place = there.1 in
-        let hour_next : place + 2 ≡ place + 1 + 1 = omega arith in
-        let minute_next : place + there.0 + 4 ≡ place + there.0 + 3 + 1 = omega arith in
-        let hour = two 4 (place + 1) 1 (lit≤ tt) (lit≤ tt) (lit≤ tt) t.hour_tens (rw hour_next at t.hour_ones) in
-        let minute = two 5 (place + there.0 + 3) 5 (lit≤ tt) (lit≤ tt) (lit≤ tt) t.minute_tens (rw minute_next at t.minute_ones) in
-        let s = sign_at_end place (sign_taken w there.0 place t) in
-        (omega (arith, hour.few), omega (arith, minute.few), omega (arith, s.is, s.high))
+    | inr t ↦
+        let s = sign_at_end t.sign (t.alone, t.sign_is, t.lets) in
+        (few 4 t.hour t.hour_next 1 (lit≤ tt) (lit≤ tt) (lit≤ tt) t.hour_tens t.hour_ones, few 5 t.minute t.minute_next 5 (lit≤ tt) (lit≤ tt) (lit≤ tt) t.minute_tens t.minute_ones, omega (arith, s.is, s.high))
   ]
 
   pub end_none : SparesOffset w → (get_or n 8 0 ≡ 0) × (get_or n 10 0 ≡ 0) × (get_or n 12 0 ≡ 0)
   end_none free = (nothing free 4 (lit≤ tt) (lit≤ tt), nothing free 5 (lit≤ tt) (lit≤ tt), nothing free 6 (lit≤ tt) (lit≤ tt))
 
-module _ (w : Window) (text : List ℕ) (end : ℕ) (v2 v n : List ℕ) (year month nanosecond : ℕ) (h : HaveEnd w text end v2)
+module _ (w : Window) (text : List ℕ) (end : ℕ) (v2 v n : List ℕ) (values : Values)
+    (are : (values field.OffsetHour ≡ get_or n 8 0) × (values field.OffsetMinute ≡ get_or n 10 0) × (values field.Sign ≡ get_or n 12 0 + 43)) (h : HaveEnd w text end v2)
     (same_two : (j : ℕ) → 4 ≤ j → j ≤ 6 → (get_or v (2 * j) 0 ≡ get_or v2 (2 * j) 0) × (get_or v (2 * j + 1) 0 ≡ get_or v2 (2 * j + 1) 0))
     (paired : Paired v n) (small : (k : ℕ) → get_or text k 0 < 256) (sixteen : 16 ≤ end) (within : end ≤ length text) (even : get_or n 12 0 % 2 ≡ 0) where
   byte_at : (c at : ℕ) → c < 256 → LetsIn w at c 0 → get_or text (end - 16 + at) 0 ≡ c
   byte_at c at lt lets = let b = in_window w text (end - 16) at c 0 small h.lies lets (omega (arith, lt)) in omega (arith, b.0, b.1)
 
-  digits_at : (f : Field) (k at : ℕ) → TakesEndDigits w f k at → digits k (drop (end - 16 + at) text) ≡ Some (lane_values year month nanosecond n f, drop (end - 16 + at + k) text)
-  digits_at field.OffsetHour k at t = rw t.0 (two w text end v2 v n h same_two paired small 4 at 1 (lit≤ tt) (lit≤ tt) (lit≤ tt) t.1 t.2).written
-  digits_at field.OffsetMinute k at t = rw t.0 (two w text end v2 v n h same_two paired small 5 at 5 (lit≤ tt) (lit≤ tt) (lit≤ tt) t.1 t.2).written
+  digits_at : (f : Field) (k at : ℕ) → TakesEndDigits w f k at → digits k (drop (end - 16 + at) text) ≡ Some (values f, drop (end - 16 + at + k) text)
+  digits_at field.OffsetHour k at t = rw (t.0, are.0) (two w text end v2 v n h same_two paired small 4 at 1 (lit≤ tt) (lit≤ tt) (lit≤ tt) t.1 t.2).written
+  digits_at field.OffsetMinute k at t = rw (t.0, are.1) (two w text end v2 v n h same_two paired small 5 at 5 (lit≤ tt) (lit≤ tt) (lit≤ tt) t.1 t.2).written
   digits_at f k at t = absurd t
 
-  part_at : (p : Part) (at : ℕ) → TakesEnd w p at → piece_of p (drop (end - 16 + at) text) ≡ Some (value_of p (lane_values year month nanosecond n), drop (end - 16 + at + width p) text)
+  part_at : (p : Part) (at : ℕ) → TakesEnd w p at → piece_of p (drop (end - 16 + at) text) ≡ Some (value_of p values, drop (end - 16 + at + width p) text)
   part_at (part.Byte c) at t = literal_there text (end - 16 + at) c (omega (arith, t.1.inside, sixteen, within)) (byte_at c at t.0 t.1)
   part_at (part.Digits f k) at t = digits_at f k at t
   part_at part.Sign at t =
       let s = sign_at_end w text end v2 v n h same_two paired small at t in
-      sign_read text (end - 16 + at) (get_or n 12 0) (omega (arith, t.2.inside, sixteen, within)) s.low s.high s.is even
+      rw are.2 (sign_read text (end - 16 + at) (get_or n 12 0) (omega (arith, t.2.inside, sixteen, within)) s.low s.high s.is even)
   part_at p at t = absurd t
 
-  pub end_says : (parts : List Part) → FitsEnd w parts → Says parts (drop (end - length_of parts) text) (lane_values year month nanosecond n) (drop end text)
+  pub end_says : (parts : List Part) → FitsEnd w parts → Says parts (drop (end - length_of parts) text) values (drop end text)
   end_says parts fits =
       let begins : end - 16 + (16 - length_of parts) ≡ end - length_of parts = omega (arith, sixteen, fits.few) in
-      says_there (λ p place. (a : ℕ) × (place ≡ end - 16 + a) × TakesEnd w p a) text (lane_values year month nanosecond n) (λ p place t. rw t.1 (part_at p t.0 t.2)) parts (end - length_of parts) end (omega (arith, sixteen, fits.few)) (rw begins at (shifted (TakesEnd w) (end - 16) parts (16 - length_of parts) fits.taken))
+      says_there (λ p place. (a : ℕ) × (place ≡ end - 16 + a) × TakesEnd w p a) text values (λ p place t. rw t.1 (part_at p t.0 t.2)) parts (end - length_of parts) end (omega (arith, sixteen, fits.few)) (rw begins at (shifted (TakesEnd w) (end - 16) parts (16 - length_of parts) fits.taken))

@@ -3,7 +3,7 @@ use Rattle.std.proofs.Common.{◌≡◌, ◌≤◌, ◌<◌, ◌+◌, ◌-◌, �
 use Rattle.base.specs.Bytes.{dot, lower_z}
 use Rattle.parsing_fields.specs.Written.{WriteFraction}
 use Rattle.parsing_fields.specs.declared.fields.Fields.{Fields}
-use Rattle.parsing_places.specs.Last.{HaveFraction}
+use Rattle.parsing_places.specs.Last.{HaveEnd, HaveFraction}
 use Rattle.parsing_places.specs.Shape.{with_moves}
 use Rattle.parsing_places.specs.Tail.{LetsByte, TakesFraction, is_fraction, is_zulu, offset_at}
 use Rattle.parsing_places.specs.declared.ending.Ending.{Ending}
@@ -35,20 +35,20 @@ tail_is_end t ok = record { no_clock = t.first_free; no_tens = t.second_free; no
 -- what is known of a text whose lanes are taken, with so many bytes of a fraction, which end at a place of its last window
 pub record Whole (s : Shape) (w : Window) (moves : Moves) (text digits : List ℕ) (d m o t at bytes : ℕ) : Type 0 where
   pub tail : s.has_tail ≡ true
-  pub numbered : s.month_is_named ≡ false
   pub is_end : IsEnd w
-  pub taken : AreTaken s w moves text d m o t digits
+  pub taken : AreTaken s w text (length text) d m o t
+  pub fraction_taken : HaveEnd (with_moves w moves) text (length text) digits
   pub small : (k : ℕ) → get_or text k 0 < 256
   pub sixteen : 16 ≤ length text
   pub takes : TakesFraction (with_moves w moves) at (bytes - 1)
   pub lets : 0 < bytes → LetsByte w (at - bytes) dot
 
 -- by a tail of the table, whose last byte is that of the text
-pub of_tail : (s : Shape) (tail : Tail) (text digits : List ℕ) (d m o t : ℕ) → s.has_tail ≡ true → s.month_is_named ≡ false → AreTaken s tail.window tail.digits text d m o t digits → ((k : ℕ) → get_or text k 0 < 256) → 16 ≤ length text → is_zulu tail.ending ≡ (get_or text (length text - 1) 0 == 90)
+pub of_tail : (s : Shape) (tail : Tail) (text digits : List ℕ) (d m o t : ℕ) → s.has_tail ≡ true → AreTaken s tail.window text (length text) d m o t → HaveEnd (with_moves tail.window tail.digits) text (length text) digits → ((k : ℕ) → get_or text k 0 < 256) → 16 ≤ length text → is_zulu tail.ending ≡ (get_or text (length text - 1) 0 == 90)
     → (is_fraction tail.fraction ≡ true) × Whole s tail.window tail.digits text digits d m o t (offset_at tail.ending) tail.fraction
-of_tail s tail text digits d m o t tailed numbered x small sixteen zulu =
+of_tail s tail text digits d m o t tailed x f small sixteen zulu =
     let ok = has_fraction tail text sixteen x.end_taken.lies small zulu in
-    (ok, record { tail = tailed; numbered = numbered; is_end = tail_is_end tail ok; taken = x; small = small; sixteen = sixteen; takes = tail.fraction_is ok; lets = tail.point ok })
+    (ok, record { tail = tailed; is_end = tail_is_end tail ok; taken = x; fraction_taken = f; small = small; sixteen = sixteen; takes = tail.fraction_is ok; lets = tail.point ok })
 
 -- ---- the end of `z`, in the place of that of `Z`
 
@@ -79,23 +79,23 @@ module _ (t : Tail) (zulu : t.ending ≡ Zulu) (ok : is_fraction t.fraction ≡ 
       let l : LetsByte t.window (15 - t.fraction) dot = rw zulu at (t.point ok some) in
       record { inside = l.inside; low = others (15 - t.fraction) (omega (arith, some)) ∙ l.low; high = rw w_is.0 l.high }
 
-  pub of_small : (s : Shape) (text digits : List ℕ) (d m o t' : ℕ) → s.has_tail ≡ true → s.month_is_named ≡ false → AreTaken s w t.digits text d m o t' digits → ((k : ℕ) → get_or text k 0 < 256) → 16 ≤ length text → Whole s w t.digits text digits d m o t' 15 t.fraction
-  of_small s text digits d m o t' tailed numbered x small sixteen = record { tail = tailed; numbered = numbered; is_end = small_is_end; taken = x; small = small; sixteen = sixteen; takes = small_takes; lets = small_lets }
+  pub of_small : (s : Shape) (text digits : List ℕ) (d m o t' : ℕ) → s.has_tail ≡ true → AreTaken s w text (length text) d m o t' → HaveEnd (with_moves w t.digits) text (length text) digits → ((k : ℕ) → get_or text k 0 < 256) → 16 ≤ length text → Whole s w t.digits text digits d m o t' 15 t.fraction
+  of_small s text digits d m o t' tailed x f small sixteen = record { tail = tailed; is_end = small_is_end; taken = x; fraction_taken = f; small = small; sixteen = sixteen; takes = small_takes; lets = small_lets }
 
 -- ---- fields
 
 module _ (s : Shape) (w : Window) (moves : Moves) (text digits : List ℕ) (d m o t at bytes : ℕ) (h : Whole s w moves text digits d m o t at bytes) where
   has : HaveFraction text (length text - 16 + at - (bytes - 1)) (bytes - 1) digits
-  has = fraction_taken (with_moves w moves) text digits at (bytes - 1) h.takes h.taken.fraction_taken h.sixteen
+  has = fraction_taken (with_moves w moves) text digits at (bytes - 1) h.takes h.fraction_taken h.sixteen
 
   pub all_few : (k : ℕ) → k < 16 → get_or digits k 0 ≤ 9
-  all_few = digits_few (with_moves w moves) text digits at (bytes - 1) h.takes h.taken.fraction_taken h.sixteen
+  all_few = digits_few (with_moves w moves) text digits at (bytes - 1) h.takes h.fraction_taken h.sixteen
 
   pub none_after : (k : ℕ) → 9 ≤ k → k < 16 → get_or digits k 0 ≡ 0
   none_after k le lt = has.zeros k (omega (arith, le, h.takes.few)) lt
 
   pub whole_in_range : s.length ≤ length text → AreInRange text s.year d o t
-  whole_in_range long = in_range s w moves text digits d m o t h.tail h.is_end h.taken h.small long
+  whole_in_range long = in_range s w text (length text) d m o t h.tail h.is_end h.taken h.small long
 
   -- where the fraction stands, and what it writes
   pub placed : (nanosecond : ℕ) (zone : List Part) → length_of zone + at ≡ 16 → s.length + bytes + 16 ≡ length text + at → ((place count : ℕ) → HaveFraction text place count digits → WriteFraction (drop place text) count nanosecond) → IsPlaced s zone text bytes nanosecond
@@ -111,7 +111,7 @@ module _ (s : Shape) (w : Window) (moves : Moves) (text digits : List ℕ) (d m 
   pub tailed : (nanosecond : ℕ) (f : Fields) (front zone : List Part) → AreOfSums f text s.year d m o t nanosecond → fits s front ≡ true → FitsEnd w zone → length_of zone + at ≡ 16 → s.length + bytes + 16 ≡ length text + at → (bytes ≡ 1 → ⊥)
       → ((place count : ℕ) → HaveFraction text place count digits → WriteFraction (drop place text) count nanosecond) → nanosecond < 1_000_000_000 → (is_utc : Bool) → (is_utc ≡ true → SparesOffset w) → SaysTailed front is_utc zone text f
   tailed nanosecond f front zone y fits_front fits_end zone_is all more writes bound is_utc utc =
-      tail_said s w moves text digits d m o t h.tail h.is_end h.taken h.small nanosecond bytes front zone h.numbered fits_front fits_end h.sixteen (placed nanosecond zone zone_is all writes) bound is_utc more utc f y
+      tail_said s w text d m o t h.tail h.is_end h.taken h.small nanosecond bytes front zone fits_front fits_end h.sixteen (placed nanosecond zone zone_is all writes) bound is_utc more utc f y
 
   -- the same with another fraction between, which is read by itself
   pub placed_long : (nanosecond more : ℕ) (zone : List Part) → s.length + 1 + more + length_of zone ≡ length text → get_or text s.length 0 ≡ dot → WriteFraction (drop (s.length + 1) text) more nanosecond → IsPlaced s zone text (more + 1) nanosecond
@@ -123,4 +123,4 @@ module _ (s : Shape) (w : Window) (moves : Moves) (text digits : List ℕ) (d m 
   pub tailed_long : (nanosecond more : ℕ) (f : Fields) (front zone : List Part) → AreOfSums f text s.year d m o t nanosecond → fits s front ≡ true → FitsEnd w zone → s.length + 1 + more + length_of zone ≡ length text → 0 < more → get_or text s.length 0 ≡ dot
       → WriteFraction (drop (s.length + 1) text) more nanosecond → nanosecond < 1_000_000_000 → (is_utc : Bool) → (is_utc ≡ true → SparesOffset w) → SaysTailed front is_utc zone text f
   tailed_long nanosecond more f front zone y fits_front fits_end all some point writes bound is_utc utc =
-      tail_said s w moves text digits d m o t h.tail h.is_end h.taken h.small nanosecond (more + 1) front zone h.numbered fits_front fits_end h.sixteen (placed_long nanosecond more zone all point writes) bound is_utc (λ one. (omega (arith, one, some))) utc f y
+      tail_said s w text d m o t h.tail h.is_end h.taken h.small nanosecond (more + 1) front zone fits_front fits_end h.sixteen (placed_long nanosecond more zone all point writes) bound is_utc (λ one. (omega (arith, one, some))) utc f y

@@ -1,8 +1,8 @@
 -- What windows take of the parts of a layout, a text says.
-use Rattle.std.proofs.Common.{leb, ◌≡◌, ◌≤◌, ◌<◌, ◌+◌, ◌-◌, ◌*◌, ◌%◌, ◌&&◌, ◌==◌, ◌||◌, ℕ, true, false, not, List, [], ◌∷◌, get_or, length, drop, Option, Some, None, refl, arith, lit<, lit≤, inl, inr, ◌∙◌}
+use Rattle.std.proofs.Common.{leb, ◌≡◌, ◌≤◌, ◌<◌, ◌+◌, ◌-◌, ◌*◌, ◌%◌, ◌&&◌, ◌==◌, ◌||◌, ℕ, Bool, true, false, List, [], ◌∷◌, get_or, length, take, drop, Option, Some, None, refl, arith, lit<, lit≤, inl, inr, ◌∙◌}
 use Rattle.std.specs.Prelude.{nat_lt}
 use Rattle.std.proofs.lemmas.Bool.Decides.{nat_tests}
-use Rattle.std.proofs.lemmas.List.{drop_more, drop-drop, length-drop}
+use Rattle.std.proofs.lemmas.List.{drop_more, drop-drop, length-drop, take_all}
 use Rattle.base.specs.Bytes.{plus, hyphen}
 use Rattle.parsing_combinator.specs.Pieces.{digits, byte, any_byte, skip_of, sign}
 use Rattle.parsing_combinator.proofs.AtPlaces.{at_least, byte_there, first_at, is_digit}
@@ -12,15 +12,14 @@ use Rattle.parsing_combinator.specs.Places.{HasDigit}
 use Rattle.parsing_places.specs.Windows.{TakeTwo, Taken}
 use Rattle.parsing_places.proofs.NumberLemmas.{sign_taken, one_taken, byte_within, PairedAt}
 use Rattle.parsing_places.proofs.ReadLemmas.{Pair, Paired, pair_read, same_lane}
-use Rattle.parsing_layout.specs.Layout.{Field, Part, Says, Fits, piece_of, value_of, width, length_of, name_piece, as_number}
+use Rattle.parsing_layout.specs.Layout.{Field, Part, Values, Says, Fits, piece_of, value_of, width, length_of, as_number}
 use Rattle.parsing_layout.specs.declared.parts.Field.TheVariants as field
-use Rattle.parsing_layout.specs.declared.parts.Names.TheVariants as names
 use Rattle.parsing_layout.specs.declared.parts.Part.TheVariants as part
 use Rattle.parsing_layout.specs.Shape.{fits, takes_all, takes_part, takes_digits, takes_pair_at, takes_one_at, own, pair_of, most_of, number_in, lane_values}
 use Rattle.parsing_layout.specs.Windows.{lets_at, spares_one, takes_one, takes_two, takes_sign, source, is_lane_bounded, is_bounded}
 use Rattle.parsing_layout.specs.declared.shape.Shape.{Shape}
 use Rattle.parsing_layout.proofs.LayoutLemmas.{says_there}
-use Rattle.parsing_layout.proofs.WindowLemmas.{both, one, is_not, less, same, lets_there, digit_there, two_there, spare_one, sign_there}
+use Rattle.parsing_layout.proofs.WindowLemmas.{both, one, less, same, lets_there, digit_there, two_there, spare_one, sign_there}
 
 few : (f : Field) → most_of f ≤ 9
 few field.Month = lit≤ tt
@@ -49,6 +48,29 @@ one_digit text place lt d =
     let long : leb 1 (length (drop place text)) ≡ true = at_least 1 (length (drop place text)) (omega (arith, length-drop place text, lt)) in
     digits_one (drop place text) ∙ rw (long, first_at text place, is_digit (get_or text place 0) d.low d.high, drop-drop 1 place text) refl
 
+-- ---- parts that some machine takes
+
+all_fit : (takes : Part → ℕ → Bool) (ps : List Part) (at : ℕ) → takes_all takes ps at ≡ true → Fits (λ p at. takes p at ≡ true) ps at
+all_fit takes [] at e = tt
+all_fit takes (p ∷ ps) at e = let b = both (takes p at) (takes_all takes ps (at + width p)) e in (b.0, all_fit takes ps (at + width p) b.1)
+
+pub taken_say : (takes : Part → ℕ → Bool) (text : List ℕ) (v : Values) (size : ℕ) → ((p : Part) (at : ℕ) → takes p at ≡ true → piece_of p (drop at text) ≡ Some (value_of p v, drop (at + width p) text)) → (parts : List Part) → (takes_all takes parts 0 && (length_of parts == size)) ≡ true → Says parts text v (drop size text)
+taken_say takes text v size each parts e =
+    let b = both (takes_all takes parts 0) (length_of parts == size) e in
+    says_there (λ p at. takes p at ≡ true) text v each parts 0 size (omega (arith, same (length_of parts) size b.1)) (all_fit takes parts 0 b.0)
+
+-- of a list that is walked from its first part on
+others_are : (p : Part) (ps : List Part) → take (length (p ∷ ps) - 1) (drop 1 (p ∷ ps)) ≡ ps
+others_are p ps = let e : length (p ∷ ps) - 1 ≡ length ps = omega arith in rw e (take_all (length ps) ps (omega arith))
+
+pub first_taken : (takes : Part → ℕ → Bool) (ps : List Part) (other : Part) (at size : ℕ) → 1 ≤ length ps → size ≡ width (get_or ps 0 other) → takes (get_or ps 0 other) at ≡ true → takes_all takes (take (length ps - 1) (drop 1 ps)) (at + size) ≡ true → takes_all takes ps at ≡ true
+first_taken takes [] other at size some is first others = absurd (omega (arith, some))
+first_taken takes (p ∷ ps) other at size some is first others = rw first (rw (others_are p ps, is) at others)
+
+pub first_counted : (ps : List Part) (other : Part) (at size end : ℕ) → 1 ≤ length ps → size ≡ width (get_or ps 0 other) → at + size + length_of (take (length ps - 1) (drop 1 ps)) ≡ end → at + length_of ps ≡ end
+first_counted [] other at size end some is e = absurd (omega (arith, some))
+first_counted (p ∷ ps) other at size end some is e = let k : at + size + length_of ps ≡ end = rw (others_are p ps) at e in omega (arith, k, is)
+
 -- ---- two windows over the start of a text
 
 module _ (s : Shape) (text v1 v n : List ℕ) (h : Taken s.windows text v1)
@@ -60,6 +82,9 @@ module _ (s : Shape) (text v1 v n : List ℕ) (h : Taken s.windows text v1)
       let first = same_lane v1 v text (2 * j) place most e.0 (h.taken (2 * j) place most (omega (arith, lt)) small_most t.first) in
       let second = same_lane v1 v text (2 * j + 1) (place + 1) 9 e.1 (h.taken (2 * j + 1) (place + 1) 9 (omega (arith, lt)) (lit≤ tt) t.second) in
       pair_read v n text (2 * j) place most first second (paired j lt (omega (arith, first.few, small_most)) second.few)
+
+  pub paired_first : (j : ℕ) → j < 8 → own s.has_tail j ≡ true → PairedAt v1 n j
+  paired_first j lt mine = λ a b. let e = same_two j lt mine in (omega (arith, paired j lt (omega (arith, a, e.0)) (omega (arith, b, e.1)), e.0, e.1))
 
   lane_few : (lane most : ℕ) → lane < 16 → most ≤ 9 → is_lane_bounded s.windows lane most ≡ true → get_or v1 lane 0 ≤ most
   lane_few lane most lt small_most e = elim (one (spares_one s.windows lane) (takes_one s.windows lane (source s.windows lane) most) e) [
@@ -76,16 +101,11 @@ module _ (s : Shape) (text v1 v n : List ℕ) (h : Taken s.windows text v1)
       let same_lanes = same_two j lt mine in
       omega (arith, paired j lt (omega (arith, same_lanes.0, first, small_most)) (omega (arith, same_lanes.1, second)), same_lanes, first, second)
 
-module _ (s : Shape) (text v1 v n : List ℕ) (year month nanosecond : ℕ) (h : Taken s.windows text v1)
+module _ (s : Shape) (text v1 v n : List ℕ) (year nanosecond : ℕ) (h : Taken s.windows text v1)
     (same_two : (j : ℕ) → j < 8 → own s.has_tail j ≡ true → (get_or v (2 * j) 0 ≡ get_or v1 (2 * j) 0) × (get_or v (2 * j + 1) 0 ≡ get_or v1 (2 * j + 1) 0))
     (paired : Paired v n) (small : (k : ℕ) → get_or text k 0 < 256) (long : s.length ≤ length text)
     (year_there : digits 4 (drop s.year text) ≡ Some (year, drop (s.year + 4) text))
-    (numbered : s.month_is_named ≡ false → month ≡ get_or n 0 0)
-    (named : s.month_is_named ≡ true → name_piece names.ShortMonth true (drop s.month text) ≡ Some (month, drop (s.month + 3) text))
     (even : get_or n 12 0 % 2 ≡ 0) where
-  paired_first : (j : ℕ) → j < 8 → own s.has_tail j ≡ true → PairedAt v1 n j
-  paired_first j lt mine = λ a b. let e = same_two j lt mine in (omega (arith, paired j lt (omega (arith, a, e.0)) (omega (arith, b, e.1)), e.0, e.1))
-
   pair_at : (o : Option ℕ) (most k at : ℕ) → most ≤ 9 → takes_pair_at s.windows s.has_tail o most k at ≡ true → digits k (drop at text) ≡ Some (number_in n o, drop (at + k) text)
   pair_at None most k at small_most t = absurd cc
   pair_at (Some j) most k at small_most t =
@@ -103,12 +123,11 @@ module _ (s : Shape) (text v1 v n : List ℕ) (year month nanosecond : ℕ) (h :
       let c = both (own s.has_tail j) (free && digit) b.1 in
       let d = both free digit c.1 in
       let lt = less j 8 b.0 in
-      let there = one_taken s.windows text v1 n h j at lt (spare_one s.windows (2 * j) d.0) (digit_there s.windows (2 * j + 1) at 9 d.1) (paired_first j lt c.0) in
+      let there = one_taken s.windows text v1 n h j at lt (spare_one s.windows (2 * j) d.0) (digit_there s.windows (2 * j + 1) at 9 d.1) (paired_first s text v1 v n h same_two paired j lt c.0) in
       rw (same k 1 a.0, there.is) (one_digit text at there.room there.digit)
 
-  digits_at : (f : Field) (k at : ℕ) → takes_digits s f k at ≡ true → digits k (drop at text) ≡ Some (lane_values year month nanosecond n f, drop (at + k) text)
+  digits_at : (f : Field) (k at : ℕ) → takes_digits s f k at ≡ true → digits k (drop at text) ≡ Some (lane_values year nanosecond n f, drop (at + k) text)
   digits_at field.Year k at t = let b = both (k == 4) (at == s.year) t in rw (same k 4 b.0, same at s.year b.1) year_there
-  digits_at field.Month k at t = let b = both (not s.month_is_named) (takes_pair_at s.windows s.has_tail (Some 0) 5 k at) t in rw (numbered (is_not s.month_is_named b.0)) (pair_at (Some 0) 5 k at (lit≤ tt) b.1)
   digits_at field.Day k at t = elim (one (takes_pair_at s.windows s.has_tail (Some 1) 9 k at) (takes_one_at s.windows s.has_tail 1 k at) t) [ inl two ↦ pair_at (Some 1) 9 k at (lit≤ tt) two | inr alone ↦ one_at 1 k at alone ]
   digits_at field.Nanosecond k at t = absurd cc
   digits_at field.Sign k at t = absurd cc
@@ -121,29 +140,23 @@ module _ (s : Shape) (text v1 v n : List ℕ) (year month nanosecond : ℕ) (h :
 
   sign_at : (at : ℕ) → own s.has_tail 6 ≡ true → takes_sign s.windows at ≡ true → at < length text → sign (drop at text) ≡ Some (get_or n 12 0 + 43, drop (at + 1) text)
   sign_at at mine t lt =
-      let there = sign_taken s.windows text v1 n h at small (sign_there s.windows at t) (paired_first 6 (lit< tt) mine) in
+      let there = sign_taken s.windows text v1 n h at small (sign_there s.windows at t) (paired_first s text v1 v n h same_two paired 6 (lit< tt) mine) in
       sign_read text at (get_or n 12 0) lt there.low there.high there.is even
 
-  part_at : (p : Part) (at : ℕ) → takes_part s p at ≡ true → piece_of p (drop at text) ≡ Some (value_of p (lane_values year month nanosecond n), drop (at + width p) text)
+  pub part_at : (p : Part) (at : ℕ) → takes_part s p at ≡ true → piece_of p (drop at text) ≡ Some (value_of p (lane_values year nanosecond n), drop (at + width p) text)
   part_at (part.Byte c) at t =
       let a = both (nat_lt c 256) (lets_at s.windows at c 0 && nat_lt at s.length) t in
       let b = both (lets_at s.windows at c 0) (nat_lt at s.length) a.1 in
       literal_there text at c (omega (arith, less at s.length b.1, long)) (byte_at c at (less c 256 a.0) b.0)
   part_at part.Any at t = any_there text at (omega (arith, less at s.length t, long))
   part_at (part.Digits f k) at t = digits_at f k at t
-  part_at (part.Name names.ShortMonth true) at t = let b = both s.month_is_named (at == s.month) t in rw (same at s.month b.1) (named b.0)
   part_at part.Sign at t =
       let a = both (own s.has_tail 6) (takes_sign s.windows at && nat_lt at s.length) t in
       let b = both (takes_sign s.windows at) (nat_lt at s.length) a.1 in
       sign_at at a.0 b.0 (omega (arith, less at s.length b.1, long))
   part_at p at t = absurd cc
 
-  all_fit : (ps : List Part) (at : ℕ) → takes_all s ps at ≡ true → Fits (λ p at. takes_part s p at ≡ true) ps at
-  all_fit [] at e = tt
-  all_fit (p ∷ ps) at e = let b = both (takes_part s p at) (takes_all s ps (at + width p)) e in (b.0, all_fit ps (at + width p) b.1)
-
   -- the central lemma
-  pub lanes_say : (parts : List Part) → fits s parts ≡ true → Says parts text (lane_values year month nanosecond n) (drop s.length text)
+  pub lanes_say : (parts : List Part) → fits s parts ≡ true → Says parts text (lane_values year nanosecond n) (drop s.length text)
   lanes_say parts e =
-      let b = both (takes_all s parts 0) (length_of parts == s.length) e in
-      says_there (λ p at. takes_part s p at ≡ true) text (lane_values year month nanosecond n) part_at parts 0 s.length (omega (arith, same (length_of parts) s.length b.1)) (all_fit parts 0 b.0)
+      taken_say (takes_part s) text (lane_values year nanosecond n) s.length part_at parts e

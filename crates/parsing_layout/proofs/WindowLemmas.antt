@@ -37,29 +37,29 @@ not_less a b e = grind (arith, nat_tests)
 not_at_most : (a b : ℕ) → nat_le a b ≡ false → b < a
 not_at_most a b e = grind (arith, nat_tests)
 
-when : (b x y : Bool) → b ≡ true → (if b then x else y) ≡ true → x ≡ true
+pub when : (b x y : Bool) → b ≡ true → (if b then x else y) ≡ true → x ≡ true
 when true x y is e = e
 when false x y is e = absurd cc
 
-otherwise : (b x y : Bool) → b ≡ false → (if b then x else y) ≡ true → y ≡ true
+pub otherwise : (b x y : Bool) → b ≡ false → (if b then x else y) ≡ true → y ≡ true
 otherwise true x y is e = absurd cc
 otherwise false x y is e = e
 
 -- ---- one window
 
-lets_in : (w : Window) (place low most : ℕ) → lets w place low most ≡ true → LetsIn w place low most
+pub lets_in : (w : Window) (place low most : ℕ) → lets w place low most ≡ true → LetsIn w place low most
 lets_in w place low most e =
     let b = both (nat_lt place 16) ((get_or w.low place 0 == low) && nat_le (get_or w.high place 0) most) e in
     let c = both (get_or w.low place 0 == low) (nat_le (get_or w.high place 0) most) b.1 in
     record { inside = less place 16 b.0; low_is = same (get_or w.low place 0) low c.0; high_is = at_most (get_or w.high place 0) most c.1 }
 
-takes_there : (w : Window) (lane place most : ℕ) → takes w lane place most ≡ true → Takes w lane place most
+pub takes_there : (w : Window) (lane place most : ℕ) → takes w lane place most ≡ true → Takes w lane place most
 takes_there w lane place most e =
     let b = both (lets w place 48 most) (get_or w.taken.lanes lane 0 == place) e in
     let l = lets_in w place 48 most b.0 in
     record { inside = l.inside; is_there = same (get_or w.taken.lanes lane 0) place b.1; low = l.low_is; high = l.high_is }
 
-spares_there : (w : Window) (lane : ℕ) → spares w lane ≡ true → 128 ≤ get_or w.taken.lanes lane 0
+pub spares_there : (w : Window) (lane : ℕ) → spares w lane ≡ true → 128 ≤ get_or w.taken.lanes lane 0
 spares_there w lane e = at_most 128 (get_or w.taken.lanes lane 0) e
 
 -- ---- both

@@ -1,4 +1,3 @@
-pub mod Found
 pub mod Layout
 pub mod Moment
 pub mod Numbers
@@ -8,3 +7,11 @@ pub mod Windows
 pub mod Stretch
 pub mod Bounds
 pub mod Named
+pub mod Items
+pub mod Said
+pub mod Range
+pub mod Letters
+pub mod Beside
+pub mod Front
+pub mod End
+pub mod Sums

@@ -1,14 +1,12 @@
 -- What lanes take of a whole text, and the moment that it says.
-use Rattle.std.specs.Prelude.{◌≡◌, ◌≤◌, ◌<◌, ◌==◌, nat_eq, Ok, ℤ, pos, ◌*ℤ◌, ◌+◌, ◌*◌, ◌/◌, ◌%◌, ℕ, Bool, true, false, List, [], ◌++◌, get_or, length, drop, Some, bit_or}
+use Rattle.std.specs.Prelude.{◌≡◌, ◌≤◌, ◌<◌, ◌==◌, nat_eq, Ok, ℤ, pos, ◌*ℤ◌, ◌+◌, ◌*◌, ◌/◌, ◌%◌, ℕ, Bool, true, false, List, [], ◌++◌, get_or, drop, Some, bit_or}
 use Rattle.base.specs.Bytes.{hyphen}
 use Rattle.parsing_combinator.specs.Pieces.{digits}
 use Rattle.parsing_combinator.specs.Places.{HasPair}
 use Rattle.parsing_fields.specs.Numbers.{HaveNumbers}
 use Rattle.parsing_fields.specs.declared.fields.Fields.{Fields}
 use Rattle.parsing_places.specs.Last.{HaveEnd}
-use Rattle.parsing_places.specs.Shape.{with_moves}
 use Rattle.parsing_places.specs.Windows.{Taken}
-use Rattle.parsing_places.specs.declared.lanes.Moves.{Moves}
 use Rattle.parsing_places.specs.declared.shape.Window.{Window}
 use Rattle.parsing_values.specs.Resolution.{signed_offset_of}
 use Rattle.parsing_layout.specs.Layout.{Part, Values, Says}
@@ -16,15 +14,14 @@ use Rattle.parsing_layout.specs.Tail.{fraction_parts}
 use Rattle.parsing_layout.specs.declared.parts.Field.TheVariants as field
 use Rattle.parsing_layout.specs.declared.shape.Shape.{Shape}
 
--- four sums of the numbers n that lanes take of a text, and the digits that others take of its end
-pub record AreTaken (s : Shape) (last : Window) (moves : Moves) (text : List ℕ) (days minutes offsets seconds : ℕ) (fraction : List ℕ) : Type 0 where
+-- four sums of the numbers n that lanes take of a text, those of an offset of a window that ends at a place of it
+pub record AreTaken (s : Shape) (last : Window) (text : List ℕ) (at : ℕ) (days minutes offsets seconds : ℕ) : Type 0 where
   pub front : List ℕ
   pub end : List ℕ
   pub both : List ℕ
   pub n : List ℕ
   pub front_taken : Taken s.windows text front
-  pub end_taken : HaveEnd last text (length text) end
-  pub fraction_taken : HaveEnd (with_moves last moves) text (length text) fraction
+  pub end_taken : HaveEnd last text at end
   pub joined : (k : ℕ) → k < 16 → get_or both k 0 ≡ bit_or (get_or front k 0) (get_or end k 0)
   pub paired : (j : ℕ) → j < 8 → get_or both (2 * j) 0 ≤ 9 → get_or both (2 * j + 1) 0 ≤ 9 → get_or n (2 * j) 0 ≡ get_or both (2 * j) 0 * 10 + get_or both (2 * j + 1) 0
   pub days_are : days ≡ get_or n 0 0 + 64 * get_or n 2 0

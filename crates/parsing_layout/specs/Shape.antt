@@ -4,7 +4,6 @@ use Rattle.parsing_places.specs.declared.windows.Windows.{Windows}
 use Rattle.parsing_layout.specs.Layout.{Field, Part, Values, length_of, width}
 use Rattle.parsing_layout.specs.Windows.{lets_at, spares_one, takes_one, takes_two, takes_sign}
 use Rattle.parsing_layout.specs.declared.parts.Field.TheVariants as field
-use Rattle.parsing_layout.specs.declared.parts.Names.TheVariants as names
 use Rattle.parsing_layout.specs.declared.parts.Part.TheVariants as part
 use Rattle.parsing_layout.specs.declared.shape.Shape.{Shape}
 
@@ -50,7 +49,6 @@ takes_one_at w has_tail j n at = (n == 1) && (nat_lt j 8 && (own has_tail j && (
 
 abbrev pub takes_digits : Shape → Field → ℕ → ℕ → Bool
 takes_digits s field.Year n at = (n == 4) && (at == s.year)
-takes_digits s field.Month n at = not s.month_is_named && takes_pair_at s.windows s.has_tail (Some 0) 5 n at
 takes_digits s field.Day n at = takes_pair_at s.windows s.has_tail (Some 1) 9 n at || takes_one_at s.windows s.has_tail 1 n at
 takes_digits s field.Weekday n at = takes_one_at s.windows s.has_tail 1 n at
 takes_digits s field.OrdinalOnes n at = takes_one_at s.windows s.has_tail 1 n at
@@ -61,17 +59,17 @@ abbrev pub takes_part : Shape → Part → ℕ → Bool
 takes_part s (part.Byte c) at = nat_lt c 256 && (lets_at s.windows at c 0 && nat_lt at s.length)
 takes_part s part.Any at = nat_lt at s.length
 takes_part s (part.Digits f n) at = takes_digits s f n at
-takes_part s (part.Name names.ShortMonth true) at = s.month_is_named && (at == s.month)
 takes_part s part.Sign at = own s.has_tail 6 && (takes_sign s.windows at && nat_lt at s.length)
 takes_part s other at = false
 
-abbrev pub takes_all : Shape → List Part → ℕ → Bool
-takes_all s [] at = true
-takes_all s (p ∷ ps) at = takes_part s p at && takes_all s ps (at + width p)
+-- all parts are taken by some machine, one after the other
+abbrev pub takes_all : (Part → ℕ → Bool) → List Part → ℕ → Bool
+takes_all takes [] at = true
+takes_all takes (p ∷ ps) at = takes p at && takes_all takes ps (at + width p)
 
 -- the shape was made for the parts
 abbrev pub fits : Shape → List Part → Bool
-fits s ps = takes_all s ps 0 && (length_of ps == s.length)
+fits s ps = takes_all (takes_part s) ps 0 && (length_of ps == s.length)
 
 -- ---- the numbers of lanes
 
@@ -80,10 +78,9 @@ abbrev pub number_in : List ℕ → Option ℕ → ℕ
 number_in n None = 0
 number_in n (Some j) = get_or n (2 * j) 0
 
--- what lanes say, with a year, a month and a fraction, which are read beside them
-abbrev pub lane_values : ℕ → ℕ → ℕ → List ℕ → Values
-lane_values year month nanosecond n field.Year = year
-lane_values year month nanosecond n field.Month = month
-lane_values year month nanosecond n field.Nanosecond = nanosecond
-lane_values year month nanosecond n field.Sign = get_or n 12 0 + 43
-lane_values year month nanosecond n f = number_in n (pair_of f)
+-- what lanes say, with a year and a fraction, which are read beside them
+abbrev pub lane_values : ℕ → ℕ → List ℕ → Values
+lane_values year nanosecond n field.Year = year
+lane_values year nanosecond n field.Nanosecond = nanosecond
+lane_values year nanosecond n field.Sign = get_or n 12 0 + 43
+lane_values year nanosecond n f = number_in n (pair_of f)

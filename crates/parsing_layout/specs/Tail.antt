@@ -2,7 +2,6 @@
 use Rattle.std.specs.Prelude.{zero, suc, ◌≡◌, ◌≤◌, ◌<◌, ◌+◌, ◌-◌, ◌⊎◌, ℕ, List, [], ◌∷◌, get_or}
 use Rattle.base.specs.Bytes.{dot, colon, upper_z, lower_z}
 use Rattle.parsing_places.specs.Shape.{Takes}
-use Rattle.parsing_places.specs.Tail.{TakesSigned}
 use Rattle.parsing_places.specs.Windows.{LetsIn}
 use Rattle.parsing_places.specs.declared.ending.Ending.{Ending}
 use Rattle.parsing_places.specs.declared.ending.Ending.TheVariants.{Zulu, Colon, Plain}
@@ -48,9 +47,24 @@ pub record FitsEnd (w : Window) (parts : List Part) : Type 0 where
 abbrev pub SparesOffset : Window → Type 0
 SparesOffset w = (k : ℕ) → 8 ≤ k → k < 14 → 128 ≤ get_or w.taken.lanes k 0
 
--- or one, and nothing of a date and of a time of day
+-- or one below twenty hours, with a sign
+pub record TakesOffset (w : Window) : Type 0 where
+  pub hour : ℕ
+  pub hour_next : ℕ
+  pub minute : ℕ
+  pub minute_next : ℕ
+  pub sign : ℕ
+  pub hour_tens : Takes w 8 hour 1
+  pub hour_ones : Takes w 9 hour_next 9
+  pub minute_tens : Takes w 10 minute 5
+  pub minute_ones : Takes w 11 minute_next 9
+  pub alone : 128 ≤ get_or w.taken.lanes 12 0
+  pub sign_is : get_or w.taken.lanes 13 0 ≡ sign
+  pub lets : LetsIn w sign 43 2
+
+-- and nothing of a date and of a time of day
 pub record IsEnd (w : Window) : Type 0 where
   pub no_clock : (k : ℕ) → k < 8 → 128 ≤ get_or w.taken.lanes k 0
   pub no_tens : 128 ≤ get_or w.taken.lanes 14 0
   pub no_ones : 128 ≤ get_or w.taken.lanes 15 0
-  pub offset : SparesOffset w ⊎ ((width place : ℕ) × TakesSigned width w place)
+  pub offset : SparesOffset w ⊎ TakesOffset w

@@ -8,9 +8,10 @@ ghost use Rattle.parsing_layout.specs.Numbers.{AreOfSums, SaysNumbers, second_if
 ghost use Rattle.parsing_layout.specs.Shape.{fits};
 ghost use Rattle.parsing_layout.specs.Tail.{zone_parts};
 
-use crate::moment::{Sums, long_fraction, sums_of};
+use crate::moment::{long_fraction, tailed_sums_of};
 use crate::numbers::Numbers;
 use crate::shape::Shape;
+use crate::sums::Sums;
 use parsing_fields::{Fraction, Year};
 use parsing_places::{LANES, ending_of, fraction_of, length_of, signed, tail_of};
 
@@ -74,7 +75,6 @@ pub fn read_numbers(
     text: &[u8],
 ) -> Option<Numbers>
     requires tail { shape.now.has_tail ≡ true }
-    requires numbered { shape.now.month_is_named ≡ false }
     ensures { (front : List Part) → fits shape.now front ≡ true
         → IfSome result (λ n. (e : Ending) × (bytes : ℕ) × (is_written has_colon e ≡ true)
         × (bytes ≤ 10)
@@ -88,7 +88,7 @@ pub fn read_numbers(
     if !lets_fraction(has_second, tail.fraction) {
         return None;
     }
-    let (sums, digits) = sums_of(shape, &tail.window, &tail.digits, text)?;
+    let (sums, digits) = tailed_sums_of(shape, &tail.window, &tail.digits, text)?;
     let numbers = numbers_of(text, shape.year, has_second, sums, fraction_of(digits))?;
     Some(numbers)
 }
@@ -97,7 +97,6 @@ pub fn read_numbers(
 #[inline(always)]
 pub fn read_long_numbers(shape: &Shape, has_colon: bool, text: &[u8]) -> Option<Numbers>
     requires tail { shape.now.has_tail ≡ true }
-    requires numbered { shape.now.month_is_named ≡ false }
     ensures long { IfSome result (λ _. shape.now.length + 10 < length text.now) }
     ensures bound { IfSome result (λ n. n.fraction < 1_000_000_000) }
     ensures says { (front : List Part) → fits shape.now front ≡ true
@@ -113,7 +112,7 @@ pub fn read_long_numbers(shape: &Shape, has_colon: bool, text: &[u8]) -> Option<
     let width = length_of(ending);
     let tail = tail_of(ending, width)?;
     let fraction = long_fraction(text, shape.length + 1, text.len() - width)?;
-    let (sums, _) = sums_of(shape, &tail.window, &tail.digits, text)?;
+    let (sums, _) = tailed_sums_of(shape, &tail.window, &tail.digits, text)?;
     let numbers = numbers_of(text, shape.year, true, sums, fraction)?;
     Some(numbers)
 }

@@ -1,6 +1,8 @@
 //! The fields of a text, whose numbers are all read at once.
 ghost use Rattle.std.specs.Prelude.{◌≡◌, ◌≤◌, ◌<◌, ◌+◌, ◌-◌, ℕ, drop, get_or, length, false, true, IfSome, List};
 ghost use Rattle.parsing_fields.specs.Written.{WriteFraction};
+ghost use Rattle.parsing_places.specs.Last.{HaveEnd};
+ghost use Rattle.parsing_places.specs.Shape.{with_moves};
 ghost use Rattle.parsing_places.specs.Tail.{is_written, is_zulu};
 ghost use Rattle.parsing_places.specs.declared.ending.Ending.{Ending};
 ghost use Rattle.parsing_layout.specs.Layout.{Part};
@@ -9,6 +11,7 @@ ghost use Rattle.parsing_layout.specs.Shape.{fits};
 ghost use Rattle.parsing_layout.specs.Tail.{zone_parts, small_parts};
 
 use crate::shape::Shape;
+use crate::sums::Sums;
 use parsing_fields::{Fields, Fraction, Year, has_day};
 use parsing_places::{
     Ending, LANES, Moves, Window, are_digits, digits_of_whole, ending_of, fraction_of, joined,
@@ -16,20 +19,19 @@ use parsing_places::{
 };
 use std::simd::prelude::*;
 
-// Month and 64 days, the minute of the day, the minutes of an offset, and a sign and 64 seconds.
-pub(crate) type Sums = (u32, u32, u32, u32);
-
 // The sums of a text that has a shape and an end, and the digits that other lanes take of its end.
 #[inline(always)]
-pub(crate) fn sums_of(
+pub(crate) fn tailed_sums_of(
     shape: &Shape,
     last: &Window,
     fraction: &Moves,
     text: &[u8],
 ) -> Option<(Sums, u8x16)>
     requires { shape.now.windows.back_at + LANES ≤ length text.now }
-    ensures { IfSome result (λ x. AreTaken shape.now last.now fraction.now text.now
-        x.0.0 x.0.1 x.0.2 x.0.3 x.1) }
+    ensures sums { IfSome result (λ x. AreTaken shape.now last.now text.now (length text.now)
+        x.0.0 x.0.1 x.0.2 x.0.3) }
+    ensures fraction { IfSome result
+        (λ x. HaveEnd (with_moves last.now fraction.now) text.now (length text.now) x.1) }
 {
     let windows = &shape.windows;
     let (fits, front, end, digits) = digits_of_whole(
@@ -78,7 +80,6 @@ pub(crate) fn fields_of(text: &[u8], year: usize, sums: Sums, fraction: Fraction
 #[inline(always)]
 pub fn read_moment(shape: &Shape, has_colon: bool, text: &[u8]) -> Option<Fields>
     requires tail { shape.now.has_tail ≡ true }
-    requires numbered { shape.now.month_is_named ≡ false }
     ensures { (front : List Part) → fits shape.now front ≡ true
         → IfSome result (λ f. (e : Ending) × (is_written has_colon e ≡ true)
         × SaysTailed front (is_zulu e) (zone_parts e) text.now f) }
@@ -88,7 +89,7 @@ pub fn read_moment(shape: &Shape, has_colon: bool, text: &[u8]) -> Option<Fields
     }
     let ending = ending_of(text[text.len() - 1], has_colon);
     let tail = tail_of(ending, text.len().wrapping_sub(shape.length))?;
-    let (sums, digits) = sums_of(shape, &tail.window, &tail.digits, text)?;
+    let (sums, digits) = tailed_sums_of(shape, &tail.window, &tail.digits, text)?;
     let fields = fields_of(text, shape.year, sums, fraction_of(digits))?;
     Some(fields)
 }
@@ -108,7 +109,6 @@ fn with_last(low: [u8; LANES], last: u8) -> [u8; LANES]
 #[inline(always)]
 pub fn read_small_moment(shape: &Shape, text: &[u8]) -> Option<Fields>
     requires tail { shape.now.has_tail ≡ true }
-    requires numbered { shape.now.month_is_named ≡ false }
     ensures { (front : List Part) → fits shape.now front ≡ true
         → IfSome result (SaysTailed front true small_parts text.now) }
 {
@@ -124,7 +124,7 @@ pub fn read_small_moment(shape: &Shape, text: &[u8]) -> Option<Fields>
         low: with_last(tail.window.low, b'z'),
         ..tail.window
     };
-    let (sums, digits) = sums_of(shape, &last, &tail.digits, text)?;
+    let (sums, digits) = tailed_sums_of(shape, &last, &tail.digits, text)?;
     let fields = fields_of(text, shape.year, sums, fraction_of(digits))?;
     Some(fields)
 }
@@ -157,7 +157,6 @@ pub(crate) fn long_fraction(text: &[u8], from: usize, end: usize) -> Option<Frac
 #[inline(always)]
 pub fn read_long_moment(shape: &Shape, has_colon: bool, text: &[u8]) -> Option<Fields>
     requires tail { shape.now.has_tail ≡ true }
-    requires numbered { shape.now.month_is_named ≡ false }
     ensures { (front : List Part) → fits shape.now front ≡ true
         → IfSome result (λ f. (e : Ending) × (is_written has_colon e ≡ true)
         × SaysTailed front (is_zulu e) (zone_parts e) text.now f) }
@@ -170,7 +169,7 @@ pub fn read_long_moment(shape: &Shape, has_colon: bool, text: &[u8]) -> Option<F
     let width = length_of(ending);
     let tail = tail_of(ending, width)?;
     let fraction = long_fraction(text, shape.length + 1, text.len() - width)?;
-    let (sums, _) = sums_of(shape, &tail.window, &tail.digits, text)?;
+    let (sums, _) = tailed_sums_of(shape, &tail.window, &tail.digits, text)?;
     let fields = fields_of(text, shape.year, sums, fraction)?;
     Some(fields)
 }

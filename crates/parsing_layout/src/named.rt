@@ -7,26 +7,21 @@ ghost use Rattle.parsing_layout.specs.Windows.{spares_two};
 
 use crate::moment::fields_of;
 use crate::shape::Shape;
+use crate::sums::sums_of;
 use parsing_fields::{Fields, Fraction};
-use parsing_places::{paired, sums};
 
 /// The fields of a text that begins with the parts of a shape, an offset among them, where the month is known from its name: its
 /// letters are bytes of any kind to the shape. `None` says nothing of the text.
 #[inline(always)]
 pub fn read_named_moment(shape: &Shape, month: u8, text: &[u8]) -> Option<Fields>
     requires whole { shape.now.has_tail ≡ false }
-    requires letters { shape.now.month_is_named ≡ false }
     requires spared { spares_two shape.now.windows 0 ≡ true }
     requires month { month ≤ 12 }
     requires long { shape.now.length ≤ length text.now }
     ensures { (parts : List Part) → fits shape.now parts ≡ true
         → IfSome result (SaysNamed parts month text.now (drop shape.now.length text.now)) }
 {
-    let (lies, digits) = shape.windows.digits_of(text);
-    if !lies {
-        return None;
-    }
-    let (days, minute, offset, seconds) = sums(paired(digits));
+    let (days, minute, offset, seconds) = sums_of(shape, text)?;
     let days = days + u32::from(month);
     let fields = fields_of(
         text,

@@ -3,16 +3,10 @@
 /// What a number of a text means.
 #[derive(Clone, Copy, PartialEq)]
 pub enum Field {
-    Year,
     Month,
     Day,
     /// 1 on Monday to 7 on Sunday.
     Weekday,
-    /// A week of a year of weeks.
-    IsoWeek,
-    /// A day of a year without its last digit, and that digit.
-    OrdinalTens,
-    OrdinalOnes,
     Hour,
     /// An hour of half a day.
     HourOfHalf,
@@ -20,17 +14,23 @@ pub enum Field {
     Half,
     Minute,
     Second,
-    Nanosecond,
     /// The byte that an offset begins with.
     Sign,
     OffsetHour,
     OffsetMinute,
+    /// A week of a year of weeks.
+    IsoWeek,
+    /// A day of a year without its last digit, and that digit.
+    OrdinalTens,
+    OrdinalOnes,
+    Year,
+    Nanosecond,
     /// Units of time since 1970.
     Unix,
 }
 
 /// Names that a text may have for a number.
-#[derive(Clone, Copy)]
+#[derive(Clone, Copy, PartialEq)]
 pub enum Names {
     /// `Jan` to `Dec`.
     ShortMonth,
@@ -45,7 +45,7 @@ pub enum Names {
 }
 
 /// One part of a layout. What it reads at the start of a text is a piece of `parsing_combinator`.
-#[derive(Clone, Copy)]
+#[derive(Clone, Copy, PartialEq)]
 pub enum Part {
     /// This byte.
     Byte(u8),

@@ -4,7 +4,7 @@ ghost use Rattle.parsing_layout.specs.Windows.{lets_year, are_bounded};
 
 use parsing_places::Windows;
 
-/// Two windows over the start of a text, with the places of what lanes don't take.
+/// Two windows over the start of a text, and where its year stands, which lanes don't take.
 ///
 /// Their lanes take two digits each, in this order: month, day, hour, minute, an offset's hour and minute, its sign, and the
 /// second.
@@ -17,11 +17,7 @@ pub struct Shape {
     pub has_tail: bool,
     /// Where the four digits of the year stand.
     pub year: usize,
-    /// Whether the month is written by its short name, and where.
-    pub month_is_named: bool,
-    pub month: usize,
     ghost within: { 0 < windows.back_at → windows.back_at + 16 ≤ length },
     ghost year_is: { lets_year windows length year ≡ true },
-    ghost month_room: { month + 4 ≤ length },
     ghost bounded: { are_bounded windows has_tail ≡ true },
 }

@@ -1,7 +1,6 @@
 //! Two windows over a text, made for any layout and then checked.
 ghost use Rattle.std.specs.Prelude.{◌≡◌, ◌≤◌, ◌<◌, ◌+◌, ℕ, length, get_or, true, IfSome};
-ghost use Rattle.parsing_places.specs.Windows.{LetsIn, LetsAt, TakeTwo, TakeOne, SpareTwo, SpareOne, TakeSign, Taken};
-ghost use Rattle.parsing_places.specs.Shape.{Takes, TakesFrom, TakesDigit};
+ghost use Rattle.parsing_places.specs.Windows.{Taken};
 
 use crate::lanes::{LANES, Moves, all_above, are_at_most, joined, sixteen_from};
 use crate::shape::Window;
@@ -27,110 +26,6 @@ impl Moves {
             }
         }
         Some(Moves { lanes })
-    }
-
-    /// Whether a lane takes nothing.
-    pub fn spares(&self, lane: usize) -> bool
-        requires { lane < LANES }
-        ensures { result ≡ true → 128 ≤ get_or self.now.lanes lane 0 }
-    {
-        self.lanes[lane] >= 128
-    }
-}
-
-impl Window {
-    /// Whether a byte from the lowest on, and at most so far above it, alone can stand at a place.
-    pub fn lets(&self, place: usize, low: u8, most: u8) -> bool
-        ensures { result ≡ true → LetsIn self.now place low most }
-    {
-        place < LANES && self.low[place] == low && self.high[place] <= most
-    }
-
-    /// Whether a lane takes a digit at a place, at most so large.
-    pub fn takes(&self, lane: usize, place: usize, most: u8) -> bool
-        requires { lane < LANES }
-        ensures { result ≡ true → Takes self.now lane place most }
-    {
-        self.lets(place, b'0', most) && usize::from(self.taken.lanes[lane]) == place
-    }
-
-    // The same, and that another window takes nothing for the lane.
-    fn takes_alone(&self, other: &Window, lane: usize, place: usize, most: u8) -> bool
-        requires { lane < LANES }
-        ensures { result ≡ true → TakesFrom self.now other.now lane place most }
-    {
-        self.takes(lane, place, most) && other.taken.spares(lane)
-    }
-}
-
-impl Windows {
-    /// Whether a byte from the lowest on, and at most so far above it, alone can stand at a place of a text.
-    pub fn lets(&self, place: usize, low: u8, most: u8) -> bool
-        ensures { result ≡ true → LetsAt self.now place low most }
-    {
-        if place < LANES {
-            return self.prefix.lets(place, low, most);
-        }
-        place >= self.back_at && self.back.lets(place - self.back_at, low, most)
-    }
-
-    // Whether a lane takes a digit at a place of a text, at most so large.
-    fn takes_digit(&self, lane: usize, place: usize, most: u8) -> bool
-        requires { lane < LANES }
-        ensures { result ≡ true → TakesDigit self.now.prefix self.now.back self.now.back_at lane place most }
-    {
-        if self.prefix.taken.spares(lane) {
-            return place >= self.back_at
-                && self
-                    .back
-                    .takes_alone(&self.prefix, lane, place - self.back_at, most);
-        }
-        self.prefix.takes_alone(&self.back, lane, place, most)
-    }
-
-    /// Whether a lane takes a digit at a place of a text.
-    pub fn take_one(&self, lane: usize, place: usize) -> bool
-        requires { lane < LANES }
-        ensures { result ≡ true → TakeOne self.now lane place }
-    {
-        self.takes_digit(lane, place, 9)
-    }
-
-    /// Whether two lanes take two digits at a place of a text, the first of them at most so large.
-    pub fn take_two(&self, lane: usize, place: usize, most: u8) -> bool
-        requires lane { lane + 1 < LANES }
-        requires place { place < 1000 }
-        ensures { result ≡ true → TakeTwo self.now lane place most }
-    {
-        self.takes_digit(lane, place, most) && self.takes_digit(lane + 1, place + 1, 9)
-    }
-
-    /// Whether a lane takes nothing.
-    pub fn spare_one(&self, lane: usize) -> bool
-        requires { lane < LANES }
-        ensures { result ≡ true → SpareOne self.now lane }
-    {
-        self.prefix.taken.spares(lane) && self.back.taken.spares(lane)
-    }
-
-    /// Whether two lanes take nothing.
-    pub fn spare_two(&self, lane: usize) -> bool
-        requires { lane + 1 < LANES }
-        ensures { result ≡ true → SpareTwo self.now lane }
-    {
-        self.spare_one(lane) && self.spare_one(lane + 1)
-    }
-
-    /// Whether the lane of a sign takes one at a place of a text, in the second window.
-    pub fn take_sign(&self, place: usize) -> bool
-        ensures { result ≡ true → TakeSign self.now place }
-    {
-        if place < self.back_at || !self.back.lets(place - self.back_at, b'+', 2) {
-            return false;
-        }
-        self.spare_one(12)
-            && self.prefix.taken.spares(13)
-            && usize::from(self.back.taken.lanes[13]) == place - self.back_at
     }
 }
 

@@ -1,1 +1,6 @@
+mod FieldLemmas
+mod PlaceLemmas
+mod SaidLemmas
+mod SplitLemmas
+mod Timestamps
 mod Walk

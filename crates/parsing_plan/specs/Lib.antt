@@ -1,1 +1,5 @@
+pub mod Fields
+pub mod Parts
+pub mod Places
 pub mod Plan
+pub mod UnixTime

@@ -1,7 +1,12 @@
 //! Plans, by which lines of a description are read at once.
 #![tactic(auto)]
 
+mod parts;
+mod places;
 mod plan;
+mod read;
+mod unix;
 
-pub use parsing_layouts::{Places, UnixTime};
+pub use places::Places;
 pub use plan::Plan;
+pub use unix::UnixTime;

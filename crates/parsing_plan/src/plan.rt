@@ -12,13 +12,14 @@ ghost use Rattle.parsing_components.specs.declared.fields.Record.{Record};
 ghost use Rattle.parsing_components.specs.Whole.{whole, names, moment_named, starting};
 ghost use Rattle.parsing_plan.specs.Plan.{IsPlanOf};
 
+use crate::places::Places;
+use crate::unix::UnixTime;
 use calendar::UtcOffset;
 use description_items::BorrowedFormatItem;
 use description_tree::FormatDescriptionV3;
 use parsing_components::{Node, NodeStep};
 use parsing_fields::Fields;
-use parsing_layouts::{Places, UnixTime};
-use parsing_steps::Steps;
+use parsing_item_parts::Listed;
 
 /// How lines of a description are read at once.
 #[derive(Clone, Copy)]
@@ -27,8 +28,8 @@ pub enum Plan {
     Places(Places),
     /// Unix time alone.
     Unix(UnixTime),
-    /// A byte and a component at a time.
-    Steps(Steps),
+    /// A part after the other.
+    Listed(Listed),
 }
 
 // The plan of items that are read one after the other.
@@ -42,8 +43,8 @@ fn plan_of<N: Node>(items: &[N]) -> Option<Plan>
     if let Some(unix) = UnixTime::of_nodes(items) {
         return Some(Plan::Unix(unix));
     }
-    let steps = Steps::of_nodes(items)?;
-    Some(Plan::Steps(steps))
+    let listed = Listed::of_nodes(items)?;
+    Some(Plan::Listed(listed))
 }
 
 impl Plan {
@@ -77,7 +78,7 @@ impl Plan {
         match self {
             Plan::Places(places) => places.read(line, assumed),
             Plan::Unix(unix) => unix.read(line),
-            Plan::Steps(steps) => steps.read(line, assumed),
+            Plan::Listed(listed) => listed.read(line, assumed),
         }
     }
 
@@ -97,7 +98,7 @@ impl Plan {
         match self {
             Plan::Places(places) => places.read_prefix(line, assumed),
             Plan::Unix(_) => None,
-            Plan::Steps(steps) => steps.read_prefix(line, assumed),
+            Plan::Listed(listed) => listed.read_prefix(line, assumed),
         }
     }
 }

@@ -24,10 +24,13 @@ impl Parsed {
         ensures { Gives (λ rest. (tt, rest.now)) reading_fault result
             (literally literal.now input.now) }
     {
-        match input.strip_prefix(literal) {
-            Some(rest) => Ok(rest),
-            None => Err(ParseFromDescription::InvalidLiteral),
-        }
+        // (most are a byte, and no call is made for it)
+        let rest = match (literal, input) {
+            ([byte], [first, rest @ ..]) if first == byte => Some(rest),
+            ([_], _) => None,
+            _ => input.strip_prefix(literal),
+        };
+        rest.ok_or(ParseFromDescription::InvalidLiteral)
     }
 
     /// Reads the component at the start of the bytes into the record, and returns the bytes after it.

@@ -34,6 +34,35 @@ pub(crate) fn read_node<'a, N: ReadsNode, T: Tally>(
     }
 }
 
+// The same for a node of several, so that no call is made for a literal or a component.
+#[tactic(auto, unfolding(parsing_components::specs::Reads::reads))]
+#[cycle(reading)]
+#[inline(always)]
+fn read_one<'a, N: ReadsNode, T: Tally>(
+    node: &N,
+    input: &'a [u8],
+    parsed: &mut Parsed,
+    tally: &mut T,
+) -> Result<&'a [u8], ParseFromDescription>
+    ensures answer { Answers result parsed.new
+        (reading N.language (N.tree node.now) parsed.old input.now) }
+    ensures tally { T.grows tally.old tally.new
+        (tried N.language (N.tree node.now) parsed.old input.now) }
+{
+    let rest = match node.step() {
+        NodeStep::Literal(text) => {
+            tally.begin();
+            Parsed::parse_literal(input, text)?
+        }
+        NodeStep::Component(component) => {
+            tally.begin();
+            N::read_component(component, input, parsed)?
+        }
+        _ => read_node(node, input, parsed, tally)?,
+    };
+    Ok(rest)
+}
+
 // Reads by the node, or leaves everything as it was.
 #[tactic(auto, unfolding(parsing_components::specs::Meaning::optionally))]
 #[cycle(reading)]
@@ -60,6 +89,7 @@ fn read_optional<'a, N: ReadsNode, T: Tally>(
 
 /// Reads by each node in turn; a refusal leaves what was read before it in the record.
 #[cycle(reading)]
+#[inline(always)]
 pub(crate) fn read_nodes<'a, N: ReadsNode, T: Tally>(
     nodes: &[N],
     input: &'a [u8],
@@ -73,7 +103,7 @@ pub(crate) fn read_nodes<'a, N: ReadsNode, T: Tally>(
 {
     let mut rest = input;
     for node in nodes {
-        rest = read_node(node, rest, parsed, tally)?;
+        rest = read_one(node, rest, parsed, tally)?;
     }
     Ok(rest)
 }

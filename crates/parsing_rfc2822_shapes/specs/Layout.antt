@@ -60,7 +60,6 @@ short_from_day count = Digits field.Day count ∷ short_month_parts ++ usual_par
 -- a shape takes no number of the month, whose letters it lets be any bytes, and has no tail
 pub record IsNamed (shape : Shape) : Type 0 where
   pub whole : shape.has_tail ≡ false
-  pub letters : shape.month_is_named ≡ false
   pub spared : spares_two shape.windows 0 ≡ true
 
 -- fields are those of a text that begins with its day and goes on with a time, before which its month and a year from 1900 on are read

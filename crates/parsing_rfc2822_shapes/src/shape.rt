@@ -96,8 +96,6 @@ pub(crate) fn two_digits() -> Shape
         length: 26,
         has_tail: false,
         year: 7,
-        month_is_named: false,
-        month: 0,
     }
 }
 
@@ -117,8 +115,6 @@ pub(crate) fn one_digit() -> Shape
         length: 25,
         has_tail: false,
         year: 6,
-        month_is_named: false,
-        month: 0,
     }
 }
 
@@ -138,8 +134,6 @@ pub(crate) fn two_digits_with_name() -> Shape
         length: 20,
         has_tail: false,
         year: 7,
-        month_is_named: false,
-        month: 0,
     }
 }
 
@@ -159,8 +153,6 @@ pub(crate) fn one_digit_with_name() -> Shape
         length: 19,
         has_tail: false,
         year: 6,
-        month_is_named: false,
-        month: 0,
     }
 }
 
@@ -180,8 +172,6 @@ pub(crate) fn two_digits_without_second() -> Shape
         length: 23,
         has_tail: false,
         year: 7,
-        month_is_named: false,
-        month: 0,
     }
 }
 
@@ -201,8 +191,6 @@ pub(crate) fn one_digit_without_second() -> Shape
         length: 22,
         has_tail: false,
         year: 6,
-        month_is_named: false,
-        month: 0,
     }
 }
 
@@ -222,8 +210,6 @@ pub(crate) fn two_digits_short_year() -> Shape
         length: 24,
         has_tail: false,
         year: 20,
-        month_is_named: false,
-        month: 0,
     }
 }
 
@@ -243,7 +229,5 @@ pub(crate) fn one_digit_short_year() -> Shape
         length: 23,
         has_tail: false,
         year: 19,
-        month_is_named: false,
-        month: 0,
     }
 }

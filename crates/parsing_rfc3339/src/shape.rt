@@ -10,7 +10,6 @@ use parsing_places::{Moves, Window, Windows};
 #[inline(always)]
 pub(crate) fn shape() -> Shape
     ensures tail { result.has_tail ≡ true }
-    ensures numbered { result.month_is_named ≡ false }
     ensures fits { fits result front_parts ≡ true }
 {
     Shape {
@@ -39,7 +38,5 @@ pub(crate) fn shape() -> Shape
         length: 19,
         has_tail: true,
         year: 0,
-        month_is_named: false,
-        month: 0,
     }
 }

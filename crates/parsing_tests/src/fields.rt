@@ -8,9 +8,9 @@ use description::{
 use parsing_combinator::digit_chunk;
 use parsing_components::assumed_minutes;
 use parsing_fields::{Fields, Fraction, Year, digit_pair, minute_of_day, signed_minutes};
+use parsing_item_parts::Listed;
 use parsing_places::{Moves, Window, Windows};
 use parsing_plan::Plan;
-use parsing_steps::Steps;
 use std::alloc::Global;
 
 // The seconds since 1970 of the moment of fields, and its nanosecond.
@@ -121,8 +121,8 @@ fn any() -> Window {
     }
 }
 
-// What they let, take and spare.
-fn windows() -> [bool; 12] {
+// What they take.
+fn windows() -> [bool; 3] {
     let windows = Windows {
         prefix: basic(),
         back: any(),
@@ -131,22 +131,13 @@ fn windows() -> [bool; 12] {
     [
         Moves::checked([16; 16]).is_none(),
         Moves::checked([15; 16]).is_some(),
-        windows.back.taken.spares(0),
-        windows.prefix.lets(8, b'T', 0),
-        windows.prefix.takes(0, 4, 1),
-        windows.lets(8, b'T', 0),
-        windows.take_one(3, 7),
-        windows.take_two(4, 9, 2),
-        windows.spare_one(8),
-        windows.spare_two(8),
-        !windows.take_sign(3),
         windows.digits_of(b"20210102T030405Z").0,
     ]
 }
 
 #[test]
 fn windows_of_a_layout(rt: HostRuntime) {
-    assert!(rt; windows() == [true; 12]);
+    assert!(rt; windows() == [true; 3]);
 }
 
 // What the plan of a list of items reads of a line.
@@ -165,7 +156,7 @@ fn planned_alone(items: &[BorrowedFormatItem<'_>], line: &[u8]) -> Option<(i64, 
             }
         }
         Plan::Unix(unix) => instant(unix.read_within(line)),
-        Plan::Steps(_) => None,
+        Plan::Listed(_) => None,
     }
 }
 
@@ -188,23 +179,23 @@ fn plans(rt: HostRuntime) {
     assert!(rt; assumed_minutes(behind) == -90);
 }
 
-// The steps of a strftime description.
-fn steps_of(alloc: Global, text: &str) -> Option<Steps> {
+// The parts of a strftime description.
+fn listed_of(alloc: Global, text: &str) -> Option<Listed> {
     let items = parse_strftime_borrowed(alloc, text).ok()?;
-    Steps::of_nodes(items.as_slice())
+    Listed::of_nodes(items.as_slice())
 }
 
-// What steps read of a line, and of the start of a longer one.
-fn by_steps(alloc: Global, line: &[u8], longer: &[u8]) -> [Option<(i64, u32)>; 2] {
-    let Some(steps) = steps_of(alloc, "%d %B %Y %I:%M:%S %p") else {
+// What is read by parts of a line, and of the start of a longer one.
+fn by_parts(alloc: Global, line: &[u8], longer: &[u8]) -> [Option<(i64, u32)>; 2] {
+    let Some(listed) = listed_of(alloc, "%d %B %Y %I:%M:%S %p") else {
         return [None, None];
     };
-    let of_prefix = match steps.read_prefix(longer, Some(UtcOffset::UTC)) {
+    let of_prefix = match listed.read_prefix(longer, Some(UtcOffset::UTC)) {
         Some((fields, b" and more")) => Some(fields),
         _ => None,
     };
     [
-        instant(steps.read(line, Some(UtcOffset::UTC))),
+        instant(listed.read(line, Some(UtcOffset::UTC))),
         instant(of_prefix),
     ]
 }
@@ -254,7 +245,7 @@ fn are_planned(alloc: Global, text: &str, lines: &[Line]) -> bool {
 
 #[test]
 fn steps(rt: HostRuntime) {
-    let night = by_steps(
+    let night = by_parts(
         rt.alloc(),
         b"02 January 2021 02:04:05 AM",
         b"02 January 2021 02:04:05 AM and more",
@@ -333,7 +324,7 @@ static NAMED: [Line; 19] = [
 #[test]
 fn named_months_and_halves_of_days(rt: HostRuntime) {
     for (line, wanted) in &NAMED {
-        let read = by_steps(rt.alloc(), line.as_bytes(), b"02 January 2021 02:04:05");
+        let read = by_parts(rt.alloc(), line.as_bytes(), b"02 January 2021 02:04:05");
         assert!(rt; read == [*wanted, None]);
     }
 }

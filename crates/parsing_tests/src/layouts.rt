@@ -1,61 +1,20 @@
-//! Layouts: lists of parts, and what is read by them.
+//! Layouts of fixed widths, and what is read by them.
 
 ghost use Rattle.std.specs.Prelude.{◌≡◌, true, false};
-ghost use Rattle.parsing_layout.specs.Found.{AreDistinct};
 ghost use Rattle.parsing_layout.specs.Windows.{spares_two};
 
 use datetime_types::WallClock;
 use parsing_fields::Fields;
 use parsing_layout::{
-    Field, Found, Names, Numbers, Part, Shape, read, read_long_moment, read_long_numbers,
-    read_moment, read_named_moment, read_numbers, read_small_moment,
+    Field, Front, Numbers, Part, Shape, Sums, last_bytes_of, month_name_at, read_long_moment,
+    read_long_numbers, read_moment, read_named_moment, read_numbers, read_small_moment,
+    split_sums_of, sums_of, weekday_name_at,
 };
-use parsing_places::{Moves, Window, Windows};
-
-// A date in words, after which anything may follow.
-static DATE: [Part; 6] = [
-    Part::Name(Names::ShortWeekday, true),
-    Part::Byte(b' '),
-    Part::Spaced(Field::Day),
-    Part::Any,
-    Part::Name(Names::LongMonth, false),
-    Part::Run(Field::Year, 6),
-];
-
-// A time of day with a fraction of three digits, and an offset.
-static CLOCK: [Part; 6] = [
-    Part::Bare(Field::Hour),
-    Part::Byte(b':'),
-    Part::Digits(Field::Minute, 2),
-    Part::Fraction(3),
-    Part::Sign,
-    Part::Digits(Field::OffsetHour, 2),
-];
-
-// The numbers of three fields, and how many bytes are left.
-fn numbers(parts: &[Part; 6], text: &[u8], fields: [Field; 3]) -> Option<([u64; 3], usize)>
-    requires { AreDistinct parts.now }
-{
-    let mut found = Found::new();
-    let rest = read(parts, text, &mut found)?;
-    let [first, second, third] = fields;
-    let numbers = [found.get(first), found.get(second), found.get(third)];
-    Some((numbers, rest.len()))
-}
-
-#[test]
-fn parts_one_after_another(rt: HostRuntime) {
-    let day = [Field::Weekday, Field::Day, Field::Month];
-    assert!(rt; numbers(&DATE, b"Sat  2 jANUARY2021Z", day) == Some(([6, 2, 1], 1)));
-    let clock = [Field::Hour, Field::Nanosecond, Field::Sign];
-    assert!(rt; numbers(&CLOCK, b"3:04250+01", clock) == Some(([3, 250_000_000, 43], 0)));
-    assert!(rt; numbers(&CLOCK, b"3:0425+01", clock) == None);
-}
+use parsing_places::{LANES, Moves, Window, Windows};
 
 // `20210102T030405`.
 fn basic() -> Shape
     ensures tail { result.has_tail ≡ true }
-    ensures numbered { result.month_is_named ≡ false }
 {
     Shape {
         windows: Windows {
@@ -78,8 +37,6 @@ fn basic() -> Shape
         length: 15,
         has_tail: true,
         year: 0,
-        month_is_named: false,
-        month: 0,
     }
 }
 
@@ -104,7 +61,6 @@ fn parts_at_once(rt: HostRuntime) {
 // `02/Jan/2021:03:04:05 +0100`, as web servers write it.
 fn logged() -> Shape
     ensures whole { result.has_tail ≡ false }
-    ensures letters { result.month_is_named ≡ false }
     ensures spared { spares_two result.windows 0 ≡ true }
     ensures long { result.length ≡ 26 }
 {
@@ -133,8 +89,6 @@ fn logged() -> Shape
         length: 26,
         has_tail: false,
         year: 7,
-        month_is_named: false,
-        month: 0,
     }
 }
 
@@ -159,4 +113,60 @@ fn numbers_at_once(rt: HostRuntime) {
     assert!(rt; [usual, long] == [HALF; 2]);
     assert!(rt; on_day(read_numbers(&basic(), true, true, b"20210132T030405Z")) == None);
     assert!(rt; on_day(read_numbers(&basic(), true, false, b"20210102T030405.5Z")) == None);
+}
+
+// `2021-01-02 03:04:05`.
+static STAMP: [Part; 11] = [
+    Part::Digits(Field::Year, 4),
+    Part::Byte(b'-'),
+    Part::Digits(Field::Month, 2),
+    Part::Byte(b'-'),
+    Part::Digits(Field::Day, 2),
+    Part::Byte(b' '),
+    Part::Digits(Field::Hour, 2),
+    Part::Byte(b':'),
+    Part::Digits(Field::Minute, 2),
+    Part::Byte(b':'),
+    Part::Digits(Field::Second, 2),
+];
+
+// The sums of a text with these parts.
+fn stamped(text: &[u8]) -> Option<Sums> {
+    let front = Front::of_parts(&STAMP, false, false)?;
+    if text.len() < front.shape.length {
+        return None;
+    }
+    sums_of(&front.shape, text)
+}
+
+// Those of a text that goes on with three digits and `Z`, and the fraction.
+fn split(text: &[u8]) -> Option<(Sums, u32)> {
+    let front = Front::of_parts(&STAMP, true, false)?;
+    let last = last_bytes_of(&[Part::Byte(b'Z')], false)?;
+    if text.len() < front.shape.length || text.len() < LANES {
+        return None;
+    }
+    if last.length > LANES - 3 {
+        return None;
+    }
+    let (sums, fraction) = split_sums_of(&front.shape, &last, text, text.len(), 3)?;
+    Some((sums, fraction.nanosecond()))
+}
+
+#[test]
+fn shapes_made_for_parts(rt: HostRuntime) {
+    assert!(rt; stamped(b"2021-01-02 03:04:05") == Some((129, 184, 0, 320)));
+    assert!(rt; stamped(b"2021-01-02 03:04-05") == None);
+    assert!(rt; split(b"2021-01-02 03:04:05250z") == None);
+    assert!(rt; split(b"2021-01-02 03:04:05250Z") == Some(((129, 184, 0, 320), 250_000_000)));
+    assert!(rt; Front::of_parts(&[Part::Bare(Field::Hour)], false, false).is_none());
+    assert!(rt; last_bytes_of(&[Part::Digits(Field::OffsetHour, 2)], true).is_none());
+}
+
+#[test]
+fn names_at_places(rt: HostRuntime) {
+    assert!(rt; month_name_at(b"02/Dec/2021", 3) == Some(12));
+    assert!(rt; month_name_at(b"02/dec/2021", 3) == None);
+    assert!(rt; weekday_name_at(b"Sun Jan", 0) == Some(7));
+    assert!(rt; weekday_name_at(b"Son Jan", 0) == None);
 }

@@ -27,4 +27,6 @@ mod printed;
 #[cfg(test)]
 mod records;
 #[cfg(test)]
+mod strides;
+#[cfg(test)]
 mod support;

@@ -12,7 +12,7 @@ numbers_of-requires c =
     let tail = c.in_ok-tail.tail in
     let text = c.args.text.now in
     let zulu : is_zulu tail.ending ≡ (get_or text (length text - 1) 0 == 90) = rw c.in_ok-tail.ensures.ending c.ending_of-ending.ensures.zulu in
-    let h = of_tail c.args.shape.now tail text c.in_ok-sums.field-0-1 _ _ _ _ c.requires.tail c.requires.numbered c.in_ok-sums.ensures (λ k. (omega (arith, c.type_inv.text k))) (omega (arith, c.if-text-lt-LANES.false)) zulu in
+    let h = of_tail c.args.shape.now tail text c.in_ok-sums.field-0-1 _ _ _ _ c.requires.tail c.in_ok-sums.ensures.sums c.in_ok-sums.ensures.fraction (λ k. (omega (arith, c.type_inv.text k))) (omega (arith, c.if-text-lt-LANES.false)) zulu in
     whole_in_range _ _ _ _ _ _ _ _ _ _ _ h.1 (omega (arith, c.if-text-shape.false))
 
 pub returns-clause-says : goal.returns-clause-says
@@ -20,7 +20,7 @@ returns-clause-says c = λ front fits_front.
     let tail = c.in_ok-tail.tail in
     let text = c.args.text.now in
     let zulu : is_zulu tail.ending ≡ (get_or text (length text - 1) 0 == 90) = rw c.in_ok-tail.ensures.ending c.ending_of-ending.ensures.zulu in
-    let h = of_tail c.args.shape.now tail text c.in_ok-sums.field-0-1 _ _ _ _ c.requires.tail c.requires.numbered c.in_ok-sums.ensures (λ k. (omega (arith, c.type_inv.text k))) (omega (arith, c.if-text-lt-LANES.false)) zulu in
+    let h = of_tail c.args.shape.now tail text c.in_ok-sums.field-0-1 _ _ _ _ c.requires.tail c.in_ok-sums.ensures.sums c.in_ok-sums.ensures.fraction (λ k. (omega (arith, c.type_inv.text k))) (omega (arith, c.if-text-lt-LANES.false)) zulu in
     let written : is_written c.args.has_colon tail.ending ≡ true = rw c.in_ok-tail.ensures.ending c.ending_of-ending.ensures.written in
     let fraction = c.in_ok-fraction.ensures in
     let zone = zone_parts tail.ending in

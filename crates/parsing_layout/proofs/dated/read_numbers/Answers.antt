@@ -11,7 +11,7 @@ fraction_of-requires c =
     let tail = c.in_ok-tail.tail in
     let text = c.args.text.now in
     let zulu : is_zulu tail.ending ≡ (get_or text (length text - 1) 0 == 90) = rw c.in_ok-tail.ensures.ending c.ending_of-ending.ensures.zulu in
-    let h = of_tail c.args.shape.now tail text c.in_ok-sums.digits _ _ _ _ c.requires.tail c.requires.numbered c.in_ok-sums.ensures (λ k. (omega (arith, c.type_inv.text k))) (omega (arith, c.if-text-lt-LANES.false)) zulu in
+    let h = of_tail c.args.shape.now tail text c.in_ok-sums.digits _ _ _ _ c.requires.tail c.in_ok-sums.ensures.sums c.in_ok-sums.ensures.fraction (λ k. (omega (arith, c.type_inv.text k))) (omega (arith, c.if-text-lt-LANES.false)) zulu in
     record { few = all_few _ _ _ _ _ _ _ _ _ _ _ h.1; rest = none_after _ _ _ _ _ _ _ _ _ _ _ h.1 }
 
 pub numbers_of-requires : goal.numbers_of-requires
@@ -19,7 +19,7 @@ numbers_of-requires c =
     let tail = c.in_ok-tail.tail in
     let text = c.args.text.now in
     let zulu : is_zulu tail.ending ≡ (get_or text (length text - 1) 0 == 90) = rw c.in_ok-tail.ensures.ending c.ending_of-ending.ensures.zulu in
-    let h = of_tail c.args.shape.now tail text c.in_ok-sums.digits _ _ _ _ c.requires.tail c.requires.numbered c.in_ok-sums.ensures (λ k. (omega (arith, c.type_inv.text k))) (omega (arith, c.if-text-lt-LANES.false)) zulu in
+    let h = of_tail c.args.shape.now tail text c.in_ok-sums.digits _ _ _ _ c.requires.tail c.in_ok-sums.ensures.sums c.in_ok-sums.ensures.fraction (λ k. (omega (arith, c.type_inv.text k))) (omega (arith, c.if-text-lt-LANES.false)) zulu in
     whole_in_range _ _ _ _ _ _ _ _ _ _ _ h.1 (omega (arith, c.if-text-lt-LANES.false, c.in_ok-tail.ensures.few))
 
 pub returns : goal.returns
@@ -27,7 +27,7 @@ returns c = λ front fits_front.
     let tail = c.in_ok-tail.tail in
     let text = c.args.text.now in
     let zulu : is_zulu tail.ending ≡ (get_or text (length text - 1) 0 == 90) = rw c.in_ok-tail.ensures.ending c.ending_of-ending.ensures.zulu in
-    let h = of_tail c.args.shape.now tail text c.in_ok-sums.digits _ _ _ _ c.requires.tail c.requires.numbered c.in_ok-sums.ensures (λ k. (omega (arith, c.type_inv.text k))) (omega (arith, c.if-text-lt-LANES.false)) zulu in
+    let h = of_tail c.args.shape.now tail text c.in_ok-sums.digits _ _ _ _ c.requires.tail c.in_ok-sums.ensures.sums c.in_ok-sums.ensures.fraction (λ k. (omega (arith, c.type_inv.text k))) (omega (arith, c.if-text-lt-LANES.false)) zulu in
     let written : is_written c.args.has_colon tail.ending ≡ true = rw c.in_ok-tail.ensures.ending c.ending_of-ending.ensures.written in
     let same = ap offset_at c.in_ok-tail.ensures.ending in
     let all : c.args.shape.now.length + tail.fraction + 16 ≡ length text + offset_at tail.ending = omega (arith, c.if-text-lt-LANES.false, c.in_ok-tail.ensures.bytes h.0, c.in_ok-tail.ensures.few, same) in

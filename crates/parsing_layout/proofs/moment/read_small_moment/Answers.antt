@@ -14,7 +14,7 @@ fraction_of-requires c =
     let ok = is_some tail.fraction c.if-tail-eq1.false (omega (arith, c.if-tail-gt10.false)) in
     let low = c.with_last.ensures in
     let last : Window = record { low = c.with_last.result; high = tail.window.high; taken = tail.window.taken } in
-    let h = of_small tail zulu ok last (refl, refl) low.there low.others c.args.shape.now text c.in_ok-sums.digits _ _ _ _ c.requires.tail c.requires.numbered c.in_ok-sums.ensures (λ k. (omega (arith, c.type_inv.text k))) (omega (arith, c.if-text-lt-LANES.false)) in
+    let h = of_small tail zulu ok last (refl, refl) low.there low.others c.args.shape.now text c.in_ok-sums.digits _ _ _ _ c.requires.tail c.in_ok-sums.ensures.sums c.in_ok-sums.ensures.fraction (λ k. (omega (arith, c.type_inv.text k))) (omega (arith, c.if-text-lt-LANES.false)) in
     record { few = all_few _ _ _ _ _ _ _ _ _ _ _ h; rest = none_after _ _ _ _ _ _ _ _ _ _ _ h }
 
 pub fields_of-requires : goal.fields_of-requires
@@ -25,7 +25,7 @@ fields_of-requires c =
     let ok = is_some tail.fraction c.if-tail-eq1.false (omega (arith, c.if-tail-gt10.false)) in
     let low = c.with_last.ensures in
     let last : Window = record { low = c.with_last.result; high = tail.window.high; taken = tail.window.taken } in
-    let h = of_small tail zulu ok last (refl, refl) low.there low.others c.args.shape.now text c.in_ok-sums.digits _ _ _ _ c.requires.tail c.requires.numbered c.in_ok-sums.ensures (λ k. (omega (arith, c.type_inv.text k))) (omega (arith, c.if-text-lt-LANES.false)) in
+    let h = of_small tail zulu ok last (refl, refl) low.there low.others c.args.shape.now text c.in_ok-sums.digits _ _ _ _ c.requires.tail c.in_ok-sums.ensures.sums c.in_ok-sums.ensures.fraction (λ k. (omega (arith, c.type_inv.text k))) (omega (arith, c.if-text-lt-LANES.false)) in
     whole_in_range _ _ _ _ _ _ _ _ _ _ _ h (omega (arith, c.if-text-lt-LANES.false, c.in_ok-tail.ensures.few))
 
 pub returns : goal.returns
@@ -36,7 +36,7 @@ returns c = λ front fits_front.
     let ok = is_some tail.fraction c.if-tail-eq1.false (omega (arith, c.if-tail-gt10.false)) in
     let low = c.with_last.ensures in
     let last : Window = record { low = c.with_last.result; high = tail.window.high; taken = tail.window.taken } in
-    let h = of_small tail zulu ok last (refl, refl) low.there low.others c.args.shape.now text c.in_ok-sums.digits _ _ _ _ c.requires.tail c.requires.numbered c.in_ok-sums.ensures (λ k. (omega (arith, c.type_inv.text k))) (omega (arith, c.if-text-lt-LANES.false)) in
+    let h = of_small tail zulu ok last (refl, refl) low.there low.others c.args.shape.now text c.in_ok-sums.digits _ _ _ _ c.requires.tail c.in_ok-sums.ensures.sums c.in_ok-sums.ensures.fraction (λ k. (omega (arith, c.type_inv.text k))) (omega (arith, c.if-text-lt-LANES.false)) in
     let all : c.args.shape.now.length + tail.fraction + 16 ≡ length text + 15 = omega (arith, c.if-text-lt-LANES.false, c.in_ok-tail.ensures.bytes ok, c.in_ok-tail.ensures.few, ap offset_at zulu) in
     let fraction = c.fraction_of.ensures in
     let spares = small_spares tail zulu ok last (refl, refl) low.there low.others in

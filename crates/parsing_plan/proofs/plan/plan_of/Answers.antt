@@ -1,7 +1,7 @@
 use Rattle.std.proofs.Common.{map}
 use Rattle.description_items.specs.Tree.{listed}
 use Rattle.parsing_components.specs.Reads.{reading_of_all}
-use Rattle.parsing_plan.proofs.Walk.{of_places, of_steps}
+use Rattle.parsing_plan.proofs.Walk.{of_places, of_list}
 use Rattle.parsing_plan.proofs.plan.plan_of.Goals as goal
 
 pub returns-in-Some : goal.returns-in-Some
@@ -10,4 +10,4 @@ returns-in-Some g c =
 
 pub returns : goal.returns
 returns g c =
-    of_steps (reading_of_all g.N.Node.language (listed (map g.N.Node.tree c.args.items.now))) c.in_ok-steps.steps c.in_ok-steps.ensures
+    of_list (reading_of_all g.N.Node.language (listed (map g.N.Node.tree c.args.items.now))) c.in_ok-listed.listed c.in_ok-listed.ensures

@@ -15,14 +15,14 @@ read_nodes-returns-in_err-rest-clause-answer g t c =
 pub read_nodes-returns-in_err-rest-clause-tally : goal.read_nodes-returns-in_err-rest-clause-tally
 read_nodes-returns-in_err-rest-clause-tally g t c =
     let more = stops_tried g.N.Node.language g.N.Node.tree c.args.nodes.now c.loop-node.node-index c.node-item.result c.loop-node.parsed c.loop-node.rest.now (reading_fault c.in_err-rest.field-0.0) c.loop-node-test.true c.node-item.is c.in_err-rest.ensures.answer in
-    subst (λ n. g.T.Tally.grows c.args.tally.now c.read_node.new.tally n) (sym (c.loop-node.invariant.3 ∙ ap (λ k. c.loop-node.invariant.1 + k) more))
+    subst (λ n. g.T.Tally.grows c.args.tally.now c.read_one.new.tally n) (sym (c.loop-node.invariant.3 ∙ ap (λ k. c.loop-node.invariant.1 + k) more))
     (g.met.T.Tally.joins _ _ _ _ _ c.loop-node.invariant.2 c.in_err-rest.ensures.tally)
 
 pub read_nodes-loop-node-preserved : goal.read_nodes-loop-node-preserved
 read_nodes-loop-node-preserved g t c =
     let begun = tried g.N.Node.language (g.N.Node.tree c.node-item.result) c.loop-node.parsed c.loop-node.rest.now in
-    let more = goes_on_tried g.N.Node.language g.N.Node.tree c.args.nodes.now c.loop-node.node-index c.node-item.result c.loop-node.parsed c.read_node.new.parsed c.loop-node.rest.now c.in_ok-rest.rest.now c.loop-node-test.true c.node-item.is c.in_ok-rest.ensures.answer in (
-      goes_on g.N.Node.language g.N.Node.tree c.args.nodes.now c.loop-node.node-index c.node-item.result c.loop-node.parsed c.read_node.new.parsed c.loop-node.rest.now c.in_ok-rest.rest.now _ c.loop-node-test.true c.node-item.is c.in_ok-rest.ensures.answer c.loop-node.invariant.0,
+    let more = goes_on_tried g.N.Node.language g.N.Node.tree c.args.nodes.now c.loop-node.node-index c.node-item.result c.loop-node.parsed c.read_one.new.parsed c.loop-node.rest.now c.in_ok-rest.rest.now c.loop-node-test.true c.node-item.is c.in_ok-rest.ensures.answer in (
+      goes_on g.N.Node.language g.N.Node.tree c.args.nodes.now c.loop-node.node-index c.node-item.result c.loop-node.parsed c.read_one.new.parsed c.loop-node.rest.now c.in_ok-rest.rest.now _ c.loop-node-test.true c.node-item.is c.in_ok-rest.ensures.answer c.loop-node.invariant.0,
       c.loop-node.invariant.1 + begun,
       g.met.T.Tally.joins _ _ _ _ _ c.loop-node.invariant.2 c.in_ok-rest.ensures.tally,
       omega (arith, more, c.loop-node.invariant.3),
@@ -100,8 +100,8 @@ pub read_node-read_first-requires : goal.read_node-read_first-requires
 unfolding size
 read_node-read_first-requires g t c κs within = let inside = ap size c.in-First.ensures in (omega (arith, inside, c.decreases), within)
 
-pub read_nodes-read_node-requires : goal.read_nodes-read_node-requires
-read_nodes-read_node-requires g t c κs within =
+pub read_nodes-read_one-requires : goal.read_nodes-read_one-requires
+read_nodes-read_one-requires g t c κs within =
     let one = one_of_them g.N.Node.tree c.args.nodes.now c.loop-node.node-index c.node-item.result c.loop-node-test.true in
     let same = ap (λ node. size (g.N.Node.tree node)) c.node-item.is in
     (omega (arith, one, same, c.decreases), within)

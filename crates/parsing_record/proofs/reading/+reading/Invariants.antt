@@ -22,6 +22,9 @@ invariant-read_nodes-loop-node g l =
 abbrev pub decreases-read_node : goal.decreases-read_node
 decreases-read_node g l = 3 * size (g.N.Node.tree l.node.now)
 
+abbrev pub decreases-read_one : goal.decreases-read_one
+decreases-read_one g l = 3 * size (g.N.Node.tree l.node.now) + 1
+
 abbrev pub decreases-read_optional : goal.decreases-read_optional
 decreases-read_optional g l = 3 * size (g.N.Node.tree l.node.now) + 1
 

@@ -1,20 +1,15 @@
-use Rattle.std.proofs.Common.{◌∙◌}
-use Rattle.parsing_layout.specs.Found.{values_in}
-use Rattle.parsing_layout.specs.declared.parts.Field.TheVariants as field
-use Rattle.parsing_item_parts.specs.Listed.{parts_listed}
-use Rattle.parsing_item_parts.proofs.SaidLemmas.{distinct, spared}
+use Rattle.parsing_layout.specs.Said.{fields_of}
+use Rattle.parsing_strides.specs.Found.{values_in}
+use Rattle.parsing_item_parts.specs.Listed.{IsWay, items_listed}
+use Rattle.parsing_item_parts.proofs.SaidLemmas.{way_of}
 use Rattle.parsing_item_parts.proofs.ReadingLemmas.{all_named}
 use Rattle.parsing_item_parts.proofs.listed.Listed.read.Goals as goal
 
-pub read-requires : goal.read-requires
-read-requires c = record { distinct = rw c.as_slice.ensures (distinct (parts_listed c.args.self.now) c.args.self.now.apart) }
-
-pub fields-requires : goal.fields-requires
-fields-requires c =
-    record { fraction = λ none. c.in_ok-rest.ensures.kept 9 (rw c.as_slice.ensures (spared (parts_listed c.args.self.now) field.Nanosecond none)) ∙ c.usual-found.ensures }
-
 pub returns : goal.returns
 returns c =
-    let says = rw c.as_slice.ensures at c.in_ok-rest.ensures.says in
-    λ m defaults is start. all_named m defaults (parts_listed c.args.self.now)
-    (values_in c.read.new.found) c.args.assumed c.args.line.now c.in_ok-rest.rest.now c.fields.result is start says c.if-rest-gt0.false c.fields.ensures.date c.fields.ensures.time c.fields.ensures.named
+    let l = c.args.self.now in
+    let read = c.in_ok-rest.ensures.says (items_listed l) l.made l.apart in
+    let v = values_in c.read.new.found in
+    let way : IsWay l (fields_of read.0) v = way_of l c.args.line.now v c.in_ok-rest.rest.now read.0 read.1 read.2 in
+    λ m defaults is start. all_named m defaults (items_listed l) read.0 v c.args.assumed c.args.line.now c.in_ok-rest.rest.now c.fields.result is start read.1
+    c.if-rest-gt0.false c.fields.ensures.range (c.fields.ensures.named (fields_of read.0) way)

@@ -6,5 +6,5 @@ returns-in-Places c = λ m defaults plan start. c.read.ensures m defaults (plan.
 pub returns-in-Unix : goal.returns-in-Unix
 returns-in-Unix c = λ m defaults plan start. c.read-in-Unix.ensures m defaults c.args.assumed (plan.1 c.in-Unix.unix c.in-Unix.is) start
 
-pub returns-in-Steps : goal.returns-in-Steps
-returns-in-Steps c = λ m defaults plan start. c.read-in-Steps.ensures m defaults (plan.2 c.in-Steps.steps c.in-Steps.is) start
+pub returns-in-Listed : goal.returns-in-Listed
+returns-in-Listed c = λ m defaults plan start. c.read-in-Listed.ensures m defaults (plan.2 c.in-Listed.listed c.in-Listed.is) start

@@ -1,0 +1,146 @@
+-- Lanes of vectors.
+use Rattle.std.proofs.Common.{◌≡◌, ◌≤◌, ◌<◌, ◌+◌, ◌-◌, ◌*◌, ◌^◌, ◌/◌, ◌%◌, ◌∙◌, ℕ, zero, suc, Bool, true, false, cond, List, [], ◌∷◌, length, get_or, refl, sym, ap, arith, w8, inl, inr}
+use Rattle.std.specs.Prelude.{nat_le, nat_eq, replicate}
+use Rattle.std.proofs.lemmas.Bool.{cases_lt, agree_below_at}
+use Rattle.std.proofs.lemmas.Bool.Decides.{nat_tests}
+use Rattle.std.proofs.lemmas.Simd.{get_or-zip2, length-zip2, mask_l-mod, get_or-replicate, length-replicate, tops_compared, get_or-sel_l, swz_l, get_or-swz_l}
+use Rattle.parsing_places.specs.Lanes.{are_moves}
+use lib.Dec.{T, ltb}
+use lib.Lanes.{Each1, zip2, mask_l, top, sel_l}
+use mathlib.Core.Bool.{◌&&◌, ◌||◌}
+use mathlib.Core.List.{map}
+use mir.Val.{zeroes}
+use mir.ValLaws.{and_both}
+
+-- ---- numbers of two digits
+
+abbrev plus : ℕ → ℕ → ℕ
+plus a b = (a + b) % 256
+
+abbrev adds : List ℕ → List ℕ → List ℕ
+adds = zip2 plus
+
+long : (xs ys : List ℕ) → length xs ≡ 16 → length ys ≡ 16 → length (adds xs ys) ≡ 16
+long xs ys n m = length-zip2 plus xs ys (n ∙ sym m) ∙ n
+
+add_at : (xs ys : List ℕ) (k : ℕ) → length xs ≡ 16 → length ys ≡ 16 → k < 16 → get_or (adds xs ys) k 0 ≡ plus (get_or xs k 0) (get_or ys k 0)
+add_at xs ys k n m lt = get_or-zip2 plus xs ys k 0 0 0 (omega (arith, n, lt)) (omega (arith, m, lt))
+
+pub number_lane : (t o : List ℕ) (k : ℕ) → length t ≡ 16 → length o ≡ 16 → k < 16 → get_or t k 0 * 10 + get_or o k 0 < 256
+    → get_or (adds (adds (adds (adds (adds t t) (adds t t)) (adds (adds t t) (adds t t))) (adds t t)) o) k 0 ≡ get_or t k 0 * 10 + get_or o k 0
+number_lane t o k n m lt small =
+    let twice = adds t t in
+    let two = long t t n n in
+    let four = adds twice twice in
+    let fourth = long twice twice two two in
+    let eight = adds four four in
+    let eighth = long four four fourth fourth in
+    let a = add_at t t k n n lt in
+    let b = add_at twice twice k two two lt in
+    let c = add_at four four k fourth fourth lt in
+    let d = add_at eight twice k eighth two lt in
+    let e = add_at (adds eight twice) o k (long eight twice eighth two) m lt in
+    omega (arith, a, b, c, d, e, small)
+
+-- ---- a test of all lanes
+
+all_true : (ms : List Bool) (n : ℕ) → length ms ≡ n → mask_l ms + 1 ≡ 2 ^ n → (k : ℕ) → k < n → get_or ms k false ≡ true
+all_true [] n long e k lt = absurd (omega (arith, long, lt))
+all_true (m ∷ ms) zero long e k lt = absurd (omega (arith, lt))
+all_true (true ∷ ms) (suc n) long e zero lt = refl
+all_true (true ∷ ms) (suc n) long e (suc k) lt = all_true ms n (omega (arith, long)) (omega (arith, e)) k (omega (arith, lt))
+all_true (false ∷ ms) (suc n) long e k lt = absurd (omega (arith, e))
+
+at_most : (a b : ℕ) → nat_le a b ≡ true → a ≤ b
+at_most a b e = grind (arith, nat_tests)
+
+pub all_pass : (xs ys : List ℕ) → length xs ≡ 16 → length ys ≡ 16 → nat_eq (mask_l (map (top 7) (zip2 (λ a b. cond (nat_le a b) 255 0) xs ys)) % 18446744073709551616) 65535 ≡ true
+    → (k : ℕ) → k < 16 → get_or xs k 0 ≤ get_or ys k 0
+all_pass xs ys n m e k lt =
+    let bits : List Bool = zip2 nat_le xs ys in
+    let size : length bits ≡ 16 = length-zip2 nat_le xs ys (n ∙ sym m) ∙ n in
+    let same = mask_l-mod bits 64 (omega (arith, size)) in
+    let passed : nat_eq (mask_l bits % 18446744073709551616) 65535 ≡ true = rw (tops_compared w8 nat_le xs ys) at e in
+    let all : mask_l bits % 18446744073709551616 ≡ 65535 = grind (arith, nat_tests, passed) in
+    let whole : mask_l bits + 1 ≡ 2 ^ 16 = omega (arith, same, all) in
+    let here : get_or bits k false ≡ nat_le (get_or xs k 0) (get_or ys k 0) = get_or-zip2 nat_le xs ys k 0 0 false (omega (arith, n, lt)) (omega (arith, m, lt)) in
+    at_most _ _ (sym here ∙ all_true bits 16 size whole k lt)
+
+-- ---- lanes of two vectors
+
+pub put_lane : (js ls ns : List ℕ) (k : ℕ) → length js ≡ 16 → length ls ≡ 16 → length ns ≡ 16 → k < 16
+    → get_or (sel_l (map (top 7) (zip2 (λ a b. cond (nat_le a b) 255 0) (replicate 16 128) js)) ls ns) k 0 ≡ cond (nat_le 128 (get_or js k 0)) (get_or ls k 0) (get_or ns k 0)
+put_lane js ls ns k n m o lt =
+    let large : List ℕ = replicate 16 128 in
+    let sixteen : length large ≡ 16 = length-replicate {A = ℕ} 16 128 in
+    let bits : List Bool = zip2 nat_le large js in
+    let size : length bits ≡ 16 = length-zip2 nat_le large js (sixteen ∙ sym n) ∙ sixteen in
+    let there : get_or bits k false ≡ nat_le (get_or large k 0) (get_or js k 0) = get_or-zip2 nat_le large js k 0 0 false (omega (arith, sixteen, lt)) (omega (arith, n, lt)) in
+    let limit : get_or large k 0 ≡ 128 = get_or-replicate {A = ℕ} 16 k 128 0 lt in
+    ap (λ ms. get_or (sel_l ms ls ns) k 0) (tops_compared w8 nat_le large js) ∙ get_or-sel_l bits ls ns k 0 (omega (arith, size, lt)) (omega (arith, m, lt)) (omega (arith, o, lt))
+    ∙ ap (λ b. cond b (get_or ls k 0) (get_or ns k 0)) (there ∙ ap (λ a. nat_le a (get_or js k 0)) limit)
+
+pub small_there : (j a b : ℕ) → j < 128 → cond (nat_le 128 j) a b ≡ b
+small_there j a b lt = grind (arith, nat_tests)
+
+pub large_there : (j a b : ℕ) → 128 ≤ j → cond (nat_le 128 j) a b ≡ a
+large_there j a b le = grind (arith, nat_tests)
+
+-- ---- lanes that are moved
+
+pub each_moves : (js : List ℕ) → T (are_moves js) → Each1 (λ j. T (zeroes 16 w8 j || ltb j 16)) js
+each_moves [] h = tt
+each_moves (j ∷ js) h = let b = and_both (zeroes 16 w8 j || ltb j 16) (are_moves js) h in (b.0, each_moves js b.1)
+
+pub taken_lane : (xs js : List ℕ) (k : ℕ) → length js ≡ 16 → k < 16 → get_or js k 0 < 16 → get_or (swz_l w8 16 xs 0 js) k 0 ≡ get_or xs (get_or js k 0) 0
+taken_lane xs js k n lt small =
+    let zeroed : zeroes 16 w8 (get_or js k 0) ≡ false = grind (arith, nat_tests) in
+    let block : 16 * ((0 + k) / 16) + get_or js k 0 ≡ get_or js k 0 = omega arith in
+    get_or-swz_l w8 16 xs 0 js k (omega (arith, n, lt)) ∙ rw (zeroed, block) refl
+
+pub no_lane : (xs js : List ℕ) (k : ℕ) → length js ≡ 16 → k < 16 → 128 ≤ get_or js k 0 → get_or (swz_l w8 16 xs 0 js) k 0 ≡ 0
+no_lane xs js k n lt large =
+    let zeroed : zeroes 16 w8 (get_or js k 0) ≡ true = grind (arith, nat_tests) in
+    get_or-swz_l w8 16 xs 0 js k (omega (arith, n, lt)) ∙ rw zeroed refl
+
+one_move : (j : ℕ) (rest : Bool) → (16 ≤ j → 128 ≤ j) → rest ≡ true → ((zeroes 16 w8 j || ltb j 16) && rest) ≡ true
+one_move j rest h e = elim (cases_lt j 16) [
+  | inl small ↦ grind (arith, nat_tests, small, e)
+  | inr large ↦ let zero = h large in grind (arith, nat_tests, zero, e)
+]
+
+moves_all : (js : List ℕ) → ((k : ℕ) → k < length js → 16 ≤ get_or js k 0 → 128 ≤ get_or js k 0) → are_moves js ≡ true
+moves_all [] h = refl
+moves_all (j ∷ js) h = one_move j (are_moves js) (h 0 (omega arith)) (moves_all js (λ k lt. h (suc k) (omega (arith, lt))))
+
+-- all lanes in order, and then as many that take nothing
+abbrev pub down : List ℕ
+down = 0 ∷ 1 ∷ 2 ∷ 3 ∷ 4 ∷ 5 ∷ 6 ∷ 7 ∷ 8 ∷ 9 ∷ 10 ∷ 11 ∷ 12 ∷ 13 ∷ 14 ∷ 15 ∷ 128 ∷ 128 ∷ 128 ∷ 128 ∷ 128 ∷ 128 ∷ 128 ∷ 128 ∷ 128 ∷ 128 ∷ 128 ∷ 128 ∷ 128 ∷ 128 ∷ 128 ∷ 128 ∷ []
+
+down_at : (k : ℕ) → k < 16 → get_or down k 0 ≡ k
+down_at k lt = let h = agree_below_at (λ k. nat_eq (get_or down k 0) k) (λ _. true) 16 k refl lt in grind (arith, nat_tests, h)
+
+down_past : (k : ℕ) → 16 ≤ k → k < 32 → get_or down k 0 ≡ 128
+down_past k le lt =
+    let h = agree_below_at (λ j. nat_eq (get_or down (16 + j) 0) 128) (λ _. true) 16 (k - 16) refl (omega (arith, le, lt)) in
+    let same : 16 + (k - 16) ≡ k = omega (arith, le) in
+    let there : nat_eq (get_or down k 0) 128 ≡ true = rw same at h in
+    grind (arith, nat_tests, there)
+
+-- a vector of them from one on
+abbrev pub IsRow : List ℕ → ℕ → Type 0
+IsRow js by = (k : ℕ) → k < 16 → get_or js k 0 ≡ get_or down (by + k) 0
+
+one_right : (js : List ℕ) (by k : ℕ) → IsRow js by → by ≤ 16 → k < 16 → 16 ≤ get_or js k 0 → 128 ≤ get_or js k 0
+one_right js by k row le lt large = elim (cases_lt (by + k) 16) [
+  | inl near ↦ absurd (omega (arith, large, row k lt, down_at (by + k) near, near))
+  | inr far ↦ omega (arith, row k lt, down_past (by + k) far (omega (arith, le, lt)))
+]
+
+pub row_right : (js : List ℕ) (by : ℕ) → length js ≡ 16 → IsRow js by → by ≤ 16 → are_moves js ≡ true
+row_right js by n row le = moves_all js (λ k lt large. one_right js by k row le (omega (arith, lt, n)) large)
+
+pub moved_lane : (bytes js : List ℕ) (by k : ℕ) → length js ≡ 16 → IsRow js by → by + k < 16 → get_or (swz_l w8 16 bytes 0 js) k 0 ≡ get_or bytes (by + k) 0
+moved_lane bytes js by k n row lt =
+    let there : get_or js k 0 ≡ by + k = row k (omega (arith, lt)) ∙ down_at (by + k) lt in
+    taken_lane bytes js k n (omega (arith, lt)) (omega (arith, there, lt)) ∙ ap (λ j. get_or bytes j 0) there

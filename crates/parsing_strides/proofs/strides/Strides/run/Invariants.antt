@@ -1,0 +1,6 @@
+use Rattle.std.proofs.Common.{take}
+use Rattle.parsing_strides.proofs.StepLemmas.{SoFar}
+use Rattle.parsing_strides.proofs.strides.Strides.run.Given as goal
+
+abbrev pub invariant-loop-step : goal.invariant-loop-step
+invariant-loop-step l = SoFar (take l.step-index l.steps) l.line l.rest l.fn.found l.found

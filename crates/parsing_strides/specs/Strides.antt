@@ -1,0 +1,96 @@
+-- Whether strides were made for the parts of a layout.
+use Rattle.std.specs.Prelude.{◌&&◌, ◌||◌, ◌==◌, ◌+◌, ◌-◌, ℕ, Bool, true, false, nat_lt, nat_le, List, [], ◌∷◌, get_or, length, take, drop}
+use Rattle.parsing_layout.specs.Layout.{width}
+use Rattle.parsing_layout.specs.declared.parts.Field.{Field}
+use Rattle.parsing_layout.specs.declared.parts.Part.{Part}
+use Rattle.parsing_layout.specs.Items.{all_certain, are_certain}
+use Rattle.parsing_layout.specs.Said.{place_of, fields_of}
+use Rattle.parsing_layout.specs.declared.items.Item.{Item}
+use Rattle.parsing_layout.specs.declared.items.Item.TheVariants as item
+use Rattle.parsing_layout.specs.contracts.parts.PartPartialEq.TheImpl as part_equality
+use Rattle.parsing_layout.specs.declared.parts.Field.TheVariants as field
+use Rattle.parsing_layout.specs.declared.parts.Part.TheVariants as part
+use Rattle.parsing_strides.specs.Places.{lets}
+use Rattle.parsing_strides.specs.declared.stride.Stride.{Stride}
+use Rattle.parsing_strides.specs.declared.step.Step.{Step}
+use Rattle.parsing_strides.specs.declared.step.Step.TheVariants as step
+use Rattle.parsing_strides.specs.declared.strides.Strides.{Strides}
+
+-- ---- what a stride takes
+
+-- for the number of a lane two digits, or one
+abbrev pub takes_two : Stride → ℕ → ℕ → Bool
+takes_two s lane at = lets s.low s.most at 48 9 && (lets s.low s.most (at + 1) 48 9 && ((get_or s.tens.lanes lane 0 == at) && (get_or s.ones.lanes lane 0 == at + 1)))
+
+abbrev pub takes_one : Stride → ℕ → ℕ → Bool
+takes_one s lane at = lets s.low s.most at 48 9 && (nat_le 128 (get_or s.tens.lanes lane 0) && (get_or s.ones.lanes lane 0 == at))
+
+abbrev pub takes_lane : Stride → ℕ → ℕ → ℕ → Bool
+takes_lane s lane n at = nat_lt lane 14 && (((n == 2) && takes_two s lane at) || ((n == 1) && takes_one s lane at))
+
+abbrev pub takes_digits : Stride → Field → ℕ → ℕ → Bool
+takes_digits s field.Year n at = (n == 4) && (at == s.year)
+takes_digits s f n at = takes_lane s (place_of f) n at
+
+-- a part at a place: a sign is the byte itself
+abbrev pub takes_part : Stride → Part → ℕ → Bool
+takes_part s (part.Byte c) at = nat_lt c 256 && lets s.low s.most at c 0
+takes_part s part.Any at = true
+takes_part s (part.Digits f n) at = takes_digits s f n at
+takes_part s part.Sign at = (get_or s.low at 0 == 0) && (nat_le 128 (get_or s.tens.lanes 8 0) && (get_or s.ones.lanes 8 0 == at))
+takes_part s other at = false
+
+-- parts one after the other, and no byte after them
+abbrev pub takes_all : Stride → List Part → ℕ → Bool
+takes_all s [] at = at == s.length
+takes_all s (p ∷ ps) at = nat_lt at s.length && (nat_le (width p) (s.length - at) && (takes_part s p at && takes_all s ps (at + width p)))
+
+-- ---- and what it leaves as it is
+
+abbrev pub keeps : Stride → Field → Bool
+keeps s field.Year = s.year == 16
+keeps s f = nat_le 14 (place_of f) || nat_le 128 (get_or s.ones.lanes (place_of f) 0)
+
+-- of these fields all but those that parts say
+abbrev pub keep_others : Stride → List Part → List Field → Bool
+keep_others s ps [] = true
+keep_others s ps (f ∷ fs) = (fields_of ps f || keeps s f) && keep_others s ps fs
+
+-- the fields whose numbers a stride may read
+abbrev pub read_fields : List Field
+read_fields = field.Month ∷ field.Day ∷ field.Weekday ∷ field.Hour ∷ field.HourOfHalf ∷ field.Half ∷ field.Minute ∷ field.Second ∷ field.Sign ∷ field.OffsetHour ∷ field.OffsetMinute ∷ field.IsoWeek ∷ field.OrdinalTens ∷ field.OrdinalOnes ∷ field.Year ∷ []
+
+-- the stride was made for the parts
+abbrev pub fits_stride : Stride → List Part → Bool
+fits_stride s ps = takes_all s ps 0 && keep_others s ps read_fields
+
+-- ---- lists of steps
+
+-- how many items a step reads
+abbrev pub count_of : Step → ℕ
+count_of (step.Part p) = 1
+count_of (step.Optional b p) = 1
+count_of (step.Stride s) = s.count
+
+-- one item alone
+abbrev pub is_alone : Part → List Item → Bool
+is_alone p (item.Part q ∷ []) = part_equality.ghosts.eq p q
+is_alone p other = false
+
+abbrev pub is_optional : ℕ → Part → List Item → Bool
+is_optional b p (item.Optional c q ∷ []) = (b == c) && part_equality.ghosts.eq p q
+is_optional b p other = false
+
+abbrev pub fits_step : Step → List Item → Bool
+fits_step (step.Part p) is = is_alone p is
+fits_step (step.Optional b p) is = is_optional b p is
+fits_step (step.Stride s) is = are_certain is && fits_stride s (all_certain is)
+
+abbrev pub are_made : List Step → List Item → Bool
+are_made [] [] = true
+are_made [] (i ∷ is) = false
+are_made (s ∷ ss) is = nat_le (count_of s) (length is) && (fits_step s (take (count_of s) is) && are_made ss (drop (count_of s) is))
+
+-- the strides were made for the items
+abbrev pub made : Strides → List Item → Bool
+made s is = are_made (take s.count s.steps) is
