@@ -1,5 +1,5 @@
 -- What lanes take of a text's front, and what is read beside them, the text says.
-use Rattle.std.proofs.Common.{◌≡◌, ◌≤◌, ◌<◌, ◌+◌, ◌-◌, ◌*◌, ◌/◌, ◌%◌, ◌∙◌, ◌&&◌, ◌==◌, ℕ, Bool, true, false, List, ◌∷◌, get_or, length, drop, Option, Some, None, refl, sym, ap, arith, lit<, lit≤, leb, inl, inr, bit_and}
+use Rattle.std.proofs.Common.{◌≡◌, ◌≤◌, ◌<◌, ◌+◌, ◌-◌, ◌*◌, ◌/◌, ◌%◌, ◌∙◌, ◌&&◌, ◌==◌, ℕ, Bool, true, false, List, ◌∷◌, get_or, length, drop, Option, Some, None, refl, sym, ap, arith, lit<, leb, inl, inr, bit_and}
 use Rattle.std.specs.Prelude.{nat_le, is_some, ◌⊎◌}
 use Rattle.std.specs.Option.{ForSome}
 use Rattle.std.specs.Char.{is_ascii_digit}
@@ -15,7 +15,7 @@ use Rattle.parsing_places.proofs.NumberLemmas.{one_taken, byte_within}
 use Rattle.parsing_layout.specs.Beside.{AreRead, HasSpaced, ReadAt, is_at, is_beside, is_fraction_at, is_ready, has_digits, has_room, stands, takes_ones}
 use Rattle.parsing_layout.specs.Front.{fits_beside, takes_beside}
 use Rattle.parsing_layout.specs.Layout.{Field, Part, Values, Says, field_of, piece_of, value_at, value_of, width}
-use Rattle.parsing_layout.specs.Shape.{lane_values, number_in, own, pair_of, takes_part}
+use Rattle.parsing_layout.specs.Shape.{lane_values, number_in, own, pair_of}
 use Rattle.parsing_layout.specs.Sums.{AreSums}
 use Rattle.parsing_layout.specs.Windows.{lets_at, spares_one, takes_one}
 use Rattle.parsing_layout.specs.declared.front.Beside.{Beside}

@@ -1,8 +1,7 @@
 -- What a text says by items.
-use Rattle.std.proofs.Common.{◌≡◌, ◌∙◌, ◌||◌, Bool, true, false, ℕ, List, [], ◌∷◌, ◌++◌, map, Some, refl, sym, ap, append_assoc, inl, inr}
-use Rattle.parsing_layout.specs.Items.{Item, IsThere, SaysItem, SaysItems, possible, all_certain, all_possible, are_certain}
-use Rattle.parsing_layout.specs.Layout.{Field, Part, Values, Says, piece_of, value_of, field_of}
-use Rattle.parsing_layout.specs.Said.{is_of, fields_of}
+use Rattle.std.proofs.Common.{◌≡◌, ◌∙◌, true, ℕ, List, [], ◌∷◌, ◌++◌, map, Some, refl, sym, ap, append_assoc}
+use Rattle.parsing_layout.specs.Items.{Item, IsThere, SaysItems, possible, all_certain, all_possible, are_certain}
+use Rattle.parsing_layout.specs.Layout.{Part, Values, Says, piece_of, value_of}
 use Rattle.parsing_layout.specs.declared.items.Item.TheVariants as item
 
 -- ---- parts that all stand there

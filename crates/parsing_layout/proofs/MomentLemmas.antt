@@ -1,5 +1,5 @@
 -- A text that two windows and one over its end take says a layout, a fraction and a zone, and fields are those of its sums.
-use Rattle.std.proofs.Common.{◌≡◌, ◌≤◌, ◌<◌, ◌+◌, ◌-◌, ◌*◌, ◌%◌, ◌∙◌, ◌&&◌, ◌==◌, ℕ, Bool, true, false, List, [], ◌++◌, get_or, length, drop, Some, Ok, ℤ, pos, refl, sym, arith, lit<, lit≤, inl, inr}
+use Rattle.std.proofs.Common.{◌≡◌, ◌≤◌, ◌<◌, ◌+◌, ◌-◌, ◌*◌, ◌%◌, ◌∙◌, ◌&&◌, ◌==◌, ℕ, Bool, true, false, List, [], ◌++◌, get_or, length, drop, Some, Ok, ℤ, pos, refl, arith, lit<, lit≤, inl, inr}
 use Rattle.std.specs.Prelude.{◌⊎◌, ◌*ℤ◌, nat_eq}
 use Rattle.std.proofs.lemmas.Bool.{cases_lt}
 use Rattle.std.proofs.lemmas.Bool.Decides.{nat_tests}
@@ -7,13 +7,12 @@ use Rattle.std.proofs.lemmas.List.{drop_all}
 use Rattle.base.specs.Bytes.{dot, hyphen}
 use Rattle.parsing_combinator.specs.Pieces as Pieces
 use Rattle.parsing_fields.specs.Written.{WriteFraction}
-use Rattle.parsing_fields.specs.declared.fields.Fields.{Fields}
 use Rattle.parsing_places.specs.Windows.{SpareTwo}
 use Rattle.parsing_places.specs.declared.shape.Window.{Window}
 use Rattle.parsing_places.proofs.ReadLemmas.{or_zero, zero_or}
 use Rattle.parsing_values.specs.Resolution.{signed_offset_of}
 use Rattle.parsing_layout.specs.Layout.{Part, Values, Says, length_of}
-use Rattle.parsing_layout.specs.Moment.{AreTaken, AreInRange, AreOfSums, HasOffset, SaysTailed}
+use Rattle.parsing_layout.specs.Moment.{AreTaken, AreInRange, HasOffset}
 use Rattle.parsing_layout.specs.Shape.{fits, of_clock, own, lane_values}
 use Rattle.parsing_layout.specs.Sums.{AreFew}
 use Rattle.parsing_layout.specs.Tail.{FitsEnd, SparesOffset, IsEnd, fraction_parts}
@@ -21,7 +20,7 @@ use Rattle.parsing_layout.specs.Windows.{spares_two, is_bounded, is_offset_bound
 use Rattle.parsing_layout.specs.declared.shape.Shape.{Shape}
 use Rattle.parsing_layout.proofs.LayoutLemmas.{says_both}
 use Rattle.parsing_layout.proofs.TakenLemmas.{lanes_say, bounded}
-use Rattle.parsing_layout.proofs.TailLemmas.{fraction_says, none_written, end_says, end_few, end_none}
+use Rattle.parsing_layout.proofs.TailLemmas.{fraction_says, end_says, end_few, end_none}
 use Rattle.parsing_layout.proofs.WindowLemmas.{both, spare_two, year_pairs}
 
 -- what is known of the lanes that a shape bounds, where a tail has the offset
@@ -160,33 +159,3 @@ module _ (s : Shape) (w : Window) (text : List ℕ) (d m o t : ℕ) (tail : s.ha
         let plain : nat_eq (t % 4) 2 ≡ false = let zero : t % 4 ≡ 0 = omega (arith, x.seconds_are, none) in rw zero refl in
         rw plain at (value 0 0 (omega (arith, x.offsets_are, none)) (lit≤ tt) (lit≤ tt))
     offset_said minutes value false utc = signed_said x.n o t minutes few x.offsets_are x.seconds_are even value
-
-  module _ (nanosecond bytes : ℕ) (front zone : List Part) (fits_front : fits s front ≡ true) (fits_end : FitsEnd w zone) (sixteen : 16 ≤ length text) (p : IsPlaced s zone text bytes nanosecond)
-      (bound : nanosecond < 1_000_000_000) (is_utc : Bool) (more : bytes ≡ 1 → ⊥) (utc : is_utc ≡ true → SparesOffset w) where
-    -- the central lemma of texts with a tail
-    pub tail_said : (f : Fields) → AreOfSums f text s.year d m o t nanosecond → SaysTailed front is_utc zone text f
-    tail_said f y =
-        let h = y.numbers in
-        let v = values f.year nanosecond bytes front zone y.year_is y.even fits_front fits_end sixteen p in
-        record {
-          bytes = bytes;
-          more = more;
-          moment = record {
-            values = v;
-            says = says_both front (fraction_parts bytes ++ zone) text (drop s.length text) [] v (front_said f.year nanosecond bytes front zone y.year_is y.even fits_front fits_end sixteen p) (end_said f.year nanosecond bytes front zone y.year_is y.even fits_front fits_end sixteen p);
-            numbers = record {
-              same_year = h.same_year;
-              same_month = h.same_month ∙ (omega (arith, x.days_are, few.month));
-              same_day = h.same_day ∙ (omega (arith, x.days_are, few.month));
-              same_minute = omega (arith, h.same_minute, x.minutes_are);
-              same_second = h.same_second ∙ (omega (arith, x.seconds_are, few.sign));
-              same_fraction = h.same_fraction;
-              same_offset = refl;
-            };
-            hour_few = omega (arith, x.minutes_are, h.same_minute, f.within_a_day);
-            minute_few = few.minute;
-            fraction_few = bound;
-            offset_is = offset_said f.year nanosecond bytes front zone y.year_is y.even fits_front fits_end sixteen p f.offset y.value is_utc utc;
-          };
-          none = λ e. none_written _ (bytes - 1) nanosecond (omega (arith, e)) p.written;
-        }

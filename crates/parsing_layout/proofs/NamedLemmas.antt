@@ -1,15 +1,18 @@
 -- A text that two windows take says a layout, and fields are those of its sums and of a month.
 use Rattle.std.proofs.Common.{◌≡◌, ◌≤◌, ◌<◌, ◌+◌, ◌*◌, ◌%◌, ◌∙◌, ◌&&◌, ℕ, true, false, List, get_or, length, drop, refl, arith, lit<, lit≤, inl, inr}
+use Rattle.parsing_fields.specs.Numbers.{HaveNumbers}
 use Rattle.parsing_fields.specs.declared.fields.Fields.{Fields}
 use Rattle.parsing_places.specs.Windows.{Taken}
 use Rattle.parsing_places.proofs.NumberLemmas.{nothing_taken, sign_taken}
 use Rattle.parsing_places.proofs.ReadLemmas.{Paired}
 use Rattle.parsing_layout.specs.Layout.{Part}
-use Rattle.parsing_layout.specs.Moment.{AreInRange, AreOfSums}
+use Rattle.parsing_layout.specs.Moment.{AreInRange}
 use Rattle.parsing_layout.specs.Named.{SaysNamed}
+use Rattle.parsing_layout.specs.Numbers.{AreOfSums}
 use Rattle.parsing_layout.specs.Shape.{fits, lane_values, own}
 use Rattle.parsing_layout.specs.Sums.{AreFew, AreSums}
 use Rattle.parsing_layout.specs.Windows.{source, spares_two, takes_sign, is_bounded, is_sign_bounded, is_offset_bounded}
+use Rattle.parsing_layout.specs.declared.numbers.Numbers.{Numbers}
 use Rattle.parsing_layout.specs.declared.shape.Shape.{Shape}
 use Rattle.parsing_layout.proofs.MomentLemmas.{signed_said}
 use Rattle.parsing_layout.proofs.TakenLemmas.{lanes_say, bounded, paired_first}
@@ -84,23 +87,23 @@ module _ (s : Shape) (text : List ℕ) (d m o t month : ℕ) (x : AreSums s text
   in_range = sums_in_range s text d m o t x small long month (omega (arith, x.days_are, no_month, x.few.day, known))
 
   -- the central lemma of texts without a tail
-  pub named_said : (f : Fields) → AreOfSums f text s.year (d + month) m o t 0 → (parts : List Part) → fits s parts ≡ true → SaysNamed parts month text (drop s.length text) f
-  named_said f y parts fits_parts =
+  pub named_said : (n : Numbers) (f : Fields) → AreOfSums n true text s.year (d + month) m o t 0 → HaveNumbers f n.year n.high n.low n.minute n.second n.fraction n.offset → (parts : List Part) → fits s parts ≡ true
+      → SaysNamed parts month text (drop s.length text) f
+  named_said n f y h parts fits_parts =
       let even : get_or x.n 12 0 % 2 ≡ 0 = omega (arith, x.seconds_are, y.even) in
-      let numbers = y.numbers in
       record {
-        values = lane_values f.year 0 x.n;
-        says = lanes_say s text x.front x.both x.n f.year 0 x.front_taken x.own_lane x.paired small long y.year_is even parts fits_parts;
+        values = lane_values n.year 0 x.n;
+        says = lanes_say s text x.front x.both x.n n.year 0 x.front_taken x.own_lane x.paired small long y.year_is even parts fits_parts;
         numbers = record {
-          same_year = numbers.same_year;
-          same_month = numbers.same_month ∙ (omega (arith, x.days_are, no_month, known));
-          same_day = numbers.same_day ∙ (omega (arith, x.days_are, no_month, known));
-          same_minute = omega (arith, numbers.same_minute, x.minutes_are);
-          same_second = numbers.same_second ∙ (omega (arith, x.seconds_are, x.few.sign));
-          same_fraction = numbers.same_fraction;
+          same_year = h.same_year;
+          same_month = h.same_month ∙ y.high_is ∙ (omega (arith, x.days_are, no_month, known));
+          same_day = h.same_day ∙ y.low_is ∙ (omega (arith, x.days_are, no_month, known));
+          same_minute = omega (arith, h.same_minute, y.minute_is, x.minutes_are);
+          same_second = h.same_second ∙ y.second_is ∙ (omega (arith, x.seconds_are, x.few.sign));
+          same_fraction = h.same_fraction ∙ y.fraction_is;
           same_offset = refl;
         };
-        hour_few = omega (arith, x.minutes_are, numbers.same_minute, f.within_a_day);
+        hour_few = omega (arith, x.minutes_are, y.minute_is, n.within_a_day);
         minute_few = x.few.minute;
-        offset_is = signed_said x.n o t f.offset x.few x.offsets_are x.seconds_are y.even y.value;
+        offset_is = rw h.same_offset (signed_said x.n o t n.offset x.few x.offsets_are x.seconds_are y.even y.value);
       }

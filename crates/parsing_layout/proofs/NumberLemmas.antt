@@ -1,15 +1,19 @@
 -- What lanes take of a text, and of its end, as the numbers of what it says.
-use Rattle.std.proofs.Common.{◌≡◌, ◌≤◌, ◌<◌, ◌/◌, ◌∙◌, ◌==◌, ℕ, Bool, true, false, List, get_or, length, refl, sym, ap, arith}
+use Rattle.std.proofs.Common.{◌≡◌, ◌≤◌, ◌<◌, ◌/◌, ◌∙◌, ◌==◌, ℕ, Bool, true, false, List, [], ◌++◌, drop, get_or, length, refl, sym, ap, arith}
 use Rattle.std.proofs.lemmas.Bool.Decides.{nat_tests}
+use Rattle.parsing_fields.specs.Numbers.{HaveNumbers}
+use Rattle.parsing_fields.specs.declared.fields.Fields.{Fields}
 use Rattle.parsing_places.specs.Tail.{is_fraction}
 use Rattle.parsing_places.specs.declared.lanes.Moves.{Moves}
 use Rattle.parsing_places.specs.declared.shape.Window.{Window}
 use Rattle.parsing_layout.specs.Layout.{Part, length_of}
+use Rattle.parsing_layout.specs.Moment.{SaysTailed}
 use Rattle.parsing_layout.specs.Numbers.{AreOfSums, SaysNumbers, second_if}
 use Rattle.parsing_layout.specs.Shape.{fits, takes_all, takes_part}
-use Rattle.parsing_layout.specs.Tail.{FitsEnd, SparesOffset}
+use Rattle.parsing_layout.specs.Tail.{FitsEnd, SparesOffset, fraction_parts}
 use Rattle.parsing_layout.specs.declared.numbers.Numbers.{Numbers}
 use Rattle.parsing_layout.specs.declared.shape.Shape.{Shape}
+use Rattle.parsing_layout.proofs.LayoutLemmas.{says_both}
 use Rattle.parsing_layout.proofs.MomentLemmas.{IsPlaced, are_few, values, front_said, end_said, offset_said}
 use Rattle.parsing_layout.proofs.TailLemmas.{none_written}
 use Rattle.parsing_layout.proofs.TailedLemmas.{Whole}
@@ -49,3 +53,31 @@ module _ (s : Shape) (w : Window) (moves : Moves) (text digits : List ℕ) (d m 
         fraction_few = omega (arith, y.fraction_is, bound);
         offset_is = offset_said s w text d m o t h.tail h.is_end x h.small n.year nanosecond bytes front zone y.year_is y.even fits_front fits_end h.sixteen p n.offset y.value is_utc utc;
       }
+
+-- ---- fields
+
+-- fields on the day of a month that numbers have
+pub tailed : (front zone : List Part) (is_utc : Bool) (bytes : ℕ) (text : List ℕ) (n : Numbers) (f : Fields) → SaysNumbers true is_utc front bytes zone text n → HaveNumbers f n.year n.high n.low n.minute n.second n.fraction n.offset → SaysTailed front is_utc zone text f
+tailed front zone is_utc bytes text n f x h =
+    record {
+      bytes = bytes;
+      more = x.more;
+      moment = record {
+        values = x.values;
+        says = says_both front (fraction_parts bytes ++ zone) text (drop (length_of front) text) [] x.values x.front_says x.end_says;
+        numbers = record {
+          same_year = h.same_year ∙ sym x.dated.year;
+          same_month = h.same_month ∙ sym x.dated.month;
+          same_day = h.same_day ∙ sym x.dated.day;
+          same_minute = h.same_minute ∙ x.minutes_are;
+          same_second = h.same_second ∙ x.second_is;
+          same_fraction = h.same_fraction ∙ sym x.fraction_is;
+          same_offset = refl;
+        };
+        hour_few = x.hour_few;
+        minute_few = x.minute_few;
+        fraction_few = rw x.fraction_is x.fraction_few;
+        offset_is = rw h.same_offset x.offset_is;
+      };
+      none = λ e. x.fraction_is ∙ x.none e;
+    }

@@ -1,8 +1,7 @@
 -- What lanes take of a text and of its end, by the places of a fraction.
-use Rattle.std.proofs.Common.{◌≡◌, ◌≤◌, ◌<◌, ◌+◌, ◌-◌, ◌∙◌, ◌==◌, ℕ, Bool, true, false, List, get_or, length, drop, refl, arith, lit<, lit≤, inl}
+use Rattle.std.proofs.Common.{◌≡◌, ◌≤◌, ◌<◌, ◌+◌, ◌-◌, ◌∙◌, ◌==◌, ℕ, true, List, get_or, length, drop, refl, arith, lit<, lit≤, inl}
 use Rattle.base.specs.Bytes.{dot, lower_z}
 use Rattle.parsing_fields.specs.Written.{WriteFraction}
-use Rattle.parsing_fields.specs.declared.fields.Fields.{Fields}
 use Rattle.parsing_places.specs.Last.{HaveEnd, HaveFraction}
 use Rattle.parsing_places.specs.Shape.{with_moves}
 use Rattle.parsing_places.specs.Tail.{LetsByte, TakesFraction, is_fraction, is_zulu, offset_at}
@@ -14,11 +13,10 @@ use Rattle.parsing_places.specs.declared.tail.Tail.{Tail}
 use Rattle.parsing_places.proofs.NumberLemmas.{in_window}
 use Rattle.parsing_places.proofs.SumLemmas.{has_fraction}
 use Rattle.parsing_layout.specs.Layout.{Part, length_of}
-use Rattle.parsing_layout.specs.Moment.{AreTaken, AreInRange, AreOfSums, SaysTailed}
-use Rattle.parsing_layout.specs.Shape.{fits}
+use Rattle.parsing_layout.specs.Moment.{AreTaken, AreInRange}
 use Rattle.parsing_layout.specs.Tail.{FitsEnd, SparesOffset, IsEnd, zone_parts, small_parts}
 use Rattle.parsing_layout.specs.declared.shape.Shape.{Shape}
-use Rattle.parsing_layout.proofs.MomentLemmas.{IsPlaced, in_range, tail_said}
+use Rattle.parsing_layout.proofs.MomentLemmas.{IsPlaced, in_range}
 use Rattle.parsing_layout.proofs.TailLemmas.{fraction_taken, digits_few, lets_byte, zone_offset}
 
 -- an offset ends at the end of the window
@@ -82,7 +80,7 @@ module _ (t : Tail) (zulu : t.ending ≡ Zulu) (ok : is_fraction t.fraction ≡ 
   pub of_small : (s : Shape) (text digits : List ℕ) (d m o t' : ℕ) → s.has_tail ≡ true → AreTaken s w text (length text) d m o t' → HaveEnd (with_moves w t.digits) text (length text) digits → ((k : ℕ) → get_or text k 0 < 256) → 16 ≤ length text → Whole s w t.digits text digits d m o t' 15 t.fraction
   of_small s text digits d m o t' tailed x f small sixteen = record { tail = tailed; is_end = small_is_end; taken = x; fraction_taken = f; small = small; sixteen = sixteen; takes = small_takes; lets = small_lets }
 
--- ---- fields
+-- ---- its fraction
 
 module _ (s : Shape) (w : Window) (moves : Moves) (text digits : List ℕ) (d m o t at bytes : ℕ) (h : Whole s w moves text digits d m o t at bytes) where
   has : HaveFraction text (length text - 16 + at - (bytes - 1)) (bytes - 1) digits
@@ -108,19 +106,9 @@ module _ (s : Shape) (w : Window) (moves : Moves) (text digits : List ℕ) (d m 
       rw place at byte in
       record { all = omega (arith, all, zone_is); point = point; written = rw there at (writes _ (bytes - 1) has) }
 
-  pub tailed : (nanosecond : ℕ) (f : Fields) (front zone : List Part) → AreOfSums f text s.year d m o t nanosecond → fits s front ≡ true → FitsEnd w zone → length_of zone + at ≡ 16 → s.length + bytes + 16 ≡ length text + at → (bytes ≡ 1 → ⊥)
-      → ((place count : ℕ) → HaveFraction text place count digits → WriteFraction (drop place text) count nanosecond) → nanosecond < 1_000_000_000 → (is_utc : Bool) → (is_utc ≡ true → SparesOffset w) → SaysTailed front is_utc zone text f
-  tailed nanosecond f front zone y fits_front fits_end zone_is all more writes bound is_utc utc =
-      tail_said s w text d m o t h.tail h.is_end h.taken h.small nanosecond bytes front zone fits_front fits_end h.sixteen (placed nanosecond zone zone_is all writes) bound is_utc more utc f y
-
   -- the same with another fraction between, which is read by itself
   pub placed_long : (nanosecond more : ℕ) (zone : List Part) → s.length + 1 + more + length_of zone ≡ length text → get_or text s.length 0 ≡ dot → WriteFraction (drop (s.length + 1) text) more nanosecond → IsPlaced s zone text (more + 1) nanosecond
   placed_long nanosecond more zone all point writes =
       let from : length text - length_of zone - (more + 1 - 1) ≡ s.length + 1 = omega (arith, all) in
       let count : more + 1 - 1 ≡ more = omega arith in
       record { all = omega (arith, all); point = λ any. point; written = rw (from, count) writes }
-
-  pub tailed_long : (nanosecond more : ℕ) (f : Fields) (front zone : List Part) → AreOfSums f text s.year d m o t nanosecond → fits s front ≡ true → FitsEnd w zone → s.length + 1 + more + length_of zone ≡ length text → 0 < more → get_or text s.length 0 ≡ dot
-      → WriteFraction (drop (s.length + 1) text) more nanosecond → nanosecond < 1_000_000_000 → (is_utc : Bool) → (is_utc ≡ true → SparesOffset w) → SaysTailed front is_utc zone text f
-  tailed_long nanosecond more f front zone y fits_front fits_end all some point writes bound is_utc utc =
-      tail_said s w text d m o t h.tail h.is_end h.taken h.small nanosecond (more + 1) front zone fits_front fits_end h.sixteen (placed_long nanosecond more zone all point writes) bound is_utc (λ one. (omega (arith, one, some))) utc f y

@@ -1,5 +1,5 @@
 -- What windows take of the parts of a layout, a text says.
-use Rattle.std.proofs.Common.{leb, ◌≡◌, ◌≤◌, ◌<◌, ◌+◌, ◌-◌, ◌*◌, ◌%◌, ◌&&◌, ◌==◌, ◌||◌, ℕ, Bool, true, false, List, [], ◌∷◌, get_or, length, take, drop, Option, Some, None, refl, arith, lit<, lit≤, inl, inr, ◌∙◌}
+use Rattle.std.proofs.Common.{leb, ◌≡◌, ◌≤◌, ◌<◌, ◌+◌, ◌-◌, ◌*◌, ◌%◌, ◌&&◌, ◌==◌, ◌||◌, ℕ, Bool, true, List, [], ◌∷◌, get_or, length, take, drop, Option, Some, None, refl, arith, lit<, lit≤, inl, inr, ◌∙◌}
 use Rattle.std.specs.Prelude.{nat_lt}
 use Rattle.std.proofs.lemmas.Bool.Decides.{nat_tests}
 use Rattle.std.proofs.lemmas.List.{drop_more, drop-drop, length-drop, take_all}

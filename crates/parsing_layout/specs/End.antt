@@ -1,5 +1,5 @@
 -- What follows a fraction of any number of digits, and a window over the end of a text.
-use Rattle.std.specs.Prelude.{◌&&◌, ◌==◌, ◌+◌, ◌-◌, ℕ, zero, suc, Bool, true, false, not, nat_lt, nat_le, get_or, List, [], ◌∷◌, if◌then◌else◌}
+use Rattle.std.specs.Prelude.{◌&&◌, ◌==◌, ◌+◌, ◌-◌, ℕ, zero, suc, Bool, true, false, not, nat_lt, nat_le, get_or, List, [], ◌∷◌}
 use Rattle.std.specs.Char.{is_ascii_digit}
 use Rattle.parsing_places.specs.declared.shape.Window.{Window}
 use Rattle.parsing_layout.specs.Layout.{Field, Part, length_of}

@@ -1,7 +1,6 @@
 -- What lanes take of a whole text, and the moment that it says.
-use Rattle.std.specs.Prelude.{◌≡◌, ◌≤◌, ◌<◌, ◌==◌, nat_eq, Ok, ℤ, pos, ◌*ℤ◌, ◌+◌, ◌*◌, ◌/◌, ◌%◌, ℕ, Bool, true, false, List, [], ◌++◌, get_or, drop, Some, bit_or}
+use Rattle.std.specs.Prelude.{◌≡◌, ◌≤◌, ◌<◌, ◌==◌, Ok, ℤ, pos, ◌*ℤ◌, ◌+◌, ◌*◌, ℕ, Bool, true, false, List, [], ◌++◌, get_or, bit_or}
 use Rattle.base.specs.Bytes.{hyphen}
-use Rattle.parsing_combinator.specs.Pieces.{digits}
 use Rattle.parsing_combinator.specs.Places.{HasPair}
 use Rattle.parsing_fields.specs.Numbers.{HaveNumbers}
 use Rattle.parsing_fields.specs.declared.fields.Fields.{Fields}
@@ -36,13 +35,6 @@ pub record AreInRange (text : List ℕ) (year days offsets seconds : ℕ) : Type
   pub days_few : days < 16_384
   pub offsets_few : offsets < 1440
   pub seconds_few : seconds < 3840
-
--- fields are those of four sums, of the year at a place, and of a fraction
-pub record AreOfSums (f : Fields) (text : List ℕ) (year days minutes offsets seconds nanosecond : ℕ) : Type 0 where
-  pub year_is : digits 4 (drop year text) ≡ Some (f.year, drop (year + 4) text)
-  pub numbers : HaveNumbers f f.year (days % 64) (days / 64) minutes (seconds / 64) nanosecond f.offset
-  pub even : seconds % 2 ≡ 0
-  pub value : (hour minute : ℕ) → offsets ≡ 60 * hour + minute → hour ≤ 23 → minute ≤ 59 → signed_offset_of (nat_eq (seconds % 4) 2) hour minute ≡ Ok (pos 60 *ℤ f.offset)
 
 -- the minutes of an offset, which are none in UTC
 abbrev pub HasOffset : Bool → Values → ℤ → Type 0

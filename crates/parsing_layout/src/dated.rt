@@ -6,14 +6,14 @@ ghost use Rattle.parsing_layout.specs.Layout.{Part};
 ghost use Rattle.parsing_layout.specs.Moment.{AreInRange};
 ghost use Rattle.parsing_layout.specs.Numbers.{AreOfSums, SaysNumbers, second_if};
 ghost use Rattle.parsing_layout.specs.Shape.{fits};
-ghost use Rattle.parsing_layout.specs.Tail.{zone_parts};
+ghost use Rattle.parsing_layout.specs.Tail.{small_parts, zone_parts};
 
-use crate::moment::{long_fraction, tailed_sums_of};
+use crate::moment::{long_fraction, tailed_sums_of, with_last};
 use crate::numbers::Numbers;
 use crate::shape::Shape;
 use crate::sums::Sums;
 use parsing_fields::{Fraction, Year};
-use parsing_places::{LANES, ending_of, fraction_of, length_of, signed, tail_of};
+use parsing_places::{Ending, LANES, Window, ending_of, fraction_of, length_of, signed, tail_of};
 
 // A second, if there is one, and else 0.
 #[inline(always)]
@@ -32,9 +32,9 @@ fn lets_fraction(has_second: bool, bytes: usize) -> bool
     has_second || bytes == 0
 }
 
-// The numbers of sums, of the year at a place, and of a fraction, with the second or without.
+/// The numbers of sums, of the year at a place, and of a fraction, with the second or without.
 #[inline(always)]
-fn numbers_of(
+pub(crate) fn numbers_of(
     text: &[u8],
     year: usize,
     has_second: bool,
@@ -90,6 +90,30 @@ pub fn read_numbers(
     }
     let (sums, digits) = tailed_sums_of(shape, &tail.window, &tail.digits, text)?;
     let numbers = numbers_of(text, shape.year, has_second, sums, fraction_of(digits))?;
+    Some(numbers)
+}
+
+/// The same with a second, and with a small `z` in the place of an offset.
+#[inline(always)]
+pub(crate) fn read_small_numbers(shape: &Shape, text: &[u8]) -> Option<Numbers>
+    requires tail { shape.now.has_tail ≡ true }
+    ensures { (front : List Part) → fits shape.now front ≡ true
+        → IfSome result (λ n. (bytes : ℕ) × SaysNumbers true true front bytes small_parts text.now n) }
+{
+    if text.len() < LANES {
+        return None;
+    }
+    let tail = tail_of(Ending::Zulu, text.len().wrapping_sub(shape.length))?;
+    // (the rows of other fractions have a last byte that rules them out)
+    if tail.fraction == 1 || tail.fraction > 10 {
+        return None;
+    }
+    let last = Window {
+        low: with_last(tail.window.low, b'z'),
+        ..tail.window
+    };
+    let (sums, digits) = tailed_sums_of(shape, &last, &tail.digits, text)?;
+    let numbers = numbers_of(text, shape.year, true, sums, fraction_of(digits))?;
     Some(numbers)
 }
 

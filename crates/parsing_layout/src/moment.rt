@@ -6,17 +6,15 @@ ghost use Rattle.parsing_places.specs.Shape.{with_moves};
 ghost use Rattle.parsing_places.specs.Tail.{is_written, is_zulu};
 ghost use Rattle.parsing_places.specs.declared.ending.Ending.{Ending};
 ghost use Rattle.parsing_layout.specs.Layout.{Part};
-ghost use Rattle.parsing_layout.specs.Moment.{AreTaken, AreInRange, AreOfSums, SaysTailed};
+ghost use Rattle.parsing_layout.specs.Moment.{AreTaken, SaysTailed};
 ghost use Rattle.parsing_layout.specs.Shape.{fits};
 ghost use Rattle.parsing_layout.specs.Tail.{zone_parts, small_parts};
 
+use crate::dated::{read_long_numbers, read_numbers, read_small_numbers};
 use crate::shape::Shape;
 use crate::sums::Sums;
-use parsing_fields::{Fields, Fraction, Year, has_day};
-use parsing_places::{
-    Ending, LANES, Moves, Window, are_digits, digits_of_whole, ending_of, fraction_of, joined,
-    length_of, paired, signed, sums, tail_of,
-};
+use parsing_fields::{Fields, Fraction};
+use parsing_places::{LANES, Moves, Window, are_digits, digits_of_whole, joined, paired, sums};
 use std::simd::prelude::*;
 
 // The sums of a text that has a shape and an end, and the digits that other lanes take of its end.
@@ -48,85 +46,15 @@ pub(crate) fn tailed_sums_of(
     Some((sums(paired(joined(front, end))), digits))
 }
 
-// The fields of sums, of the year at a place, and of a fraction.
+/// The lowest bytes of a window, with another one at its last place.
 #[inline(always)]
-pub(crate) fn fields_of(text: &[u8], year: usize, sums: Sums, fraction: Fraction) -> Option<Fields>
-    requires { AreInRange text.now year sums.0 sums.2 sums.3 }
-    ensures { IfSome result (λ f. AreOfSums f text.now year sums.0 sums.1 sums.2 sums.3 fraction) }
-{
-    let (days, minute, offset, seconds) = sums;
-    if minute >= 1440 || seconds % 2 != 0 {
-        return None;
-    }
-    let year = Year::of_digits(text, year);
-    let (month, day) = ((days % 64) as u8, (days / 64) as u8);
-    if month < 1 || month > 12 || !has_day(year, month, day) {
-        return None;
-    }
-    let shift = signed(offset, seconds % 4 == 2);
-    Some(Fields::of_numbers(
-        year,
-        month,
-        day,
-        minute as u16,
-        (seconds / 64) as u8,
-        fraction,
-        shift,
-    ))
-}
-
-/// The fields of a text that has a shape, whose month is a number, and then maybe a point and at most nine digits, and `Z` or an
-/// offset, which has a colon or none: `None` says nothing of the text.
-#[inline(always)]
-pub fn read_moment(shape: &Shape, has_colon: bool, text: &[u8]) -> Option<Fields>
-    requires tail { shape.now.has_tail ≡ true }
-    ensures { (front : List Part) → fits shape.now front ≡ true
-        → IfSome result (λ f. (e : Ending) × (is_written has_colon e ≡ true)
-        × SaysTailed front (is_zulu e) (zone_parts e) text.now f) }
-{
-    if text.len() < LANES {
-        return None;
-    }
-    let ending = ending_of(text[text.len() - 1], has_colon);
-    let tail = tail_of(ending, text.len().wrapping_sub(shape.length))?;
-    let (sums, digits) = tailed_sums_of(shape, &tail.window, &tail.digits, text)?;
-    let fields = fields_of(text, shape.year, sums, fraction_of(digits))?;
-    Some(fields)
-}
-
-// The lowest bytes of a window, with another one at its last place.
-#[inline(always)]
-fn with_last(low: [u8; LANES], last: u8) -> [u8; LANES]
+pub(crate) fn with_last(low: [u8; LANES], last: u8) -> [u8; LANES]
     ensures there { get_or result 15 0 ≡ last }
     ensures others { (k : ℕ) → k < 15 → get_or result k 0 ≡ get_or low k 0 }
 {
     let mut low = low;
     low[LANES - 1] = last;
     low
-}
-
-/// The same with a small `z` in the place of an offset.
-#[inline(always)]
-pub fn read_small_moment(shape: &Shape, text: &[u8]) -> Option<Fields>
-    requires tail { shape.now.has_tail ≡ true }
-    ensures { (front : List Part) → fits shape.now front ≡ true
-        → IfSome result (SaysTailed front true small_parts text.now) }
-{
-    if text.len() < LANES {
-        return None;
-    }
-    let tail = tail_of(Ending::Zulu, text.len().wrapping_sub(shape.length))?;
-    // (the rows of other fractions have a last byte that rules them out)
-    if tail.fraction == 1 || tail.fraction > 10 {
-        return None;
-    }
-    let last = Window {
-        low: with_last(tail.window.low, b'z'),
-        ..tail.window
-    };
-    let (sums, digits) = tailed_sums_of(shape, &last, &tail.digits, text)?;
-    let fields = fields_of(text, shape.year, sums, fraction_of(digits))?;
-    Some(fields)
 }
 
 // How many digits a fraction keeps.
@@ -153,6 +81,32 @@ pub(crate) fn long_fraction(text: &[u8], from: usize, end: usize) -> Option<Frac
     Some(fraction)
 }
 
+/// The fields of a text that has a shape, whose month is a number, and then maybe a point and at most nine digits, and `Z` or an
+/// offset, which has a colon or none: `None` says nothing of the text.
+#[inline(always)]
+pub fn read_moment(shape: &Shape, has_colon: bool, text: &[u8]) -> Option<Fields>
+    requires tail { shape.now.has_tail ≡ true }
+    ensures { (front : List Part) → fits shape.now front ≡ true
+        → IfSome result (λ f. (e : Ending) × (is_written has_colon e ≡ true)
+        × SaysTailed front (is_zulu e) (zone_parts e) text.now f) }
+{
+    let numbers = read_numbers(shape, has_colon, true, text)?;
+    let fields = numbers.on_day(numbers.high, numbers.low)?;
+    Some(fields)
+}
+
+/// The same with a small `z` in the place of an offset.
+#[inline(always)]
+pub fn read_small_moment(shape: &Shape, text: &[u8]) -> Option<Fields>
+    requires tail { shape.now.has_tail ≡ true }
+    ensures { (front : List Part) → fits shape.now front ≡ true
+        → IfSome result (SaysTailed front true small_parts text.now) }
+{
+    let numbers = read_small_numbers(shape, text)?;
+    let fields = numbers.on_day(numbers.high, numbers.low)?;
+    Some(fields)
+}
+
 /// The same as `read_moment`, with more than nine digits after the point.
 #[inline(always)]
 pub fn read_long_moment(shape: &Shape, has_colon: bool, text: &[u8]) -> Option<Fields>
@@ -161,15 +115,7 @@ pub fn read_long_moment(shape: &Shape, has_colon: bool, text: &[u8]) -> Option<F
         → IfSome result (λ f. (e : Ending) × (is_written has_colon e ≡ true)
         × SaysTailed front (is_zulu e) (zone_parts e) text.now f) }
 {
-    if text.len() < LANES || text.len() <= shape.length || text[shape.length] != b'.' {
-        return None;
-    }
-    let ending = ending_of(text[text.len() - 1], has_colon);
-    // (the tail without a fraction, which is read by itself)
-    let width = length_of(ending);
-    let tail = tail_of(ending, width)?;
-    let fraction = long_fraction(text, shape.length + 1, text.len() - width)?;
-    let (sums, _) = tailed_sums_of(shape, &tail.window, &tail.digits, text)?;
-    let fields = fields_of(text, shape.year, sums, fraction)?;
+    let numbers = read_long_numbers(shape, has_colon, text)?;
+    let fields = numbers.on_day(numbers.high, numbers.low)?;
     Some(fields)
 }

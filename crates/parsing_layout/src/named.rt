@@ -5,7 +5,7 @@ ghost use Rattle.parsing_layout.specs.Named.{SaysNamed};
 ghost use Rattle.parsing_layout.specs.Shape.{fits};
 ghost use Rattle.parsing_layout.specs.Windows.{spares_two};
 
-use crate::moment::fields_of;
+use crate::dated::numbers_of;
 use crate::shape::Shape;
 use crate::sums::sums_of;
 use parsing_fields::{Fields, Fraction};
@@ -23,11 +23,8 @@ pub fn read_named_moment(shape: &Shape, month: u8, text: &[u8]) -> Option<Fields
 {
     let (days, minute, offset, seconds) = sums_of(shape, text)?;
     let days = days + u32::from(month);
-    let fields = fields_of(
-        text,
-        shape.year,
-        (days, minute, offset, seconds),
-        Fraction::new(0),
-    )?;
+    let sums = (days, minute, offset, seconds);
+    let numbers = numbers_of(text, shape.year, true, sums, Fraction::new(0))?;
+    let fields = numbers.on_day(numbers.high, numbers.low)?;
     Some(fields)
 }

@@ -1,43 +1,9 @@
-use Rattle.std.proofs.Common.{◌≡◌, ◌+◌, true, length, refl, ap, arith}
-use Rattle.parsing_places.specs.Tail.{offset_at}
-use Rattle.parsing_places.specs.declared.shape.Window.{Window}
+use Rattle.std.proofs.Common.{true}
 use Rattle.parsing_layout.specs.Tail.{small_parts}
-use Rattle.parsing_layout.proofs.TailLemmas.{is_some, not_one}
-use Rattle.parsing_layout.proofs.TailedLemmas.{all_few, none_after, whole_in_range, tailed, of_small, small_spares, small_fits}
+use Rattle.parsing_layout.proofs.NumberLemmas.{tailed}
 use Rattle.parsing_layout.proofs.moment.read_small_moment.Goals as goal
-
-pub fraction_of-requires : goal.fraction_of-requires
-fraction_of-requires c =
-    let tail = c.in_ok-tail.tail in
-    let text = c.args.text.now in
-    let zulu = c.in_ok-tail.ensures.ending in
-    let ok = is_some tail.fraction c.if-tail-eq1.false (omega (arith, c.if-tail-gt10.false)) in
-    let low = c.with_last.ensures in
-    let last : Window = record { low = c.with_last.result; high = tail.window.high; taken = tail.window.taken } in
-    let h = of_small tail zulu ok last (refl, refl) low.there low.others c.args.shape.now text c.in_ok-sums.digits _ _ _ _ c.requires.tail c.in_ok-sums.ensures.sums c.in_ok-sums.ensures.fraction (λ k. (omega (arith, c.type_inv.text k))) (omega (arith, c.if-text-lt-LANES.false)) in
-    record { few = all_few _ _ _ _ _ _ _ _ _ _ _ h; rest = none_after _ _ _ _ _ _ _ _ _ _ _ h }
-
-pub fields_of-requires : goal.fields_of-requires
-fields_of-requires c =
-    let tail = c.in_ok-tail.tail in
-    let text = c.args.text.now in
-    let zulu = c.in_ok-tail.ensures.ending in
-    let ok = is_some tail.fraction c.if-tail-eq1.false (omega (arith, c.if-tail-gt10.false)) in
-    let low = c.with_last.ensures in
-    let last : Window = record { low = c.with_last.result; high = tail.window.high; taken = tail.window.taken } in
-    let h = of_small tail zulu ok last (refl, refl) low.there low.others c.args.shape.now text c.in_ok-sums.digits _ _ _ _ c.requires.tail c.in_ok-sums.ensures.sums c.in_ok-sums.ensures.fraction (λ k. (omega (arith, c.type_inv.text k))) (omega (arith, c.if-text-lt-LANES.false)) in
-    whole_in_range _ _ _ _ _ _ _ _ _ _ _ h (omega (arith, c.if-text-lt-LANES.false, c.in_ok-tail.ensures.few))
 
 pub returns : goal.returns
 returns c = λ front fits_front.
-    let tail = c.in_ok-tail.tail in
-    let text = c.args.text.now in
-    let zulu = c.in_ok-tail.ensures.ending in
-    let ok = is_some tail.fraction c.if-tail-eq1.false (omega (arith, c.if-tail-gt10.false)) in
-    let low = c.with_last.ensures in
-    let last : Window = record { low = c.with_last.result; high = tail.window.high; taken = tail.window.taken } in
-    let h = of_small tail zulu ok last (refl, refl) low.there low.others c.args.shape.now text c.in_ok-sums.digits _ _ _ _ c.requires.tail c.in_ok-sums.ensures.sums c.in_ok-sums.ensures.fraction (λ k. (omega (arith, c.type_inv.text k))) (omega (arith, c.if-text-lt-LANES.false)) in
-    let all : c.args.shape.now.length + tail.fraction + 16 ≡ length text + 15 = omega (arith, c.if-text-lt-LANES.false, c.in_ok-tail.ensures.bytes ok, c.in_ok-tail.ensures.few, ap offset_at zulu) in
-    let fraction = c.fraction_of.ensures in
-    let spares = small_spares tail zulu ok last (refl, refl) low.there low.others in
-    tailed _ _ _ _ _ _ _ _ _ _ _ h c.fraction_of.result c.in_ok-fields.fields front small_parts c.in_ok-fields.ensures fits_front (small_fits tail zulu ok last (refl, refl) low.there low.others) refl all (not_one tail.fraction ok) (fraction.writes text) fraction.bound true (λ e. spares)
+    let x = c.in_ok-numbers.ensures front fits_front in
+    tailed front small_parts true x.0 c.args.text.now c.in_ok-numbers.numbers c.in_ok-fields.fields x.1 c.in_ok-fields.ensures
