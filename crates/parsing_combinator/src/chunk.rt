@@ -137,9 +137,9 @@ fn first_bytes(count: usize) -> Chunk
     FIRST_BYTES[count]
 }
 
-// The digit zero at each of eight places after the first so many.
+/// The digit zero at each of eight places after the first so many.
 #[inline(always)]
-fn zeros_after(count: usize) -> Chunk
+pub fn zeros_after(count: usize) -> u64
     requires { count ≤ 8 }
     ensures { result ≡ Chunks.chunk (replicate (8 - count) digit_zero) * 2 ^ (8 * count) }
 {

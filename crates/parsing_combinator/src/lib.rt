@@ -14,7 +14,7 @@ mod strict;
 mod wide;
 mod zone;
 
-pub use chunk::{digit_chunk, nine_digits};
+pub use chunk::{digit_chunk, nine_digits, zeros_after};
 pub use cut::{
     any_byte, byte, digit_run, four_digits, one_digit, sign, six_digits, three_digits, two_digits,
 };
