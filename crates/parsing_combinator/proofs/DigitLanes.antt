@@ -39,11 +39,15 @@ none n = refl
 two_more : (n : ℕ) → 2 ^ suc n ≡ 2 ^ n * 2
 two_more n = ap (λ (m : ℕ). 2 ^ m) (let e : suc n ≡ n + 1 = omega arith in e) ∙ pow-add 2 n 1
 
-zeros_more : (j k c : ℕ) → count_trailing_zeros (j + k) (c * 2 ^ j) ≡ j + count_trailing_zeros k c
-zeros_more zero k c = let e : c * 1 ≡ c = omega arith in rw e refl
-zeros_more (suc j) k c =
-    let e : c * 2 ^ suc j ≡ c * 2 ^ j * 2 = rw (two_more j) (omega arith) in
-    ap (count_trailing_zeros (suc (j + k))) e ∙ even (j + k) (c * 2 ^ j) ∙ ap suc (zeros_more j k c)
+zeros_more : (j k n c : ℕ) → n ≡ j + k → count_trailing_zeros n (c * 2 ^ j) ≡ j + count_trailing_zeros k c
+zeros_more zero k n c is =
+    let same : n ≡ k = omega arith in
+    let whole : c * 2 ^ 0 ≡ c = omega arith in
+    rw (same, whole) (omega arith)
+zeros_more (suc j) k n c is =
+    let more : n ≡ suc (j + k) = omega arith in
+    let twice : c * 2 ^ suc j ≡ c * 2 ^ j * 2 = rw (two_more j) (omega arith) in
+    rw (more, twice, even (j + k) (c * 2 ^ j)) (omega (arith, zeros_more j k (j + k) c refl))
 
 odd : (k n : ℕ) → n % 2 ≡ 1 → count_trailing_zeros (suc k) n ≡ 0
 unfolding count_trailing_zeros
@@ -71,8 +75,8 @@ count_next k c b lt =
     let more : 8 * suc k ≡ 8 + 8 * k = omega arith in
     elim (cases_eq (half b) 0) [
       | inl e ↦
-          let number : c * 256 + half b ≡ c * 2 ^ 8 = omega arith in
-          let zeros = zeros_more 8 (8 * k) c in
+          let number : c * 256 + half b ≡ c * 256 = omega arith in
+          let zeros = zeros_more 8 (8 * k) (8 + 8 * k) c refl in
           let test : (half b == 0) ≡ true = grind (arith, nat_tests) in
           rw (more, number, zeros, test) (omega arith)
       | inr n ↦
@@ -152,7 +156,7 @@ module _ (bytes : List ℕ) (count : ℕ) (fit : (k : ℕ) → get_or bytes k 0 
       let long = length-take-le count bytes there in
       elim (cases_lt k count) [
         | inl early ↦ rw (get_or_append_left (take count bytes) (replicate (8 - count) 48) 0 k (omega (arith, long)), get_or-take count bytes k 0 early) (each k early)
-        | inr late ↦ rw (get_or-append_right (take count bytes) (replicate (8 - count) 48) count k 0 long late, get_or-replicate (8 - count) (k - count) 48 0 (omega arith)) refl
+        | inr late ↦ rw (get_or-append_right (take count bytes) (replicate (8 - count) 48) count k 0 long late, get_or-replicate {A = ℕ} (8 - count) (k - count) 48 0 (omega arith)) refl
       ]
 
   pub count_says : Counted bytes count
