@@ -2,10 +2,11 @@
 use Rattle.std.proofs.Common.{◌≡◌, ◌≤◌, ◌<◌, ◌+◌, ◌*◌, ◌^◌, ◌/◌, ◌%◌, ◌∙◌, ℕ, zero, suc, Bool, true, false, cond, List, [], ◌∷◌, length, get_or, take, drop, map, refl, sym, ap, arith, w8, lit<, inl, inr}
 use Rattle.std.specs.Int.Bits.{bit_and}
 use Rattle.std.specs.Prelude.{◌-◌, nat_le, nat_eq, replicate}
-use Rattle.std.proofs.lemmas.Bool.{cases_lt, agree_below_at}
+use Rattle.std.proofs.lemmas.Bool.{cases_lt, agree_below_at, leb-true}
 use Rattle.std.proofs.lemmas.Bool.Decides.{nat_tests}
-use Rattle.std.proofs.lemmas.List.{drop_all, drop_more, length-map, get_or-map}
+use Rattle.std.proofs.lemmas.List.{drop_more, length-map, get_or-map, take_all}
 use Rattle.std.proofs.lemmas.Simd.{swz_l, get_or-swz_l, get_or_wider, get_or_narrower, below_from_Fits, get_or-zip2, length-zip2, mask_l-mod, get_or-replicate}
+use Rattle.parsing_combinator.proofs.Lanes.{spelled, spelled_is}
 use Rattle.parsing_places.specs.Lanes.{are_moves}
 use lib.Dec.{T, ltb}
 use lib.Lanes.{Each1, zip2, mask_l, top, dots, number_l, digits_l}
@@ -19,17 +20,8 @@ each_moves (j ∷ js) h = let b = and_both (zeroes 16 w8 j || ltb j 16) (are_mov
 
 -- ---- all lanes, one by one
 
--- so many from a place on
-abbrev spelled : ℕ → ℕ → List ℕ → List ℕ
-spelled zero i xs = []
-spelled (suc n) i xs = get_or xs i 0 ∷ spelled n (i + 1) xs
-
-spelled_is : (n i : ℕ) (xs : List ℕ) → i + n ≡ length xs → drop i xs ≡ spelled n i xs
-spelled_is zero i xs e = drop_all i xs (omega (arith, e))
-spelled_is (suc n) i xs e = drop_more xs i 0 (omega (arith, e)) ∙ ap (λ t. get_or xs i 0 ∷ t) (spelled_is n (i + 1) xs (omega (arith, e)))
-
-pub expanded : (xs : List ℕ) → length xs ≡ 16 → xs ≡ spelled 16 0 xs
-expanded xs n = spelled_is 16 0 xs (sym n)
+expanded : (xs : List ℕ) → length xs ≡ 16 → xs ≡ spelled 16 0 xs
+expanded xs n = sym (take_all 16 xs (omega (arith, n))) ∙ spelled_is 16 0 xs (omega (arith, n))
 
 -- weights of lanes, and the sums under them
 abbrev weights : List ℕ
@@ -108,9 +100,6 @@ all_true (true ∷ ms) (suc n) long e zero lt = refl
 all_true (true ∷ ms) (suc n) long e (suc k) lt = all_true ms n (omega (arith, long)) (omega (arith, e)) k (omega (arith, lt))
 all_true (false ∷ ms) (suc n) long e k lt = absurd (omega (arith, e))
 
-at_most : (a b : ℕ) → nat_le a b ≡ true → a ≤ b
-at_most a b e = grind (arith, nat_tests)
-
 abbrev pub tests : List ℕ → List ℕ → List ℕ
 tests = zip2 (λ a b. cond (nat_le a b) 255 0)
 
@@ -147,7 +136,7 @@ every_lane zs k n e lt =
 
 pub all_pass : (xs ys : List ℕ) → length xs ≡ 16 → length ys ≡ 16 → nat_eq (mask_l (map (top 7) (tests xs ys)) % 18446744073709551616) 65535 ≡ true
     → (k : ℕ) → k < 16 → get_or xs k 0 ≤ get_or ys k 0
-all_pass xs ys n m e k lt = at_most _ _ (one_true _ (sym (ap (top 7) (test_at xs ys k n m lt)) ∙ every_lane (tests xs ys) k (tests_long xs ys n m) e lt))
+all_pass xs ys n m e k lt = leb-true _ _ (one_true _ (sym (ap (top 7) (test_at xs ys k n m lt)) ∙ every_lane (tests xs ys) k (tests_long xs ys n m) e lt))
 
 pub all_pass_three : (f fh s sh t th : List ℕ) → length f ≡ 16 → length fh ≡ 16 → length s ≡ 16 → length sh ≡ 16 → length t ≡ 16 → length th ≡ 16
     → nat_eq (mask_l (map (top 7) (zip2 bit_and (zip2 bit_and (tests f fh) (tests s sh)) (tests t th))) % 18446744073709551616) 65535 ≡ true
@@ -165,7 +154,7 @@ all_pass_three f fh s sh t th nf nfh ns nsh nt nth e k lt =
     let is : get_or (zip2 bit_and both (tests t th)) k 0 ≡ bit_and (bit_and (cond (nat_le (get_or f k 0) (get_or fh k 0)) 255 0) (cond (nat_le (get_or s k 0) (get_or sh k 0)) 255 0)) (cond (nat_le (get_or t k 0) (get_or th k 0)) 255 0) =
     a ∙ rw (b, test_at f fh k nf nfh lt, test_at s sh k ns nsh lt, test_at t th k nt nth lt) refl in
     let all = three_true (nat_le (get_or f k 0) (get_or fh k 0)) (nat_le (get_or s k 0) (get_or sh k 0)) (nat_le (get_or t k 0) (get_or th k 0)) (sym (ap (top 7) is) ∙ here) in
-    (at_most _ _ all.0, at_most _ _ all.1, at_most _ _ all.2)
+    (leb-true _ _ all.0, leb-true _ _ all.1, leb-true _ _ all.2)
 
 abbrev plus : ℕ → ℕ → ℕ
 plus a b = (a + b) % 256

@@ -67,17 +67,8 @@ ordinal_result y o (Err e) succeeds value bound err =
 iso_yes : (y : ℤ) (k w n : ℕ) → IsIsoDay y k w n → is_iso_day y k w n ≡ true
 iso_yes y k w n h = rw (h.0, h.1, h.2) (grind (arith, nat_tests, ints))
 
-iso_year : (y : ℤ) (k w n : ℕ) → is_iso_day y k w n ≡ true → iso_year_at n ≡ y
-iso_year y k w n h = grind (arith, nat_tests, ints)
-
-iso_week : (y : ℤ) (k w n : ℕ) → is_iso_day y k w n ≡ true → iso_week_at n ≡ k
-iso_week y k w n h = grind (arith, nat_tests)
-
-iso_weekday : (y : ℤ) (k w n : ℕ) → is_iso_day y k w n ≡ true → weekday_at n ≡ w
-iso_weekday y k w n h = grind (arith, nat_tests)
-
 pub iso_is : (y : ℤ) (k w n : ℕ) → is_iso_day y k w n ≡ true → IsIsoDay y k w n
-iso_is y k w n h = (iso_year y k w n h, iso_week y k w n h, iso_weekday y k w n h)
+iso_is y k w n h = (grind (arith, nat_tests, ints), grind (arith, nat_tests), grind (arith, nat_tests))
 
 pub iso_result : (y : ℤ) (k w : ℕ) (r : Result ℕ ComponentRange) → IfOk r (IsIsoDay y k w) → IfOk r IsCount → OnErr r ((n : ℕ) → IsCount n → ¬ IsIsoDay y k w n) → IfErr r (λ e. e ≡ refusal y Week) → r ≡ iso_week_date_of y k w
 unfolding iso_week_date_of

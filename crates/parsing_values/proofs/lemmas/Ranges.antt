@@ -30,14 +30,8 @@ found : {A E : Type 0} (o : Option A) (e : E) (x : A) → ok_or o e ≡ Ok x →
 found None e x h none = cc
 found (Some y) e x h none = cc
 
-at_most_31 : (a b c : Bool) → cond a (cond b 29 28) (cond c 30 31) ≤ 31
-at_most_31 true true c = lit< tt
-at_most_31 true false c = lit< tt
-at_most_31 false b true = lit< tt
-at_most_31 false b false = lit< tt
-
 longest_month : (y : ℤ) (m : ℕ) → days_in_month y m ≤ 31
-longest_month y m = at_most_31 _ _ _
+longest_month y m = grind (arith, nat_tests)
 
 outside : (y : ℤ) (m d : ℕ) → ((1 ≤ d) × (d ≤ 31) → ⊥) → ¬ IsDay y m d
 outside y m d h is = h (omega (arith, is.3), omega (arith, is.4, longest_month y m))
