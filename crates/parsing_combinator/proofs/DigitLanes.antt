@@ -13,7 +13,7 @@ use Rattle.parsing_combinator.specs.Chunks.{chunk, padded, likely_digits}
 use Rattle.parsing_combinator.specs.Pieces.{digits}
 use Rattle.parsing_combinator.proofs.Fixed.{digits_one, some_if}
 use Rattle.parsing_combinator.proofs.PaddingLemmas.{padded_long, padded_fit}
-use Rattle.parsing_combinator.proofs.Lanes.{AreBytes}
+use Rattle.parsing_combinator.proofs.Lanes.{AreBytes, are_bytes}
 
 -- 0 for a byte with the high half of a digit
 abbrev pub half : ℕ → ℕ
@@ -103,10 +103,6 @@ digit_half : (b : ℕ) → b < 256 → is_ascii_digit b ≡ true → (half b == 
 digit_half b lt h =
     let all : cond (is_ascii_digit b) (half b == 0) true ≡ true = agree_below_at (λ (x : ℕ). cond (is_ascii_digit x) (half x == 0) true) (λ _. true) 256 b refl lt in
     rw h at all
-
-are_bytes : (bytes : List ℕ) → ((k : ℕ) → get_or bytes k 0 < 256) → AreBytes bytes
-are_bytes [] fit = tt
-are_bytes (b ∷ bs) fit = (fit 0, are_bytes bs (λ k. fit (suc k)))
 
 -- bytes that all have the high half of a digit
 all_halves : (bytes : List ℕ) → AreBytes bytes → ((k : ℕ) → k < length bytes → bit_and (get_or bytes k 0) 240 ≡ 48) → bit_and (chunk bytes) (chunk (replicate (length bytes) 240)) ≡ chunk (replicate (length bytes) 48)

@@ -59,6 +59,16 @@ abbrev pub AreBytes : List ℕ → Type 0
 AreBytes [] = Unit {0}
 AreBytes (b ∷ bs) = (b < 256) × AreBytes bs
 
+pub are_bytes : (bytes : List ℕ) → ((k : ℕ) → get_or bytes k 0 < 256) → AreBytes bytes
+are_bytes [] fit = tt
+are_bytes (b ∷ bs) fit = (fit 0, are_bytes bs (λ k. fit (suc k)))
+
+pub take_fit : (n : ℕ) (bytes : List ℕ) → ((k : ℕ) → get_or bytes k 0 < 256) → (k : ℕ) → get_or (take n bytes) k 0 < 256
+take_fit zero bytes fit k = lit< tt
+take_fit (suc n) [] fit k = lit< tt
+take_fit (suc n) (b ∷ bs) fit zero = fit 0
+take_fit (suc n) (b ∷ bs) fit (suc k) = take_fit n bs (λ j. fit (suc j)) k
+
 -- the pair of a byte and the next one
 pub pair_here : (d e : ℕ) (ds : List ℕ) → d ≤ 9 → e ≤ 9 → paired (chunk (d ∷ e ∷ ds)) % 256 ≡ d * 10 + e
 unfolding chunk

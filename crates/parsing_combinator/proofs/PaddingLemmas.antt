@@ -11,9 +11,10 @@ use Rattle.std.proofs.lemmas.Simd.{length-replicate}
 use Rattle.std.proofs.lemmas.Nat.{pow-add, and_mask}
 use Rattle.std.proofs.Math.Nat.{add-mul-mod_self_right, mod-eq_of_lt, pow-le-pow_right}
 use Rattle.parsing_combinator.specs.Pieces.{digits, digit_count, digit_run, fraction, nanoseconds_of}
-use Rattle.parsing_combinator.specs.Chunks.{chunk, padded}
+use Rattle.parsing_combinator.specs.Chunks.{chunk, padded, IsDigitChunk}
 use Rattle.parsing_combinator.proofs.Decimal.{value_append, value_zeros, count_prefix}
-use Rattle.parsing_combinator.proofs.DigitChunks.{EightChunk, eight_read}
+use Rattle.parsing_combinator.proofs.DigitChunks.{EightChunk, eight_read, eight_there}
+use Rattle.parsing_combinator.proofs.Lanes.{take_fit}
 use Rattle.parsing_combinator.proofs.FractionDigits.{Read, digits_read, none_there, short_fraction}
 
 byte_power : (n : ℕ) → 2 ^ (8 * suc n) ≡ 2 ^ (8 * n) * 256
@@ -87,12 +88,6 @@ fraction_of_padded bytes k v some few within eight none =
     let nonzero : (k == 0) ≡ false = grind (arith, nat_tests) in
     rw counted (rw nonzero (rw nanos refl))
 
-pub take_fit : (n : ℕ) (bytes : List ℕ) → ((k : ℕ) → get_or bytes k 0 < 256) → (k : ℕ) → get_or (take n bytes) k 0 < 256
-take_fit zero bytes fit k = lit< tt
-take_fit (suc n) [] fit k = lit< tt
-take_fit (suc n) (b ∷ bs) fit zero = fit 0
-take_fit (suc n) (b ∷ bs) fit (suc k) = take_fit n bs (λ j. fit (suc j)) k
-
 append_fit : (xs ys : List ℕ) → ((k : ℕ) → get_or xs k 0 < 256) → ((k : ℕ) → get_or ys k 0 < 256) → (k : ℕ) → get_or (xs ++ ys) k 0 < 256
 append_fit [] ys fx fy k = fy k
 append_fit (x ∷ xs) ys fx fy zero = fx 0
@@ -141,12 +136,11 @@ module _ (bytes : List ℕ) (k : ℕ) (few : k ≤ 8) (within : k ≤ length byt
   pub padded_below : Fits w64 (chunk (padded k bytes))
   padded_below = record { fits = below }
 
-  -- what the test of the first bytes with zeros after them says
-  pub record PaddedRead : Type 0 where
-    pub eight : EightChunk (padded k bytes) (chunk (padded k bytes))
-    pub rest : drop 8 (padded k bytes) ≡ []
-
-  pub padded_read : bit_and (chunk (padded k bytes)) 17_361_641_481_138_401_520 ≡ 3_472_328_296_227_680_304 → bit_and ((chunk (padded k bytes) + 434_041_037_028_460_038) % 2 ^ 64) 17_361_641_481_138_401_520 ≡ 3_472_328_296_227_680_304 → PaddedRead
-  padded_read here more =
+  pub padded_counted : bit_and (chunk (padded k bytes)) 17_361_641_481_138_401_520 ≡ 3_472_328_296_227_680_304 → bit_and ((chunk (padded k bytes) + 434_041_037_028_460_038) % 2 ^ 64) 17_361_641_481_138_401_520 ≡ 3_472_328_296_227_680_304 → 8 ≤ digit_count (padded k bytes)
+  padded_counted here more =
       let r = eight_read (padded k bytes) (omega (arith, padded_long)) padded_fit (rw padded_whole here) (rw padded_whole more) in
-      record { eight = rw padded_whole at r; rest = padded_rest }
+      (digits_read 8 (padded k bytes) _ _ r.reads).enough
+
+-- the digits of a chunk
+pub padded_eight : (bytes : List ℕ) (number count : ℕ) → IsDigitChunk bytes number count → ((j : ℕ) → get_or bytes j 0 < 256) → EightChunk (padded count bytes) number
+padded_eight bytes number count c fit = rw c.number_is (rw (padded_whole bytes count c.few c.within fit) at (eight_there (padded count bytes) c.digits_are))

@@ -11,8 +11,8 @@ use Rattle.std.proofs.lemmas.Nat.{div-mul-add}
 use Rattle.parsing_combinator.specs.Pieces.{digits, digit_count, digit_run, fraction, nanoseconds_of}
 use Rattle.parsing_combinator.specs.Chunks.{chunk, padded, IsDigitChunk}
 use Rattle.parsing_combinator.proofs.Decimal.{count_prefix}
-use Rattle.parsing_combinator.proofs.FractionDigits.{digits_read}
-use Rattle.parsing_combinator.proofs.PaddingLemmas.{chunk_append, chunk_below, drop_fit, padded_read, take_fit}
+use Rattle.parsing_combinator.proofs.Lanes.{take_fit}
+use Rattle.parsing_combinator.proofs.PaddingLemmas.{chunk_append, chunk_below, drop_fit, padded_counted}
 use Rattle.parsing_fields.proofs.DigitLemmas.{Nine, short_read, none_of_nothing}
 use Rattle.parsing_fields.specs.Digits.{nine_digits, AreNineDigits}
 use Rattle.parsing_fields.specs.Written.{WriteFraction}
@@ -60,15 +60,13 @@ module _ (line : List ℕ) (end count : ℕ) (room : 8 ≤ end) (within : end �
   are_read x is here above =
       let run = take count (drop (end - count) line) in
       let inside : count ≤ length run = omega (arith, run_long) in
-      let r = padded_read run count few inside (cut_fit count (end - count) line fit) (rw is at here) (rw is at above) in
-      let d = digits_read 8 (padded count run) _ _ r.eight.reads in
       let nothing : drop count run ≡ [] = drop_all count run (omega (arith, run_long)) in
       record {
         some = some;
         few = few;
         within = inside;
         number_is = is;
-        digits_are = d.enough;
+        digits_are = padded_counted run count few inside (cut_fit count (end - count) line fit) (rw is at here) (rw is at above);
         ends = λ lt. ap (digits 1) nothing ∙ none_of_nothing;
       }
 

@@ -11,8 +11,7 @@ use Rattle.parsing_combinator.specs.Pieces.{digit_count, nanoseconds_of}
 use Rattle.parsing_combinator.proofs.Decimal.{value_append, value_zeros, digit_count_within}
 use Rattle.parsing_combinator.proofs.AtPlaces.{is_digit}
 use Rattle.parsing_combinator.proofs.FractionDigits.{short_fraction}
-use Rattle.parsing_combinator.proofs.Lanes.{spelled, spelled_is}
-use Rattle.parsing_combinator.proofs.PaddingLemmas.{take_fit}
+use Rattle.parsing_combinator.proofs.Lanes.{spelled, spelled_is, take_fit}
 use Rattle.parsing_fields.specs.Digits.{nine_digits, AreNineDigits}
 use Rattle.parsing_fields.specs.Written.{WriteFraction}
 use lib.Lanes.{number_l, chunk}
