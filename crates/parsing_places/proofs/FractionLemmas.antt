@@ -5,7 +5,7 @@ use Rattle.std.specs.Int.{from_le_bytes, to_le_bytes}
 use Rattle.std.specs.Str.Parse.{digits_value}
 use Rattle.std.proofs.lemmas.Bool.{cases_lt}
 use Rattle.std.proofs.lemmas.Bool.Decides.{nat_tests}
-use Rattle.std.proofs.lemmas.List.{get_or_past, get_or-take, get_or-drop, get_or-replicate, length-take-le, length-drop, length-replicate}
+use Rattle.std.proofs.lemmas.List.{ext_get_or, get_or-take, get_or-drop, get_or-replicate, length-take-le, length-drop, length-replicate}
 use Rattle.std.proofs.lemmas.Nat.{le_bytes_8}
 use Rattle.parsing_combinator.specs.Pieces.{digit_count, nanoseconds_of}
 use Rattle.parsing_combinator.proofs.Decimal.{value_append, value_zeros, digit_count_within}
@@ -15,15 +15,6 @@ use Rattle.parsing_combinator.proofs.Lanes.{spelled, spelled_is, take_fit}
 use Rattle.parsing_fields.specs.Digits.{nine_digits, AreNineDigits}
 use Rattle.parsing_fields.specs.Written.{WriteFraction}
 use lib.Lanes.{number_l, chunk}
-
-same_all : (xs ys : List ℕ) → length xs ≡ length ys → ((k : ℕ) → k < length xs → get_or xs k 0 ≡ get_or ys k 0) → xs ≡ ys
-same_all [] [] n h = refl
-same_all [] (y ∷ ys) n h = absurd (omega (arith, n))
-same_all (x ∷ xs) [] n h = absurd (omega (arith, n))
-same_all (x ∷ xs) (y ∷ ys) n h =
-    let first : x ≡ y = h 0 (omega arith) in
-    let rest : xs ≡ ys = same_all xs ys (omega (arith, n)) (λ k lt. h (suc k) (omega (arith, lt))) in
-    cc
 
 -- digits before are counted
 counted : (xs : List ℕ) (n : ℕ) → n ≤ length xs → ((k : ℕ) → k < n → is_ascii_digit (get_or xs k 0) ≡ true) → n ≤ digit_count xs
@@ -60,11 +51,11 @@ fraction_in bytes f count first last few within n small low high same zeros is e
     let long : length (take 9 f) ≡ 9 = length-take-le 9 f (omega (arith, n)) in
     let run : List ℕ = take count bytes in
     let run_long : length run ≡ count = length-take-le count bytes within in
-    let prefix : take count (take 9 f) ≡ run = same_all (take count (take 9 f)) run (length-take-le count (take 9 f) (omega (arith, long, few)) ∙ sym run_long)
+    let prefix : take count (take 9 f) ≡ run = ext_get_or 0 (take count (take 9 f)) run (length-take-le count (take 9 f) (omega (arith, long, few)) ∙ sym run_long)
     (λ k lt. let lt' : k < count = omega (arith, lt, length-take-le count (take 9 f) (omega (arith, long, few))) in
     get_or-take count (take 9 f) k 0 lt' ∙ get_or-take 9 f k 0 (omega (arith, lt', few)) ∙ same k lt' ∙ sym (get_or-take count bytes k 0 lt')) in
     let after_long : length (drop count (take 9 f)) ≡ 9 - count = omega (arith, length-drop count (take 9 f), long) in
-    let after : drop count (take 9 f) ≡ replicate (9 - count) 48 = same_all (drop count (take 9 f)) (replicate (9 - count) 48) (after_long ∙ sym (length-replicate (9 - count) 48))
+    let after : drop count (take 9 f) ≡ replicate (9 - count) 48 = ext_get_or 0 (drop count (take 9 f)) (replicate (9 - count) 48) (after_long ∙ sym (length-replicate (9 - count) 48))
     (λ k lt. let lt' : k < 9 - count = omega (arith, lt, after_long) in
     get_or-drop count (take 9 f) k 0 ∙ get_or-take 9 f (count + k) 0 (omega (arith, lt')) ∙ zeros (count + k) (omega arith) (omega (arith, lt')) ∙ sym (get_or-replicate (9 - count) k 48 0 lt')) in
     let split : take 9 f ≡ run ++ replicate (9 - count) 48 = sym (take-append-drop count (take 9 f)) ∙ rw (prefix, after) refl in

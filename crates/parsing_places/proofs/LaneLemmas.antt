@@ -30,17 +30,10 @@ weights = 1 ∷ 0 ∷ 64 ∷ 0 ∷ 60 ∷ 0 ∷ 1 ∷ 0 ∷ 60 ∷ 0 ∷ 1 ∷ 0
 sum_at : (xs : List ℕ) (k : ℕ) → length xs ≡ 16 → get_or (dots xs weights) k 0 ≡ get_or (dots (spelled 16 0 xs) weights) k 0
 sum_at xs k n = ap (λ v. get_or (dots v weights) k 0) (expanded xs n)
 
-pub first_sum : (xs : List ℕ) → length xs ≡ 16 → get_or (dots xs weights) 0 0 ≡ get_or xs 0 0 + 64 * get_or xs 2 0
-first_sum xs n = sum_at xs 0 n ∙ omega arith
-
-pub second_sum : (xs : List ℕ) → length xs ≡ 16 → get_or (dots xs weights) 1 0 ≡ 60 * get_or xs 4 0 + get_or xs 6 0
-second_sum xs n = sum_at xs 1 n ∙ omega arith
-
-pub third_sum : (xs : List ℕ) → length xs ≡ 16 → get_or (dots xs weights) 2 0 ≡ 60 * get_or xs 8 0 + get_or xs 10 0
-third_sum xs n = sum_at xs 2 n ∙ omega arith
-
-pub fourth_sum : (xs : List ℕ) → length xs ≡ 16 → get_or (dots xs weights) 3 0 ≡ get_or xs 12 0 + 64 * get_or xs 14 0
-fourth_sum xs n = sum_at xs 3 n ∙ omega arith
+pub sums_are : (xs : List ℕ) → length xs ≡ 16 → (get_or (dots xs weights) 0 0 ≡ get_or xs 0 0 + 64 * get_or xs 2 0)
+    × (get_or (dots xs weights) 1 0 ≡ 60 * get_or xs 4 0 + get_or xs 6 0) × (get_or (dots xs weights) 2 0 ≡ 60 * get_or xs 8 0 + get_or xs 10 0)
+    × (get_or (dots xs weights) 3 0 ≡ get_or xs 12 0 + 64 * get_or xs 14 0)
+sums_are xs n = (sum_at xs 0 n ∙ omega arith, sum_at xs 1 n ∙ omega arith, sum_at xs 2 n ∙ omega arith, sum_at xs 3 n ∙ omega arith)
 
 -- ---- wider and narrower lanes
 

@@ -36,13 +36,10 @@ ordinal_yes y o n e f = rw (e, f) (grind (arith, nat_tests, ints))
 pub ordinal_year : (y : ℤ) (o n : ℕ) → is_ordinal_day y o n ≡ true → (day_at n).year ≡ y
 ordinal_year y o n h = grind (arith, nat_tests, ints)
 
-ordinal_place : (y : ℤ) (o n : ℕ) → is_ordinal_day y o n ≡ true → ordinal_at n ≡ o
-ordinal_place y o n h = grind (arith, nat_tests)
-
 pub ordinal_count : (y : ℤ) (o n k : ℕ) → y +ℤ pos greatest_year ≡ pos n → is_ordinal_day y o k ≡ true → IsInRange 1 (days_in_year y) o × (o + days_before_year n ≡ k + 1)
 ordinal_count y o n k e h =
     let same = ordinal_year y o k h in
-    let place = ordinal_place y o k h in
+    let place : ordinal_at k ≡ o = grind (arith, nat_tests, h) in
     let within = days_between k y n e same in
     let is = ordinal_after k n y e same in
     (omega (arith, is, place), omega (arith, is, place))

@@ -27,6 +27,6 @@ invariant_of-result-3 c =
       zulu = λ is. zulu_there _ e n g size few same whole refl refl is refl;
       colon = λ is. colon_there _ e n g size few same whole refl refl is refl;
       plain = λ is. plain_there _ e n g size few same whole refl refl is refl;
-      point = λ is. point_there _ e n g size few same whole refl refl is refl;
+      point = λ is. point_there _ e n g size few same whole refl refl is;
       fraction_is = λ is. fraction_there _ e n g size few same whole refl refl is refl;
     }
