@@ -1,5 +1,5 @@
 -- Digits that end at a place of a line, and the fraction of a second that they write.
-use Rattle.std.proofs.Common.{◌≡◌, ℕ, zero, suc, ◌+◌, ◌-◌, ◌*◌, ◌/◌, ◌%◌, ◌^◌, ◌<◌, ◌≤◌, ◌==◌, eqb, List, [], ◌∷◌, ◌++◌, length, get_or, take, drop, replicate, Option, Some, true, false, refl, sym, ap, ◌∙◌, arith, lit<, take-append-drop}
+use Rattle.std.proofs.Common.{◌≡◌, ℕ, ◌+◌, ◌-◌, ◌*◌, ◌/◌, ◌%◌, ◌^◌, ◌<◌, ◌≤◌, ◌==◌, eqb, List, [], ◌++◌, length, get_or, take, drop, replicate, Option, Some, true, false, refl, sym, ap, ◌∙◌, arith, take-append-drop}
 use Rattle.std.specs.Char.{is_ascii_digit}
 use Rattle.std.specs.Int.Bits.{bit_and}
 use Rattle.std.specs.Option.{unwrap_or}

@@ -1,5 +1,5 @@
 -- Where the digits of a text are taken from.
-use Rattle.std.specs.Prelude.{◌≡◌, ◌≤◌, ◌<◌, ◌+◌, ◌-◌, ℕ, get_or, true, false}
+use Rattle.std.specs.Prelude.{◌≡◌, ◌≤◌, ◌<◌, ◌+◌, ◌-◌, ℕ, get_or}
 use Rattle.parsing_places.specs.declared.lanes.Moves.{Moves}
 use Rattle.parsing_places.specs.declared.shape.Window.{Window}
 

@@ -4,7 +4,7 @@ use Rattle.std.specs.Int.{IsInRange}
 use Rattle.std.proofs.lemmas.Bool.Decides.{nat_tests}
 use Rattle.std.proofs.lemmas.Int.{ints}
 use Rattle.calendar_count.specs.Range.{greatest_year, IsYear, IsCount}
-use Rattle.calendar_count.specs.Calendar.{is_year, days_in_year, day_at, ordinal_at, weekday_at, iso_year_at, iso_week_at, IsIsoDay}
+use Rattle.calendar_count.specs.Calendar.{is_year, days_in_year, day_at, ordinal_at, IsIsoDay}
 use Rattle.calendar_count.specs.Closed.{days_before_year}
 use Rattle.calendar_count.specs.ComponentRange.{out_of_range, out_of_conditional_range}
 use Rattle.calendar_count.specs.declared.component_range.ComponentName.{ComponentName}

@@ -1,6 +1,5 @@
 -- What it says of numbers that they name a date, a time of day or an offset.
-use Rattle.std.proofs.Common.{◌≡◌, ℕ, ◌≤◌, ◌==◌, Bool, true, false, cond, Option, Some, None, Result, Ok, Err, refl, arith, lit<, inl, inr, ℤ}
-use Rattle.std.specs.Prelude.{pos, neg_ℤ, nat_lt, unsigned_abs}
+use Rattle.std.proofs.Common.{◌≡◌, ℕ, ◌≤◌, Bool, true, false, cond, Option, Some, None, Result, Ok, Err, refl, arith, inl, inr, ℤ}
 use Rattle.std.specs.Option.{ok_or}
 use Rattle.std.specs.Int.{is_in_range}
 use Rattle.std.proofs.lemmas.Bool.{cases_lt}
