@@ -3,10 +3,9 @@ use Rattle.std.proofs.Common.{◌≡◌, ◌≤◌, ◌<◌, ◌+◌, ◌-◌, �
 use Rattle.std.specs.Char.{is_ascii_digit}
 use Rattle.std.proofs.lemmas.Bool.Decides.{nat_tests}
 use Rattle.std.proofs.lemmas.List.{drop-drop, drop_more, get_or-drop, length-drop}
-use Rattle.base.specs.Bytes.{plus, hyphen, colon}
-use Rattle.parsing_combinator.specs.Chunks.{IsClock}
+use Rattle.base.specs.Bytes.{plus, hyphen}
 use Rattle.parsing_combinator.specs.Pieces.{digits, byte, byte_of, sign}
-use Rattle.parsing_combinator.specs.Places.{HasDigit, HasPair, HasClock}
+use Rattle.parsing_combinator.specs.Places.{HasDigit, HasPair}
 use Rattle.parsing_combinator.proofs.Fixed.{digits_two, digits_four}
 use Rattle.parsing_combinator.proofs.Prefixes.{byte_at}
 
@@ -77,51 +76,3 @@ sign_of c rest e = rw e refl
 
 pub sign_there : (text : List ℕ) (place : ℕ) → place < length text → ((get_or text place 0 == plus) || (get_or text place 0 == hyphen)) ≡ true → sign (drop place text) ≡ Some (get_or text place 0, drop (place + 1) text)
 sign_there text place lt e = rw (drop_more text place 0 lt) (sign_of (get_or text place 0) (drop (place + 1) text) e)
-
--- digits between bounds
-pub digit_between : (text : List ℕ) (place low high : ℕ) → 48 ≤ low → high ≤ 57 → (low ≤ get_or text place 0) × (get_or text place 0 ≤ high) → HasDigit text place
-digit_between text place low high least most h = record { low = omega (arith, h.0); high = omega (arith, h.1) }
-
--- ---- a clock in one number
-
-abbrev made : ℕ → ℕ
-made w = (w - 3_472_339_291_344_613_424) * 2561 % 2 ^ 64
-
-record ClockPairs (w a b d e g h : ℕ) : Type 0 where
-  hour : made w / 256 % 256 ≡ (a - 48) * 10 + (b - 48)
-  minute : made w / 4_294_967_296 % 256 ≡ (d - 48) * 10 + (e - 48)
-  second : made w / 72_057_594_037_927_936 ≡ (g - 48) * 10 + (h - 48)
-
-clock_of : (w a b d e g h : ℕ) → a ≤ 9 → b ≤ 9 → d ≤ 9 → e ≤ 9 → g ≤ 9 → h ≤ 9 → w ≡ a + 48 + (b + 48) * 256 + 58 * 65_536 + (d + 48) * 16_777_216 + (e + 48) * 4_294_967_296 + 58 * 1_099_511_627_776 + (g + 48) * 281_474_976_710_656 + (h + 48) * 72_057_594_037_927_936 → ClockPairs w (a + 48) (b + 48) (d + 48) (e + 48) (g + 48) (h + 48)
-clock_of w a b d e g h ha hb hd he hg hh is =
-    let product : made w ≡ a + (a * 10 + b) * 256 + b * 10 * 65_536 + d * 16_777_216 + (d * 10 + e) * 4_294_967_296 + e * 10 * 1_099_511_627_776 + g * 281_474_976_710_656 + (g * 10 + h) * 72_057_594_037_927_936 = omega arith in
-    record { hour = omega arith; minute = omega arith; second = omega arith }
-
-clock_by : (w a b d e g h : ℕ) → 48 ≤ a → a ≤ 57 → 48 ≤ b → b ≤ 57 → 48 ≤ d → d ≤ 57 → 48 ≤ e → e ≤ 57 → 48 ≤ g → g ≤ 57 → 48 ≤ h → h ≤ 57 → w ≡ a + b * 256 + 58 * 65_536 + d * 16_777_216 + e * 4_294_967_296 + 58 * 1_099_511_627_776 + g * 281_474_976_710_656 + h * 72_057_594_037_927_936 → ClockPairs w a b d e g h
-clock_by w a b d e g h la ha lb hb ld hd le he lg hg lh hh is =
-    let p = clock_of w (a - 48) (b - 48) (d - 48) (e - 48) (g - 48) (h - 48) (omega arith) (omega arith) (omega arith) (omega arith) (omega arith) (omega arith) (omega arith) in
-    rw (shifted a la, shifted b lb, shifted d ld, shifted e le, shifted g lg, shifted h lh) at p
-
-pub clock_there : (w : ℕ) (text : List ℕ) (place : ℕ) → HasClock text place → w ≡ get_or text place 0 + get_or text (place + 1) 0 * 256 + get_or text (place + 2) 0 * 65_536 + get_or text (place + 3) 0 * 16_777_216 + get_or text (place + 4) 0 * 4_294_967_296 + get_or text (place + 5) 0 * 1_099_511_627_776 + get_or text (place + 6) 0 * 281_474_976_710_656 + get_or text (place + 7) 0 * 72_057_594_037_927_936
-    → IsClock (drop place text) (made w / 256 % 256) (made w / 4_294_967_296 % 256) (made w / 72_057_594_037_927_936) (drop (place + 8) text)
-clock_there w text place k is =
-    let fourth : place + 3 + 1 ≡ place + 4 = omega arith in
-    let fifth : place + 3 + 2 ≡ place + 5 = omega arith in
-    let seventh : place + 6 + 1 ≡ place + 7 = omega arith in
-    let eighth : place + 6 + 2 ≡ place + 8 = omega arith in
-    let third : place + 2 + 1 ≡ place + 3 = omega arith in
-    let sixth : place + 5 + 1 ≡ place + 6 = omega arith in
-    let e : HasDigit text (place + 4) = rw fourth at k.minute.second in
-    let h : HasDigit text (place + 7) = rw seventh at k.second.second in
-    let room = k.second.room in
-    let p = clock_by w _ _ _ _ _ _ k.hour.first.low k.hour.first.high k.hour.second.low k.hour.second.high k.minute.first.low k.minute.first.high e.low e.high k.second.first.low k.second.first.high h.low h.high (omega (arith, k.first_colon, k.second_colon)) in
-    let minute = rw (fourth, fifth) at (two_there text (place + 3) k.minute) in
-    let second = rw (seventh, eighth) at (two_there text (place + 6) k.second) in
-    record {
-      hour_digits = rw (p.hour, drop-drop 2 place text) (two_there text place k.hour);
-      first_colon = rw (drop-drop 2 place text, drop-drop 3 place text) (rw third at (byte_there text (place + 2) colon (omega arith) k.first_colon));
-      minute_digits = rw (p.minute, drop-drop 3 place text, drop-drop 5 place text) minute;
-      second_colon = rw (drop-drop 5 place text, drop-drop 6 place text) (rw sixth at (byte_there text (place + 5) colon (omega arith) k.second_colon));
-      second_digits = rw (p.second, drop-drop 6 place text, drop-drop 8 place text) second;
-      rest_is = drop-drop 8 place text;
-    }

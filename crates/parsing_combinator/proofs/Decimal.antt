@@ -1,5 +1,5 @@
 -- The numbers that digits write, and how many digits there are.
-use Rattle.std.proofs.Common.{◌≡◌, ℕ, zero, suc, cond, ◌+◌, ◌-◌, ◌*◌, ◌^◌, ◌<◌, ◌≤◌, Bool, true, false, List, [], ◌∷◌, ◌++◌, length, take, drop, refl, ap, ◌∙◌, arith}
+use Rattle.std.proofs.Common.{◌≡◌, ℕ, zero, suc, cond, ◌+◌, ◌-◌, ◌*◌, ◌^◌, ◌<◌, ◌≤◌, Bool, true, false, List, [], ◌∷◌, ◌++◌, length, take, drop, replicate, refl, ap, ◌∙◌, arith}
 use Rattle.std.specs.Char.{is_ascii_digit, digit_value}
 use Rattle.std.specs.Str.Parse.{digits_value_after}
 use Rattle.std.proofs.lemmas.Bool.Decides.{nat_tests}
@@ -27,6 +27,11 @@ value_after n (c ∷ cs) =
 pub value_append : (n : ℕ) (xs ys : List ℕ) → digits_value_after 10 n (xs ++ ys) ≡ digits_value_after 10 (digits_value_after 10 n xs) ys
 value_append n [] ys = refl
 value_append n (x ∷ xs) ys = value_append (n * 10 + digit_value x) xs ys
+
+-- zeros after a number
+pub value_zeros : (n m : ℕ) → digits_value_after 10 n (replicate m 48) ≡ n * 10 ^ m
+value_zeros n zero = omega arith
+value_zeros n (suc m) = value_zeros (n * 10 + 0) m ∙ rw (power_next m) (omega arith)
 
 count_step : (b : Bool) (n k m : ℕ) → (n ≤ k → m + n ≡ k) → suc n ≤ cond b (1 + k) 0 → m + suc n ≡ cond b (1 + k) 0
 count_step true n k m more le = omega (arith, more (omega arith))

@@ -1,10 +1,14 @@
 -- Eight digits read at once.
-use Rattle.std.proofs.Common.{◌≡◌, ℕ, ◌+◌, ◌-◌, ◌*◌, ◌/◌, ◌%◌, ◌^◌, ◌<◌, ◌≤◌, List, [], ◌∷◌, length, get_or, take, drop, Some, refl, arith, lit<}
+use Rattle.std.proofs.Common.{◌≡◌, ℕ, zero, suc, ◌+◌, ◌-◌, ◌*◌, ◌/◌, ◌%◌, ◌^◌, ◌<◌, ◌≤◌, ◌∙◌, List, [], ◌∷◌, ◌++◌, length, get_or, take, drop, replicate, Some, refl, sym, ap, subst, arith, lit<, take-append-drop}
+use Rattle.std.specs.Char.{is_ascii_digit}
 use Rattle.std.specs.Int.Bits.{bit_and}
-use Rattle.parsing_combinator.specs.Pieces.{digits}
+use Rattle.std.proofs.lemmas.List.{get_or-take, length-take-le}
+use Rattle.std.proofs.lemmas.List.Sums.{prefix_len_passes}
+use Rattle.parsing_combinator.proofs.Decimal.{digit_here, digit_count_within}
+use Rattle.parsing_combinator.specs.Pieces.{digits, digit_count}
 use Rattle.parsing_combinator.specs.Chunks.{chunk, paired}
-use Rattle.parsing_combinator.proofs.Prefixes.{digit_of, eight_at}
-use Rattle.parsing_combinator.proofs.Lanes.{masked, pair_here, pair_next, half_lane}
+use Rattle.parsing_combinator.proofs.Prefixes.{Digit, digit_of, eight_at}
+use Rattle.parsing_combinator.proofs.Lanes.{AreBytes, are_bytes, take_fit, spelled, spelled_is, split, pair_here, pair_next, half_lane}
 
 -- the number without what makes its bytes digits, and what it says of the bytes
 pub record EightChunk (bytes : List ℕ) (w : ℕ) : Type 0 where
@@ -61,35 +65,59 @@ of_bytes : (a b c d e f g h xa xb xc xd xe xf xg xh : ℕ) (rest : List ℕ) →
 of_bytes a b c d e f g h xa xb xc xd xe xf xg xh rest ha hb hc hd he hf hg hh is_a is_b is_c is_d is_e is_f is_g is_h =
     rw (is_a, is_b, is_c, is_d, is_e, is_f, is_g, is_h) (of_digits xa xb xc xd xe xf xg xh rest _ ha hb hc hd he hf hg hh refl)
 
+-- bytes with the high half of a digit
+halves_below : (bs : List ℕ) → AreBytes bs → bit_and (chunk bs) (chunk (replicate (length bs) 240)) ≡ chunk (replicate (length bs) 48) → chunk bs ≤ chunk (replicate (length bs) 63)
+unfolding chunk
+halves_below [] are here = omega arith
+halves_below (b ∷ bs) are here =
+    let s = split (chunk bs) b (chunk (replicate (length bs) 240)) 240 (chunk (replicate (length bs) 48)) 48 are.0 (lit< tt) (lit< tt) here in
+    omega (arith, halves_below bs are.1 s.high, half_lane b are.0 s.low)
+
+digit_at : (b : ℕ) (bs : List ℕ) (k : ℕ) → Digit b → ((j : ℕ) → j < length bs → Digit (get_or bs j 0)) → k < suc (length bs) → Digit (get_or (b ∷ bs) k 0)
+digit_at b bs zero first rest lt = first
+digit_at b bs (suc k) first rest lt = rest k (omega arith)
+
+-- a test of all bytes, and of those six above them: each is a digit
+all_digits : (bs : List ℕ) → AreBytes bs → bit_and (chunk bs) (chunk (replicate (length bs) 240)) ≡ chunk (replicate (length bs) 48)
+    → bit_and (chunk bs + chunk (replicate (length bs) 6)) (chunk (replicate (length bs) 240)) ≡ chunk (replicate (length bs) 48) → (k : ℕ) → k < length bs → Digit (get_or bs k 0)
+unfolding chunk
+all_digits [] are here more k lt = absurd (omega arith)
+all_digits (b ∷ bs) are here more k lt =
+    let n = length bs in
+    let s = split (chunk bs) b (chunk (replicate n 240)) 240 (chunk (replicate n 48)) 48 are.0 (lit< tt) (lit< tt) here in
+    let sum : chunk bs * 256 + b + (chunk (replicate n 6) * 256 + 6) ≡ (chunk bs + chunk (replicate n 6)) * 256 + (b + 6) = omega arith in
+    let above = split (chunk bs + chunk (replicate n 6)) (b + 6) (chunk (replicate n 240)) 240 (chunk (replicate n 48)) 48 (omega (arith, half_lane b are.0 s.low)) (lit< tt) (lit< tt) (rw sum at more) in
+    digit_at b bs k (digit_of b are.0 s.low above.low) (λ j less. all_digits bs are.1 s.high above.high j less) lt
+
+eight_of : (bytes : List ℕ) → 8 ≤ length bytes → ((k : ℕ) → k < 8 → Digit (get_or bytes k 0)) → EightChunk bytes (chunk (take 8 bytes))
+eight_of bytes le d =
+    let is : take 8 bytes ≡ spelled 8 0 bytes = spelled_is 8 0 bytes le in
+    let whole : bytes ≡ spelled 8 0 bytes ++ drop 8 bytes = sym (take-append-drop 8 bytes) ∙ ap (λ xs. xs ++ drop 8 bytes) is in
+    let d0 = d 0 (lit< tt) in
+    let d1 = d 1 (lit< tt) in
+    let d2 = d 2 (lit< tt) in
+    let d3 = d 3 (lit< tt) in
+    let d4 = d 4 (lit< tt) in
+    let d5 = d 5 (lit< tt) in
+    let d6 = d 6 (lit< tt) in
+    let d7 = d 7 (lit< tt) in
+    let r = of_bytes _ _ _ _ _ _ _ _ d0.value d1.value d2.value d3.value d4.value d5.value d6.value d7.value (drop 8 bytes)
+    d0.small d1.small d2.small d3.small d4.small d5.small d6.small d7.small d0.is d1.is d2.is d3.is d4.is d5.is d6.is d7.is in
+    rw is (subst (λ (xs : List ℕ). EightChunk xs (chunk (spelled 8 0 bytes))) (sym whole) r)
+
+-- eight digits that are there
+pub eight_there : (bytes : List ℕ) → 8 ≤ digit_count bytes → EightChunk bytes (chunk (take 8 bytes))
+eight_there bytes enough = eight_of bytes (omega (arith, digit_count_within bytes)) (λ k lt.
+    let d = digit_here (get_or bytes k 0) (prefix_len_passes is_ascii_digit bytes k 0 (omega arith)) in
+    record { value = get_or bytes k 0 - 48; small = omega (arith, d.1); is = omega (arith, d.0) })
+
 -- what the test of the whole number says
 pub eight_read : (bytes : List ℕ) → 8 ≤ length bytes → ((k : ℕ) → get_or bytes k 0 < 256) → bit_and (chunk (take 8 bytes)) 17_361_641_481_138_401_520 ≡ 3_472_328_296_227_680_304 → bit_and ((chunk (take 8 bytes) + 434_041_037_028_460_038) % 2 ^ 64) 17_361_641_481_138_401_520 ≡ 3_472_328_296_227_680_304 → EightChunk bytes (chunk (take 8 bytes))
 unfolding chunk
-eight_read [] le fit here more = absurd (omega arith)
-eight_read (a ∷ []) le fit here more = absurd (omega arith)
-eight_read (a ∷ b ∷ []) le fit here more = absurd (omega arith)
-eight_read (a ∷ b ∷ c ∷ []) le fit here more = absurd (omega arith)
-eight_read (a ∷ b ∷ c ∷ d ∷ []) le fit here more = absurd (omega arith)
-eight_read (a ∷ b ∷ c ∷ d ∷ e ∷ []) le fit here more = absurd (omega arith)
-eight_read (a ∷ b ∷ c ∷ d ∷ e ∷ f ∷ []) le fit here more = absurd (omega arith)
-eight_read (a ∷ b ∷ c ∷ d ∷ e ∷ f ∷ g ∷ []) le fit here more = absurd (omega arith)
-eight_read (a ∷ b ∷ c ∷ d ∷ e ∷ f ∷ g ∷ h ∷ rest) le fit here more =
-    let m = masked (a ∷ b ∷ c ∷ d ∷ e ∷ f ∷ g ∷ h ∷ []) (240 ∷ 240 ∷ 240 ∷ 240 ∷ 240 ∷ 240 ∷ 240 ∷ 240 ∷ []) (48 ∷ 48 ∷ 48 ∷ 48 ∷ 48 ∷ 48 ∷ 48 ∷ 48 ∷ []) (fit 0, (fit 1, (fit 2, (fit 3, (fit 4, (fit 5, (fit 6, (fit 7, tt)))))))) (lit< tt, (lit< tt, (lit< tt, (lit< tt, (lit< tt, (lit< tt, (lit< tt, (lit< tt, tt)))))))) (lit< tt, (lit< tt, (lit< tt, (lit< tt, (lit< tt, (lit< tt, (lit< tt, (lit< tt, tt)))))))) here in
-    let ha = half_lane a (fit 0) m.0 in
-    let hb = half_lane b (fit 1) m.1.0 in
-    let hc = half_lane c (fit 2) m.1.1.0 in
-    let hd = half_lane d (fit 3) m.1.1.1.0 in
-    let he = half_lane e (fit 4) m.1.1.1.1.0 in
-    let hf = half_lane f (fit 5) m.1.1.1.1.1.0 in
-    let hg = half_lane g (fit 6) m.1.1.1.1.1.1.0 in
-    let hh = half_lane h (fit 7) m.1.1.1.1.1.1.1.0 in
-    let sum : (chunk (a ∷ b ∷ c ∷ d ∷ e ∷ f ∷ g ∷ h ∷ []) + 434_041_037_028_460_038) % 2 ^ 64 ≡ chunk ((a + 6) ∷ (b + 6) ∷ (c + 6) ∷ (d + 6) ∷ (e + 6) ∷ (f + 6) ∷ (g + 6) ∷ (h + 6) ∷ []) = omega (arith, ha.1, hb.1, hc.1, hd.1, he.1, hf.1, hg.1, hh.1) in
-    let n = masked ((a + 6) ∷ (b + 6) ∷ (c + 6) ∷ (d + 6) ∷ (e + 6) ∷ (f + 6) ∷ (g + 6) ∷ (h + 6) ∷ []) (240 ∷ 240 ∷ 240 ∷ 240 ∷ 240 ∷ 240 ∷ 240 ∷ 240 ∷ []) (48 ∷ 48 ∷ 48 ∷ 48 ∷ 48 ∷ 48 ∷ 48 ∷ 48 ∷ []) (omega (arith, ha.1), (omega (arith, hb.1), (omega (arith, hc.1), (omega (arith, hd.1), (omega (arith, he.1), (omega (arith, hf.1), (omega (arith, hg.1), (omega (arith, hh.1), tt)))))))) (lit< tt, (lit< tt, (lit< tt, (lit< tt, (lit< tt, (lit< tt, (lit< tt, (lit< tt, tt)))))))) (lit< tt, (lit< tt, (lit< tt, (lit< tt, (lit< tt, (lit< tt, (lit< tt, (lit< tt, tt)))))))) (rw sum at more) in
-    let da = digit_of a (fit 0) m.0 n.0 in
-    let db = digit_of b (fit 1) m.1.0 n.1.0 in
-    let dc = digit_of c (fit 2) m.1.1.0 n.1.1.0 in
-    let dd = digit_of d (fit 3) m.1.1.1.0 n.1.1.1.0 in
-    let de = digit_of e (fit 4) m.1.1.1.1.0 n.1.1.1.1.0 in
-    let df = digit_of f (fit 5) m.1.1.1.1.1.0 n.1.1.1.1.1.0 in
-    let dg = digit_of g (fit 6) m.1.1.1.1.1.1.0 n.1.1.1.1.1.1.0 in
-    let dh = digit_of h (fit 7) m.1.1.1.1.1.1.1.0 n.1.1.1.1.1.1.1.0 in
-    of_bytes a b c d e f g h da.value db.value dc.value dd.value de.value df.value dg.value dh.value rest da.small db.small dc.small dd.small de.small df.small dg.small dh.small da.is db.is dc.is dd.is de.is df.is dg.is dh.is
+eight_read bytes le fit here more =
+    let xs : List ℕ = take 8 bytes in
+    let long : length xs ≡ 8 = length-take-le 8 bytes le in
+    let are = are_bytes xs (take_fit 8 bytes fit) in
+    let least = halves_below xs are (rw long here) in
+    let sum : (chunk xs + 434_041_037_028_460_038) % 2 ^ 64 ≡ chunk xs + 434_041_037_028_460_038 = omega (arith, rw long at least) in
+    eight_of bytes le (λ k lt. rw (get_or-take 8 bytes k 0 lt) at (all_digits xs are (rw long here) (rw long (rw sum at more)) k (omega (arith, long))))

@@ -16,34 +16,24 @@ abbrev pub some_if : Bool → ℕ → List ℕ → Option (ℕ × List ℕ)
 some_if true v rest = Some (v, rest)
 some_if false v rest = None
 
-one : (p : Bool) (n v : ℕ) (rest : List ℕ) (more : Bool) → more ≡ true → some_if (leb 1 (cond p (1 + n) 0)) v rest ≡ some_if (more && p) v rest
-one true n v rest more h = rw h (ap (λ b. some_if b v rest) (let e : leb 1 (1 + n) ≡ true = grind (arith, nat_tests) in e))
-one false n v rest more h = rw h refl
+one : (p : Bool) (a n : ℕ) (rest : List ℕ) → is_ascii_digit a ≡ p → cond {A = Option (ℕ × List ℕ)} (leb 1 (cond p (1 + n) 0)) (Some (0 * 10 + digit_value a, rest)) None ≡ some_if p (a - 48) rest
+one true a n rest h =
+    let enough : leb 1 (1 + n) ≡ true = grind (arith, nat_tests) in
+    let value : 0 * 10 + digit_value a ≡ a - 48 = omega (arith, (digit_here a h).2) in
+    rw (enough, value) refl
+one false a n rest h = refl
 
-value_one : (p more : Bool) (a : ℕ) (rest : List ℕ) → is_ascii_digit a ≡ p → some_if (more && p) (0 * 10 + digit_value a) rest ≡ some_if (more && p) (a - 48) rest
-value_one true more a rest h = let e = (digit_here a h).2 in ap (λ (n : ℕ). some_if (more && true) n rest) (omega arith)
-value_one false true a rest h = refl
-value_one false false a rest h = refl
+two : (p q : Bool) (a b n : ℕ) (rest : List ℕ) → is_ascii_digit a ≡ p → is_ascii_digit b ≡ q → cond {A = Option (ℕ × List ℕ)} (leb 2 (cond p (1 + cond q (1 + n) 0) 0)) (Some ((0 * 10 + digit_value a) * 10 + digit_value b, rest)) None ≡ some_if (p && q) ((a - 48) * 10 + (b - 48)) rest
+two true true a b n rest h k =
+    let enough : leb 2 (1 + (1 + n)) ≡ true = grind (arith, nat_tests) in
+    let value : (0 * 10 + digit_value a) * 10 + digit_value b ≡ (a - 48) * 10 + (b - 48) = omega (arith, (digit_here a h).2, (digit_here b k).2) in
+    rw (enough, value) refl
+two true false a b n rest h k = refl
+two false q a b n rest h k = refl
 
-two : (p q : Bool) (n v : ℕ) (rest : List ℕ) (more : Bool) → more ≡ true → some_if (leb 2 (cond p (1 + cond q (1 + n) 0) 0)) v rest ≡ some_if (more && (p && q)) v rest
-two true true n v rest more h = rw h (ap (λ b. some_if b v rest) (let e : leb 2 (1 + (1 + n)) ≡ true = grind (arith, nat_tests) in e))
-two true false n v rest more h = rw h refl
-two false q n v rest more h = rw h refl
-
-two_of_one : (p : Bool) (v : ℕ) (rest : List ℕ) → some_if (leb 2 (cond p (1 + 0) 0)) v rest ≡ None
+two_of_one : (p : Bool) (v : ℕ) (rest : List ℕ) → cond {A = Option (ℕ × List ℕ)} (leb 2 (cond p (1 + 0) 0)) (Some (v, rest)) None ≡ None
 two_of_one true v rest = refl
 two_of_one false v rest = refl
-
-as_some_if : (b : Bool) (v : ℕ) (rest : List ℕ) → cond {A = Option (ℕ × List ℕ)} b (Some (v, rest)) None ≡ some_if b v rest
-as_some_if true v rest = refl
-as_some_if false v rest = refl
-
-value_two : (p q more : Bool) (a b : ℕ) (rest : List ℕ) → is_ascii_digit a ≡ p → is_ascii_digit b ≡ q → some_if (more && (p && q)) ((0 * 10 + digit_value a) * 10 + digit_value b) rest ≡ some_if (more && (p && q)) ((a - 48) * 10 + (b - 48)) rest
-value_two true true more a b rest h k = let e = (digit_here a h).2 in let f = (digit_here b k).2 in ap (λ (n : ℕ). some_if (more && (true && true)) n rest) (omega arith)
-value_two true false true a b rest h k = refl
-value_two true false false a b rest h k = refl
-value_two false q true a b rest h k = refl
-value_two false q false a b rest h k = refl
 
 -- one digit, by its place
 pub digits_one : (bytes : List ℕ) → digits 1 bytes ≡ some_if (leb 1 (length bytes) && is_ascii_digit (get_or bytes 0 0)) (get_or bytes 0 0 - 48) (drop 1 bytes)
@@ -51,16 +41,16 @@ unfolding digits
 digits_one [] = refl
 digits_one (a ∷ rest) =
     let more : leb 1 (suc (length rest)) ≡ true = grind (arith, nat_tests) in
-    as_some_if _ _ _ ∙ one (is_ascii_digit a) (digit_count rest) (0 * 10 + digit_value a) rest (leb 1 (suc (length rest))) more ∙ value_one (is_ascii_digit a) (leb 1 (suc (length rest))) a rest refl
+    rw more (one (is_ascii_digit a) a (digit_count rest) rest refl)
 
 -- two digits, by their places
 pub digits_two : (bytes : List ℕ) → digits 2 bytes ≡ some_if (leb 2 (length bytes) && (is_ascii_digit (get_or bytes 0 0) && is_ascii_digit (get_or bytes 1 0))) ((get_or bytes 0 0 - 48) * 10 + (get_or bytes 1 0 - 48)) (drop 2 bytes)
 unfolding digits
 digits_two [] = refl
-digits_two (a ∷ []) = as_some_if _ _ _ ∙ two_of_one (is_ascii_digit a) _ _
+digits_two (a ∷ []) = two_of_one (is_ascii_digit a) _ _
 digits_two (a ∷ b ∷ rest) =
     let more : leb 2 (suc (suc (length rest))) ≡ true = grind (arith, nat_tests) in
-    as_some_if _ _ _ ∙ two (is_ascii_digit a) (is_ascii_digit b) (digit_count rest) ((0 * 10 + digit_value a) * 10 + digit_value b) rest (leb 2 (suc (suc (length rest)))) more ∙ value_two (is_ascii_digit a) (is_ascii_digit b) (leb 2 (suc (suc (length rest)))) a b rest refl refl
+    rw more (two (is_ascii_digit a) (is_ascii_digit b) a b (digit_count rest) rest refl refl)
 
 -- one digit that is there
 pub digits_one_there : (bytes : List ℕ) → 1 ≤ length bytes → is_ascii_digit (get_or bytes 0 0) ≡ true → digits 1 bytes ≡ Some (get_or bytes 0 0 - 48, take (length bytes - 1) (drop 1 bytes))

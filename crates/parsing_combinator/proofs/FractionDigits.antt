@@ -1,36 +1,16 @@
 -- The digits of a fraction past the ninth have no effect.
-use Rattle.std.proofs.Common.{◌≡◌, ℕ, zero, suc, Bool, true, false, cond, ◌+◌, ◌-◌, ◌*◌, ◌/◌, ◌^◌, ◌<◌, ◌≤◌, List, [], ◌∷◌, length, take, drop, refl, sym, ap, ◌∙◌, arith, lit<, inl, inr, leb, Option, Some, None, unwrap_or}
-use Rattle.std.specs.Char.{is_ascii_digit, digit_value}
-use Rattle.std.specs.Str.Parse.{digits_value, digits_value_after, AllDigits}
+use Rattle.std.proofs.Common.{◌≡◌, ℕ, suc, Bool, true, false, cond, ◌+◌, ◌-◌, ◌*◌, ◌/◌, ◌^◌, ◌<◌, ◌≤◌, List, [], ◌∷◌, length, take, drop, refl, sym, ap, ◌∙◌, arith, lit<, inl, inr, leb, Option, Some, None, unwrap_or}
+use Rattle.std.specs.Char.{is_ascii_digit}
+use Rattle.std.specs.Str.Parse.{digits_value, AllDigits}
 use Rattle.std.proofs.lemmas.Bool.{cases_lt}
 use Rattle.std.proofs.lemmas.Bool.Decides.{nat_tests}
 use Rattle.std.proofs.lemmas.List.{take-append-drop, length-take-le, take_all, length-drop}
 use Rattle.std.proofs.lemmas.List.Sums.{prefix_len-le-length}
+use Rattle.std.proofs.lemmas.Int.Digits.{digits_value-lt}
 use Rattle.std.proofs.lemmas.Nat.{pow-add, le-div, div_below}
-use Rattle.std.proofs.Math.Nat.{mul-lt-mul_of_pos_right, mul-div_cancel, mul_assoc, mul-le-mul_right, mul-div-mul_right, one-le-pow}
-use Rattle.parsing_combinator.proofs.Decimal.{digit_here, power_next, value_append, count_drop}
+use Rattle.std.proofs.Math.Nat.{mul-lt-mul_of_pos_right, mul-div_cancel, mul_assoc, mul-div-mul_right, one-le-pow}
+use Rattle.parsing_combinator.proofs.Decimal.{digit_here, value_after, value_append, count_drop}
 use Rattle.parsing_combinator.specs.Pieces.{digits, digit_count, digit_run, fraction, nanoseconds_of}
-
-scale : (n p q d v : ℕ) → q ≡ p * 10 → (n * 10 + d) * p ≤ v → n * q ≤ v
-scale n p q d v e h = rw e (omega arith)
-
-scale_lt : (n p q d v : ℕ) → q ≡ p * 10 → d < 10 → v < (n * 10 + d + 1) * p → v < (n + 1) * q
-scale_lt n p q d v e small h = rw e (omega (arith, mul-le-mul_right p (let le : n * 10 + d + 1 ≤ n * 10 + 10 = omega arith in le)))
-
-value_after_ge : (n : ℕ) (cs : List ℕ) → n * 10 ^ length cs ≤ digits_value_after 10 n cs
-value_after_ge n [] = omega arith
-value_after_ge n (c ∷ cs) =
-    scale n (10 ^ length cs) (10 ^ suc (length cs)) (digit_value c) (digits_value_after 10 (n * 10 + digit_value c) cs) (power_next (length cs)) (value_after_ge (n * 10 + digit_value c) cs)
-
-value_after_lt : (n : ℕ) (cs : List ℕ) → AllDigits 10 cs → digits_value_after 10 n cs < (n + 1) * 10 ^ length cs
-value_after_lt n [] all = omega arith
-value_after_lt n (c ∷ cs) all =
-    scale_lt n (10 ^ length cs) (10 ^ suc (length cs)) (digit_value c) (digits_value_after 10 (n * 10 + digit_value c) cs) (power_next (length cs)) all.0 (value_after_lt (n * 10 + digit_value c) cs all.1)
-
-AllDigits-drop : (k : ℕ) (cs : List ℕ) → AllDigits 10 cs → AllDigits 10 (drop k cs)
-AllDigits-drop zero cs all = all
-AllDigits-drop (suc k) [] all = tt
-AllDigits-drop (suc k) (c ∷ cs) all = AllDigits-drop k cs all.1
 
 counted_first : (b : Bool) (n k : ℕ) → cond b (1 + n) 0 ≡ suc k → (b ≡ true) × (n ≡ k)
 counted_first true n k e = (refl, omega arith)
@@ -54,10 +34,13 @@ pub long_fraction : (run : List ℕ) → 9 < length run → digit_count run ≡ 
 long_fraction run lt all =
     let k = length run - 9 in
     let prefix = digits_value 10 (take 9 run) in
-    let rest_length : length (drop 9 run) ≡ k = length-drop 9 run in
-    let value : digits_value 10 run ≡ digits_value_after 10 prefix (drop 9 run) = ap (digits_value 10) (sym (take-append-drop 9 run)) ∙ value_append 0 (take 9 run) (drop 9 run) in
-    let low : prefix * 10 ^ k ≤ digits_value 10 run = rw (value, ← rest_length) (value_after_ge prefix (drop 9 run)) in
-    let high : digits_value 10 run < (prefix + 1) * 10 ^ k = rw (value, ← rest_length) (value_after_lt prefix (drop 9 run) (AllDigits-drop 9 run (all_digits run all))) in
+    let rest = drop 9 run in
+    let rest_length : length rest ≡ k = length-drop 9 run in
+    let counted = count_drop 9 run (omega arith) in
+    let small : digits_value 10 rest < 10 ^ k = rw rest_length at (digits_value-lt 10 rest (all_digits rest (omega (arith, rest_length, counted)))) in
+    let value : digits_value 10 run ≡ prefix * 10 ^ k + digits_value 10 rest = ap (digits_value 10) (sym (take-append-drop 9 run)) ∙ value_append 0 (take 9 run) rest ∙ rw rest_length at (value_after prefix rest) in
+    let low : prefix * 10 ^ k ≤ digits_value 10 run = omega (arith, value) in
+    let high : digits_value 10 run < (prefix + 1) * 10 ^ k = omega (arith, value, small) in
     let power : 10 ^ length run ≡ 10 ^ k * 10 ^ 9 = ap (λ (m : ℕ). 10 ^ m) (let e : length run ≡ k + 9 = omega arith in e) ∙ pow-add 10 k 9 in
     let less : nanoseconds_of run ≡ digits_value 10 run / 10 ^ k = ap (λ (m : ℕ). digits_value 10 run * 10 ^ 9 / m) power ∙ mul-div-mul_right {m = 10 ^ 9} (digits_value 10 run) (10 ^ k) (lit< tt) in
     let above = le-div prefix (digits_value 10 run) (10 ^ k) (one-le-pow k 10 (lit< tt)) low in

@@ -1,6 +1,7 @@
 -- Tests and sums of eight bytes at once.
-use Rattle.std.proofs.Common.{◌≡◌, ℕ, ◌+◌, ◌*◌, ◌/◌, ◌%◌, ◌<◌, ◌≤◌, List, [], ◌∷◌, length, get_or, take, sym, ◌∙◌, arith, lit<}
+use Rattle.std.proofs.Common.{◌≡◌, ℕ, zero, suc, ◌+◌, ◌*◌, ◌/◌, ◌%◌, ◌<◌, ◌≤◌, List, [], ◌∷◌, length, get_or, take, drop, refl, sym, ap, ◌∙◌, arith, lit<}
 use Rattle.std.specs.Int.Bits.{bit_and}
+use Rattle.std.proofs.lemmas.List.{drop_more}
 use Rattle.std.proofs.lemmas.Nat.{and_block, and_le_r}
 use Rattle.std.proofs.lemmas.Nat.Bits.{and_high_mask}
 use Rattle.parsing_combinator.specs.Chunks.{chunk, paired}
@@ -39,40 +40,34 @@ pub record Pairs (d rest : ℕ) : Type 0 where
 pub pairs : (d rest : ℕ) → d * 10 + rest % 256 < 256 → Pairs d rest
 pairs d rest small = record { low = omega arith; high = omega arith }
 
--- the bytes of a number, one by one
+-- so many from a place on, one by one
+abbrev pub spelled : ℕ → ℕ → List ℕ → List ℕ
+spelled zero i xs = []
+spelled (suc n) i xs = get_or xs i 0 ∷ spelled n (i + 1) xs
+
+pub spelled_is : (n i : ℕ) (xs : List ℕ) → i + n ≤ length xs → take n (drop i xs) ≡ spelled n i xs
+spelled_is zero i xs le = refl
+spelled_is (suc n) i xs le = ap (take (suc n)) (drop_more xs i 0 (omega (arith, le))) ∙ ap (λ t. get_or xs i 0 ∷ t) (spelled_is n (i + 1) xs (omega (arith, le)))
+
+-- the bytes of a number
 pub chunk_eight : (bytes : List ℕ) → 8 ≤ length bytes → chunk (take 8 bytes) ≡ get_or bytes 0 0 + get_or bytes 1 0 * 256 + get_or bytes 2 0 * 65_536 + get_or bytes 3 0 * 16_777_216 + get_or bytes 4 0 * 4_294_967_296 + get_or bytes 5 0 * 1_099_511_627_776 + get_or bytes 6 0 * 281_474_976_710_656 + get_or bytes 7 0 * 72_057_594_037_927_936
 unfolding chunk
-chunk_eight [] le = absurd (omega arith)
-chunk_eight (a ∷ []) le = absurd (omega arith)
-chunk_eight (a ∷ b ∷ []) le = absurd (omega arith)
-chunk_eight (a ∷ b ∷ c ∷ []) le = absurd (omega arith)
-chunk_eight (a ∷ b ∷ c ∷ d ∷ []) le = absurd (omega arith)
-chunk_eight (a ∷ b ∷ c ∷ d ∷ e ∷ []) le = absurd (omega arith)
-chunk_eight (a ∷ b ∷ c ∷ d ∷ e ∷ f ∷ []) le = absurd (omega arith)
-chunk_eight (a ∷ b ∷ c ∷ d ∷ e ∷ f ∷ g ∷ []) le = absurd (omega arith)
-chunk_eight (a ∷ b ∷ c ∷ d ∷ e ∷ f ∷ g ∷ h ∷ rest) le = omega arith
-
--- each byte under its mask
-abbrev pub Masked : List ℕ → List ℕ → List ℕ → Type 0
-Masked [] ms ps = Unit {0}
-Masked (b ∷ bs) [] ps = Unit {0}
-Masked (b ∷ bs) (m ∷ ms) [] = Unit {0}
-Masked (b ∷ bs) (m ∷ ms) (p ∷ ps) = (bit_and b m ≡ p) × Masked bs ms ps
+chunk_eight bytes le = ap chunk (spelled_is 8 0 bytes le) ∙ omega arith
 
 -- all of them bytes
 abbrev pub AreBytes : List ℕ → Type 0
 AreBytes [] = Unit {0}
 AreBytes (b ∷ bs) = (b < 256) × AreBytes bs
 
--- a test of a whole number is one of each byte
-pub masked : (bs ms ps : List ℕ) → AreBytes bs → AreBytes ms → AreBytes ps → bit_and (chunk bs) (chunk ms) ≡ chunk ps → Masked bs ms ps
-unfolding chunk
-masked [] ms ps hb hm hp e = tt
-masked (b ∷ bs) [] ps hb hm hp e = tt
-masked (b ∷ bs) (m ∷ ms) [] hb hm hp e = tt
-masked (b ∷ bs) (m ∷ ms) (p ∷ ps) hb hm hp e =
-    let parts = split (chunk bs) b (chunk ms) m (chunk ps) p hb.0 hm.0 hp.0 e in
-    (parts.low, masked bs ms ps hb.1 hm.1 hp.1 parts.high)
+pub are_bytes : (bytes : List ℕ) → ((k : ℕ) → get_or bytes k 0 < 256) → AreBytes bytes
+are_bytes [] fit = tt
+are_bytes (b ∷ bs) fit = (fit 0, are_bytes bs (λ k. fit (suc k)))
+
+pub take_fit : (n : ℕ) (bytes : List ℕ) → ((k : ℕ) → get_or bytes k 0 < 256) → (k : ℕ) → get_or (take n bytes) k 0 < 256
+take_fit zero bytes fit k = lit< tt
+take_fit (suc n) [] fit k = lit< tt
+take_fit (suc n) (b ∷ bs) fit zero = fit 0
+take_fit (suc n) (b ∷ bs) fit (suc k) = take_fit n bs (λ j. fit (suc j)) k
 
 -- the pair of a byte and the next one
 pub pair_here : (d e : ℕ) (ds : List ℕ) → d ≤ 9 → e ≤ 9 → paired (chunk (d ∷ e ∷ ds)) % 256 ≡ d * 10 + e

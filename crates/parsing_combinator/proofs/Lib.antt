@@ -9,11 +9,9 @@ pub mod FractionDigits
 pub mod Prefixes
 pub mod Lanes
 pub mod Numbers
-pub mod ManyBetween
 pub mod PaddingLemmas
 pub mod Longest
 pub mod SignLemmas
 pub mod SpaceLemmas
 pub mod NameLemmas
 pub mod Components
-pub mod WideLemmas

@@ -1,10 +1,9 @@
 -- Names, none of which begins with an earlier one: what is taken is the first that is there.
-use Rattle.std.proofs.Common.{◌≡◌, ℕ, zero, suc, ◌<◌, ◌≤◌, ◌&&◌, Bool, true, false, not, List, [], ◌∷◌, ◌++◌, cond, map, length, take, drop, Option, Some, None, refl, sym, ap, ◌∙◌, arith}
-use Rattle.std.specs.Prelude.{bytes_eq}
+use Rattle.std.proofs.Common.{◌≡◌, ℕ, ◌<◌, ◌≤◌, ◌&&◌, Bool, true, false, not, List, [], ◌∷◌, ◌++◌, cond, length, take, drop, Option, Some, None, refl, sym, ap, ◌∙◌, arith}
 use Rattle.std.specs.Option.{option_or}
 use Rattle.std.specs.Char.{to_ascii_lowercase}
-use Rattle.std.proofs.lemmas.Bool.{true≢false}
-use Rattle.std.proofs.lemmas.List.{length-take-le, length-take}
+use Rattle.std.proofs.lemmas.Bool.{and_parts, false_from_ne_true, not-true, true≢false}
+use Rattle.std.proofs.lemmas.List.{length-map, length-take-le, length-take, take-map, take-take}
 use Rattle.std.proofs.lemmas.Slice.Eq.{bytes_eq-Decides}
 use Rattle.parsing_combinator.specs.Shape.{prefix, taken, nothing}
 use Rattle.parsing_combinator.specs.Names.{compared, is_name, begins, named, found, long_months, long_weekdays, short_months, short_weekdays, periods, period}
@@ -19,57 +18,20 @@ abbrev pub apart : {A : Type 0} → Bool → List (List ℕ × A) → Bool
 apart b [] = true
 apart b (entry ∷ entries) = none_begins b entry.0 entries && apart b entries
 
-both_left : (x y : Bool) → (x && y) ≡ true → x ≡ true
-both_left true y e = refl
-both_left false y e = absurd (true≢false (sym e))
-
-both_right : (x y : Bool) → (x && y) ≡ true → y ≡ true
-both_right true y e = e
-both_right false y e = absurd (true≢false (sym e))
-
-not_true : (x : Bool) → not x ≡ true → x ≡ false
-not_true true e = absurd (true≢false (sym e))
-not_true false e = refl
-
-compared_length : (b : Bool) (xs : List ℕ) → length (compared b xs) ≡ length xs
-compared_length true xs = refl
-compared_length false [] = refl
-compared_length false (x ∷ xs) = ap suc (compared_length false xs)
-
-map_take : (f : ℕ → ℕ) (k : ℕ) (xs : List ℕ) → map f (take k xs) ≡ take k (map f xs)
-map_take f zero xs = refl
-map_take f (suc k) [] = refl
-map_take f (suc k) (x ∷ xs) = ap (λ ys. f x ∷ ys) (map_take f k xs)
-
-compared_take : (b : Bool) (k : ℕ) (xs : List ℕ) → compared b (take k xs) ≡ take k (compared b xs)
-compared_take true k xs = refl
-compared_take false k xs = map_take to_ascii_lowercase k xs
-
-eq_length : (xs ys : List ℕ) → bytes_eq xs ys ≡ true → length xs ≡ length ys
-eq_length [] [] e = refl
-eq_length [] (y ∷ ys) e = absurd (true≢false (sym e))
-eq_length (x ∷ xs) [] e = absurd (true≢false (sym e))
-eq_length (x ∷ xs) (y ∷ ys) e = ap suc (eq_length xs ys (both_right _ _ e))
-
--- a name has the length of every text that is it
-is_name_length : (b : Bool) (name text : List ℕ) → is_name b name text ≡ true → length name ≡ length text
-is_name_length b name text e = sym (compared_length b name) ∙ eq_length (compared b name) (compared b text) e ∙ compared_length b text
-
-take-take : (k j : ℕ) (xs : List ℕ) → k ≤ j → take k (take j xs) ≡ take k xs
-take-take zero j xs le = refl
-take-take (suc k) zero xs le = absurd (omega arith)
-take-take (suc k) (suc j) [] le = refl
-take-take (suc k) (suc j) (x ∷ xs) le = ap (λ ys. x ∷ ys) (take-take k j xs (omega arith))
-
-decided : (x : Bool) → (x ≡ true → x ≡ false) → x ≡ false
-decided true f = f refl
-decided false f = refl
-
 same_if : (b : Bool) (xs ys : List ℕ) → is_name b xs ys ≡ true → compared b xs ≡ compared b ys
 same_if b xs ys e = (bytes_eq-Decides (compared b xs) (compared b ys)).0 e
 
 name_if : (b : Bool) (xs ys : List ℕ) → compared b xs ≡ compared b ys → is_name b xs ys ≡ true
 name_if b xs ys e = (bytes_eq-Decides (compared b xs) (compared b ys)).1 e
+
+-- a name has the length of every text that is it
+is_name_length : (b : Bool) (name text : List ℕ) → is_name b name text ≡ true → length name ≡ length text
+is_name_length true name text e = ap length (same_if true name text e)
+is_name_length false name text e = sym (length-map name to_ascii_lowercase) ∙ ap length (same_if false name text e) ∙ length-map text to_ascii_lowercase
+
+compared_take : (b : Bool) (k : ℕ) (xs : List ℕ) → compared b (take k xs) ≡ take k (compared b xs)
+compared_take true k xs = refl
+compared_take false k xs = sym (take-map to_ascii_lowercase k xs)
 
 -- a text that begins with a name, and is another one: the other begins with the name
 carried : (b : Bool) (name other bytes : List ℕ) (j : ℕ) → length name ≤ j → begins b name bytes ≡ true → is_name b other (take j bytes) ≡ true → begins b name other ≡ true
@@ -84,9 +46,9 @@ no_later : {A : Type 0} → (b : Bool) (name : List ℕ) (entries : List (List �
 unfolding named
 no_later b name [] bytes j none le starts = refl
 no_later b name (entry ∷ entries) bytes j none le starts =
-    let first = not_true (begins b name entry.0) (both_left _ _ none) in
-    let other : is_name b entry.0 (take j bytes) ≡ false = decided _ (λ is. absurd (true≢false (sym (carried b name entry.0 bytes j le starts is) ∙ first))) in
-    rw other (no_later b name entries bytes j (both_right _ _ none) le starts)
+    let first = not-true (begins b name entry.0) (and_parts _ _ none).0 in
+    let other : is_name b entry.0 (take j bytes) ≡ false = false_from_ne_true _ (λ is. true≢false (sym (carried b name entry.0 bytes j le starts is) ∙ first)) in
+    rw other (no_later b name entries bytes j (and_parts _ _ none).1 le starts)
 
 long_enough : (b : Bool) (name bytes : List ℕ) → begins b name bytes ≡ true → length name ≤ length bytes
 unfolding begins
@@ -97,7 +59,7 @@ long_enough b name bytes starts =
 
 other_length : (b : Bool) (name bytes : List ℕ) (j : ℕ) → length name < j → j ≤ length bytes → is_name b name (take j bytes) ≡ false
 other_length b name bytes j lt le =
-    decided _ (λ is. let e = is_name_length b name (take j bytes) is in let f = length-take-le j bytes le in absurd (omega (arith, e, f)))
+    false_from_ne_true _ (λ is. let e = is_name_length b name (take j bytes) is in let f = length-take-le j bytes le in omega (arith, e, f))
 
 -- a text that is a name begins with it
 begins_if : (b : Bool) (name bytes : List ℕ) (j : ℕ) → j ≤ length bytes → is_name b name (take j bytes) ≡ true → begins b name bytes ≡ true
@@ -111,7 +73,7 @@ begins_if b name bytes j le is =
 not_here : {A : Type 0} → (b : Bool) (entry : List ℕ × A) (entries : List (List ℕ × A)) (bytes : List ℕ) (j : ℕ) → begins b entry.0 bytes ≡ false → j ≤ length bytes → named b (entry ∷ entries) (take j bytes) ≡ named b entries (take j bytes)
 unfolding named
 not_here b entry entries bytes j other_start le =
-    let other : is_name b entry.0 (take j bytes) ≡ false = decided _ (λ is. absurd (true≢false (sym (begins_if b entry.0 bytes j le is) ∙ other_start))) in
+    let other : is_name b entry.0 (take j bytes) ≡ false = false_from_ne_true _ (λ is. true≢false (sym (begins_if b entry.0 bytes j le is) ∙ other_start)) in
     rw other refl
 
 above_none : {A : Type 0} → (b : Bool) (entry : List ℕ × A) (entries : List (List ℕ × A)) (bytes : List ℕ) (j : ℕ) → none_begins b entry.0 entries ≡ true → begins b entry.0 bytes ≡ true → length entry.0 < j → j ≤ length bytes → prefix (named b (entry ∷ entries)) bytes j ≡ None
@@ -138,7 +100,7 @@ pub taken_named : {A : Type 0} → (b : Bool) (entries : List (List ℕ × A)) (
 unfolding found
 taken_named b [] bytes e = taken_same (named b []) nothing bytes (λ j le. empty_named b (take j bytes)) ∙ taken_nothing bytes
 taken_named b (entry ∷ entries) bytes e =
-    found_here b (begins b entry.0 bytes) entry entries bytes refl (both_left _ _ e) (taken_named b entries bytes (both_right _ _ e))
+    found_here b (begins b entry.0 bytes) entry entries bytes refl (and_parts _ _ e).0 (taken_named b entries bytes (and_parts _ _ e).1)
 
 either_is : {A : Type 0} → (t : Bool) (x : A) (all first second : Option A) → all ≡ option_or first second → cond t (Some x) all ≡ option_or (cond t (Some x) first) second
 either_is true x all first second e = refl
@@ -180,4 +142,4 @@ taken_period upper sensitive = taken_table periods refl refl (upper && sensitive
 -- a text shorter than a name doesn't begin with it
 pub short_text : (b : Bool) (name bytes : List ℕ) → length bytes < length name → is_name b name (take (length name) bytes) ≡ false
 short_text b name bytes lt =
-    decided _ (λ is. let e = is_name_length b name (take (length name) bytes) is in let f = length-take (length name) bytes in absurd (omega (arith, e, f)))
+    false_from_ne_true _ (λ is. let e = is_name_length b name (take (length name) bytes) is in let f = length-take (length name) bytes in omega (arith, e, f))

@@ -15,21 +15,20 @@ pub record Next (prefix : List ℕ) (i value : ℕ) : Type 0 where
   pub high : get_or prefix i 0 ≤ 57
   pub more : value * 10 + (get_or prefix i 0 - 48) ≡ digits_value 10 (take (i + 1) prefix)
   pub bound : value * 10 + (get_or prefix i 0 - 48) < 10 ^ (i + 1)
-  pub fits : value * 10 + 9 < 2 ^ 32
+  pub fits : value * 10 + 9 < 10 ^ 23
 
-step : (v p d r : ℕ) → v < p → d < 10 → r ≡ p * 10 → v * 10 + d < r
-step v p d r h k e = omega arith
+pub below_most : (most i value : ℕ) → i < most → value < 10 ^ i → value * 10 + 9 < 10 ^ most
+below_most most i value lt below =
+    let least : 10 ^ (i + 1) ≤ 10 ^ most = pow-le-pow_right {n = 10} (lit< tt) {i = i + 1} {j = most} (omega arith) in
+    omega (arith, pow-add 10 i 1, below, least)
 
-pub next_digit : (prefix : List ℕ) (i value : ℕ) → length prefix ≤ 9 → digit_count prefix ≡ length prefix → i < length prefix → value ≡ digits_value 10 (take i prefix) → value < 10 ^ i → Next prefix i value
+pub next_digit : (prefix : List ℕ) (i value : ℕ) → length prefix ≤ 23 → digit_count prefix ≡ length prefix → i < length prefix → value ≡ digits_value 10 (take i prefix) → value < 10 ^ i → Next prefix i value
 next_digit prefix i value short all lt is below =
     let here = digit_here (get_or prefix i 0) (prefix_len_passes is_ascii_digit prefix i 0 (omega arith)) in
-    let more = digits_value_more 10 prefix i lt in
-    let power = pow-add 10 i 1 in
-    let most : 10 ^ i ≤ 100000000 = pow-le-pow_right {n = 10} (lit< tt) {i = i} {j = 8} (omega arith) in
     record {
       low = here.0;
       high = here.1;
-      more = omega (arith, more, here.2, is);
-      bound = step value (10 ^ i) (get_or prefix i 0 - 48) (10 ^ (i + 1)) below (omega (arith, here.1)) power;
-      fits = omega (arith, most);
+      more = omega (arith, digits_value_more 10 prefix i lt, here.2, is);
+      bound = omega (arith, pow-add 10 i 1, below, here.1);
+      fits = below_most 23 i value (omega (arith, lt, short)) below;
     }

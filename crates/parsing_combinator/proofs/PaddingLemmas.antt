@@ -1,19 +1,20 @@
 -- Digits at the start of bytes, read with zeros after them.
 use Rattle.std.proofs.Common.{◌≡◌, ℕ, zero, suc, ◌+◌, ◌-◌, ◌*◌, ◌%◌, ◌^◌, ◌<◌, ◌≤◌, ◌==◌, eqb, List, [], ◌∷◌, ◌++◌, length, get_or, take, drop, replicate, Some, None, true, false, Fits, w64, refl, sym, ap, ◌∙◌, arith, lit<, take-append-drop, length-append}
 use Rattle.std.specs.Char.{is_ascii_digit}
-use Rattle.std.specs.Str.Parse.{digits_value, digits_value_after}
+use Rattle.std.specs.Str.Parse.{digits_value}
 use Rattle.std.specs.Int.Bits.{bit_and}
 use Rattle.std.proofs.lemmas.Bool.{agree_below_at, eqb-true}
 use Rattle.std.proofs.lemmas.Bool.Decides.{nat_tests}
-use Rattle.std.proofs.lemmas.List.{length-take-le, take_all, drop_all, take-append-le, take-take, drop_more, length-drop}
+use Rattle.std.proofs.lemmas.List.{length-take-le, take_all, drop_all, take-append-le, take-take, drop_more, get_or-drop, length-drop}
 use Rattle.std.proofs.lemmas.List.Folds.{prefix_len-append}
 use Rattle.std.proofs.lemmas.Simd.{length-replicate}
 use Rattle.std.proofs.lemmas.Nat.{pow-add, and_mask}
 use Rattle.std.proofs.Math.Nat.{add-mul-mod_self_right, mod-eq_of_lt, pow-le-pow_right}
 use Rattle.parsing_combinator.specs.Pieces.{digits, digit_count, digit_run, fraction, nanoseconds_of}
-use Rattle.parsing_combinator.specs.Chunks.{chunk, padded}
-use Rattle.parsing_combinator.proofs.Decimal.{value_append, value_after, count_prefix}
-use Rattle.parsing_combinator.proofs.DigitChunks.{EightChunk, eight_read}
+use Rattle.parsing_combinator.specs.Chunks.{chunk, padded, IsDigitChunk}
+use Rattle.parsing_combinator.proofs.Decimal.{value_append, value_zeros, count_prefix}
+use Rattle.parsing_combinator.proofs.DigitChunks.{EightChunk, eight_read, eight_there}
+use Rattle.parsing_combinator.proofs.Lanes.{take_fit}
 use Rattle.parsing_combinator.proofs.FractionDigits.{Read, digits_read, none_there, short_fraction}
 
 byte_power : (n : ℕ) → 2 ^ (8 * suc n) ≡ 2 ^ (8 * n) * 256
@@ -30,10 +31,8 @@ chunk_below (b ∷ bs) fit = one_more (chunk bs) b (2 ^ (8 * length bs)) (2 ^ (8
 pub short_fits : (bytes : List ℕ) → length bytes ≤ 7 → ((k : ℕ) → get_or bytes k 0 < 256) → chunk bytes < 2 ^ 56
 short_fits bytes le fit = omega (arith, chunk_below bytes fit, (let most : 2 ^ (8 * length bytes) ≤ 2 ^ 56 = pow-le-pow_right {n = 2} (lit< tt) {i = 8 * length bytes} {j = 56} (omega arith) in most))
 
-drop_fit : (n : ℕ) (bytes : List ℕ) → ((k : ℕ) → get_or bytes k 0 < 256) → (k : ℕ) → get_or (drop n bytes) k 0 < 256
-drop_fit zero bytes fit k = fit k
-drop_fit (suc n) [] fit k = lit< tt
-drop_fit (suc n) (b ∷ bs) fit k = drop_fit n bs (λ j. fit (suc j)) k
+pub drop_fit : (n : ℕ) (bytes : List ℕ) → ((k : ℕ) → get_or bytes k 0 < 256) → (k : ℕ) → get_or (drop n bytes) k 0 < 256
+drop_fit n bytes fit k = rw (get_or-drop n bytes k 0) (fit (n + k))
 
 pub drop_fits : (n : ℕ) (bytes : List ℕ) → length bytes < 8 → ((k : ℕ) → get_or bytes k 0 < 256) → chunk (drop n bytes) < 2 ^ 56
 drop_fits n bytes lt fit = short_fits (drop n bytes) (omega (arith, length-drop n bytes)) (drop_fit n bytes fit)
@@ -66,15 +65,6 @@ unfolding chunk
 chunk_append [] ys = omega arith
 chunk_append (x ∷ xs) ys = rw (chunk_append xs ys) (appended (chunk xs) (chunk ys) x (2 ^ (8 * length xs)) (2 ^ (8 * suc (length xs))) (byte_power (length xs)))
 
-zeros_value : (m : ℕ) → digits_value_after 10 0 (replicate m 48) ≡ 0
-zeros_value zero = refl
-zeros_value (suc m) = zeros_value m
-
--- the number of the digits with zeros after them
-padded_value : (k : ℕ) (run : List ℕ) → k ≤ 8 → length run ≡ k → digits_value 10 (run ++ replicate (8 - k) 48) ≡ digits_value 10 run * 10 ^ (8 - k)
-padded_value k run few long =
-    value_append 0 run (replicate (8 - k) 48) ∙ value_after (digits_value 10 run) (replicate (8 - k) 48) ∙ rw (zeros_value (8 - k), length-replicate {A = ℕ} (8 - k) 48) (omega arith)
-
 ten_more : (v p q : ℕ) → q ≡ p * 10 → v * p * 10 ≡ v * q
 ten_more v p q e = rw e (omega arith)
 
@@ -92,17 +82,11 @@ fraction_of_padded bytes k v some few within eight none =
     let left = none_there (drop k bytes) none in
     let counted : digit_count bytes ≡ k =
     ap digit_count (sym (take-append-drop k bytes)) ∙ prefix_len-append is_ascii_digit run (drop k bytes) ∙ (let e : eqb (digit_count run) (length run) ≡ true = grind (arith, nat_tests) in rw e (omega arith)) in
-    let value : v ≡ digits_value 10 run * 10 ^ (8 - k) = sym r.value ∙ ap (digits_value 10) whole ∙ padded_value k run few long in
+    let value : v ≡ digits_value 10 run * 10 ^ (8 - k) = sym r.value ∙ ap (digits_value 10) whole ∙ value_append 0 run zeros ∙ value_zeros (digits_value 10 run) (8 - k) in
     let power : 10 ^ (9 - k) ≡ 10 ^ (8 - k) * 10 = ap (λ (n : ℕ). 10 ^ n) (let e : 9 - k ≡ 8 - k + 1 = omega arith in e) ∙ pow-add 10 (8 - k) 1 in
     let nanos : nanoseconds_of run ≡ v * 10 = sym (short_fraction run (omega arith)) ∙ rw long (sym (ten_more (digits_value 10 run) (10 ^ (8 - k)) (10 ^ (9 - k)) power) ∙ ap (λ (n : ℕ). n * 10) (sym value)) in
     let nonzero : (k == 0) ≡ false = grind (arith, nat_tests) in
     rw counted (rw nonzero (rw nanos refl))
-
-take_fit : (n : ℕ) (bytes : List ℕ) → ((k : ℕ) → get_or bytes k 0 < 256) → (k : ℕ) → get_or (take n bytes) k 0 < 256
-take_fit zero bytes fit k = lit< tt
-take_fit (suc n) [] fit k = lit< tt
-take_fit (suc n) (b ∷ bs) fit zero = fit 0
-take_fit (suc n) (b ∷ bs) fit (suc k) = take_fit n bs (λ j. fit (suc j)) k
 
 append_fit : (xs ys : List ℕ) → ((k : ℕ) → get_or xs k 0 < 256) → ((k : ℕ) → get_or ys k 0 < 256) → (k : ℕ) → get_or (xs ++ ys) k 0 < 256
 append_fit [] ys fx fy k = fy k
@@ -152,12 +136,11 @@ module _ (bytes : List ℕ) (k : ℕ) (few : k ≤ 8) (within : k ≤ length byt
   pub padded_below : Fits w64 (chunk (padded k bytes))
   padded_below = record { fits = below }
 
-  -- what the test of the first bytes with zeros after them says
-  pub record PaddedRead : Type 0 where
-    pub eight : EightChunk (padded k bytes) (chunk (padded k bytes))
-    pub rest : drop 8 (padded k bytes) ≡ []
-
-  pub padded_read : bit_and (chunk (padded k bytes)) 17_361_641_481_138_401_520 ≡ 3_472_328_296_227_680_304 → bit_and ((chunk (padded k bytes) + 434_041_037_028_460_038) % 2 ^ 64) 17_361_641_481_138_401_520 ≡ 3_472_328_296_227_680_304 → PaddedRead
-  padded_read here more =
+  pub padded_counted : bit_and (chunk (padded k bytes)) 17_361_641_481_138_401_520 ≡ 3_472_328_296_227_680_304 → bit_and ((chunk (padded k bytes) + 434_041_037_028_460_038) % 2 ^ 64) 17_361_641_481_138_401_520 ≡ 3_472_328_296_227_680_304 → 8 ≤ digit_count (padded k bytes)
+  padded_counted here more =
       let r = eight_read (padded k bytes) (omega (arith, padded_long)) padded_fit (rw padded_whole here) (rw padded_whole more) in
-      record { eight = rw padded_whole at r; rest = padded_rest }
+      (digits_read 8 (padded k bytes) _ _ r.reads).enough
+
+-- the digits of a chunk
+pub padded_eight : (bytes : List ℕ) (number count : ℕ) → IsDigitChunk bytes number count → ((j : ℕ) → get_or bytes j 0 < 256) → EightChunk (padded count bytes) number
+padded_eight bytes number count c fit = rw c.number_is (rw (padded_whole bytes count c.few c.within fit) at (eight_there (padded count bytes) c.digits_are))

@@ -14,23 +14,33 @@ none_at : (m : ℕ) (text : List ℕ) → spaced_between 0 m text ≡ nothing te
 unfolding spaced_between nothing
 none_at m text = let e : nat_lt (space_count text) 0 ≡ false = grind (arith, nat_tests) in rw e refl
 
-no_spaces : (n m : ℕ) (text : List ℕ) → after_spaces 0 (suc n) m text ≡ digits_between (suc n) m text
-no_spaces n m text =
+-- what comes of the numbers past so many spaces
+abbrev past : {A : Type 0} → (ℕ → ℕ → Option A) → ℕ → ℕ → ℕ → Option A
+past f s n m = if nat_lt s n then f (n - s) (m - s) else None
+
+past_none : {A : Type 0} → (f : ℕ → ℕ → Option A) (n m : ℕ) → past f 0 (suc n) m ≡ f (suc n) m
+past_none f n m =
     let t : nat_lt 0 (suc n) ≡ true = grind (arith, nat_tests) in
     let e : suc n - 0 ≡ suc n = omega arith in
-    let f : m - 0 ≡ m = omega arith in
-    rw (t, e, f) refl
+    let g : m - 0 ≡ m = omega arith in
+    rw (t, e, g) refl
 
-no_text : (n m : ℕ) → digits_between (suc n) m [] ≡ None
+past_one : {A : Type 0} → (f : ℕ → ℕ → Option A) (s n m : ℕ) → past f (suc s) (suc n) (suc m) ≡ past f s n m
+past_one f s n m =
+    let t : nat_lt (suc s) (suc n) ≡ nat_lt s n = grind (arith, nat_tests) in
+    let e : suc n - suc s ≡ n - s = omega arith in
+    let g : suc m - suc s ≡ m - s = omega arith in
+    rw (t, e, g) refl
+
+pub no_spaces : (n m : ℕ) (text : List ℕ) → after_spaces 0 (suc n) m text ≡ digits_between (suc n) m text
+no_spaces n m text = past_none (λ n m. digits_between n m text) n m
+
+pub no_text : (n m : ℕ) → digits_between (suc n) m [] ≡ None
 unfolding digits_as
 no_text n m = let e : nat_le (suc n) 0 ≡ false = grind (arith, nat_tests) in rw e refl
 
 one_space : (s n m c : ℕ) (text : List ℕ) → after_spaces (suc s) (suc n) (suc m) (c ∷ text) ≡ after_spaces s n m text
-one_space s n m c text =
-    let t : nat_lt (suc s) (suc n) ≡ nat_lt s n = grind (arith, nat_tests) in
-    let e : suc n - suc s ≡ n - s = omega arith in
-    let f : suc m - suc s ≡ m - s = omega arith in
-    rw (t, e, f) refl
+one_space s n m c text = past_one (λ n m. digits_between n m (drop s text)) s n m
 
 empty_at : (n m : ℕ) → spaced_between (suc n) (suc m) [] ≡ None
 unfolding spaced_between
@@ -48,18 +58,10 @@ bare_at n m c cs zero e = no_spaces n m []
 bare_at n m c cs (suc j) e = rw e (no_spaces n m (c ∷ take j cs))
 
 taken_one_space : (s n m c : ℕ) (cs : List ℕ) → taken_after_spaces (suc s) (suc n) (suc m) (c ∷ cs) ≡ taken_after_spaces s n m cs
-taken_one_space s n m c cs =
-    let t : nat_lt (suc s) (suc n) ≡ nat_lt s n = grind (arith, nat_tests) in
-    let e : suc n - suc s ≡ n - s = omega arith in
-    let f : suc m - suc s ≡ m - s = omega arith in
-    rw (t, e, f) refl
+taken_one_space s n m c cs = past_one (λ n m. taken (digits_between n m) (drop s cs)) s n m
 
 taken_no_spaces : (n m : ℕ) (bytes : List ℕ) → taken_after_spaces 0 (suc n) m bytes ≡ taken (digits_between (suc n) m) bytes
-taken_no_spaces n m bytes =
-    let t : nat_lt 0 (suc n) ≡ true = grind (arith, nat_tests) in
-    let e : suc n - 0 ≡ suc n = omega arith in
-    let f : m - 0 ≡ m = omega arith in
-    rw (t, e, f) refl
+taken_no_spaces n m bytes = past_none (λ n m. taken (digits_between n m) bytes) n m
 
 step : (b : Bool) (n m c : ℕ) (cs : List ℕ) → is_space c ≡ b → n ≤ m → taken (spaced_between n m) cs ≡ taken_after_spaces (space_count cs) n m cs → taken (spaced_between (suc n) (suc m)) (c ∷ cs) ≡ taken_after_spaces (cond b (1 + space_count cs) 0) (suc n) (suc m) (c ∷ cs)
 step true n m c cs e le more =

@@ -1,8 +1,8 @@
 -- Eight bytes as one number, the first byte the lowest.
-use Rattle.std.specs.Prelude.{◌≡◌, ℕ, ◌+◌, ◌-◌, ◌*◌, ◌/◌, ◌<◌, ◌≤◌, List, [], ◌∷◌, ◌++◌, length, take, drop, replicate, Some, None, bit_and, bit_xor}
+use Rattle.std.specs.Prelude.{◌≡◌, ℕ, ◌+◌, ◌-◌, ◌*◌, ◌/◌, ◌<◌, ◌≤◌, List, [], ◌∷◌, ◌++◌, length, take, drop, replicate, None, bit_and, bit_xor}
 use Rattle.std.specs.Int.{w64, trailing_zeros}
-use Rattle.base.specs.Bytes.{digit_zero, colon}
-use Rattle.parsing_combinator.specs.Pieces.{digits, digit_count, byte}
+use Rattle.base.specs.Bytes.{digit_zero}
+use Rattle.parsing_combinator.specs.Pieces.{digits, digit_count}
 
 -- the number of these bytes
 unfoldable pub chunk : List ℕ → ℕ
@@ -30,12 +30,3 @@ pub record IsDigitChunk (bytes : List ℕ) (number count : ℕ) : Type 0 where
   pub number_is : number ≡ chunk (padded count bytes)
   pub digits_are : 8 ≤ digit_count (padded count bytes)
   pub ends : count < 8 → digits 1 (drop count bytes) ≡ None
-
--- `23:20:50`
-pub record IsClock (bytes : List ℕ) (hour minute second : ℕ) (rest : List ℕ) : Type 0 where
-  pub hour_digits : digits 2 bytes ≡ Some (hour, drop 2 bytes)
-  pub first_colon : byte colon (drop 2 bytes) ≡ Some (tt, drop 3 bytes)
-  pub minute_digits : digits 2 (drop 3 bytes) ≡ Some (minute, drop 5 bytes)
-  pub second_colon : byte colon (drop 5 bytes) ≡ Some (tt, drop 6 bytes)
-  pub second_digits : digits 2 (drop 6 bytes) ≡ Some (second, drop 8 bytes)
-  pub rest_is : drop 8 bytes ≡ rest

@@ -137,9 +137,9 @@ fn first_bytes(count: usize) -> Chunk
     FIRST_BYTES[count]
 }
 
-// The digit zero at each of eight places after the first so many.
+/// The digit zero at each of eight places after the first so many.
 #[inline(always)]
-fn zeros_after(count: usize) -> Chunk
+pub fn zeros_after(count: usize) -> u64
     requires { count ≤ 8 }
     ensures { result ≡ Chunks.chunk (replicate (8 - count) digit_zero) * 2 ^ (8 * count) }
 {
@@ -155,25 +155,6 @@ fn padded_chunk(bytes: &[u8], chunk: Chunk, count: usize) -> Chunk
     ensures { result ≡ Chunks.chunk (Chunks.padded count bytes.now) }
 {
     (chunk & first_bytes(count)) + zeros_after(count)
-}
-
-// The number of the first bytes with zeros after them, eight digits in all, where each is a digit.
-#[inline(always)]
-fn padded_digits(bytes: &[u8], chunk: Chunk, count: usize) -> Option<u32>
-    requires chunk { chunk ≡ Chunks.chunk (take 8 bytes.now) }
-    requires few { count ≤ 8 }
-    requires within { count ≤ length bytes.now }
-    ensures digits { IfSome result
-        (λ v. Pieces.digits 8 (Chunks.padded count bytes.now) ≡ Some (v, [])) }
-    ensures bound { IfSome result (λ v. v < 100_000_000) }
-{
-    let chunk = padded_chunk(bytes, chunk, count);
-    let pattern = 0x3030_3030_3030_3030;
-    let digits = fits(chunk, 0xf0f0_f0f0_f0f0_f0f0, pattern, 0x0606_0606_0606_0606)?;
-    let pairs = paired(digits);
-    let high = pairs % 256 * 100 + pairs / 0x1_0000 % 256;
-    let low = pairs / 0x1_0000_0000 % 256 * 100 + pairs / 0x1_0000_0000_0000 % 256;
-    Some((high * 10_000 + low) as u32)
 }
 
 /// At most eight digits at the start, in one number with the digit zero after them, the first one lowest, and how many
@@ -202,12 +183,11 @@ pub(crate) fn short_fraction(bytes: &[u8]) -> Option<(u32, &[u8])>
     ensures fraction { IfSome result (λ x. Pieces.fraction bytes.now ≡ Some (x.0, x.1.now)) }
     ensures bound { IfSome result (λ x. x.0 < 1_000_000_000) }
 {
-    let chunk = chunk_of(bytes);
-    let count = likely_digits(chunk);
-    if count == 0 || count > bytes.len() {
-        return None;
-    }
-    let value = padded_digits(bytes, chunk, count)?;
+    let (chunk, count) = digit_chunk(bytes)?;
+    let pairs = paired(chunk - 0x3030_3030_3030_3030);
+    let high = pairs % 256 * 100 + pairs / 0x1_0000 % 256;
+    let low = pairs / 0x1_0000_0000 % 256 * 100 + pairs / 0x1_0000_0000_0000 % 256;
+    let value = (high * 10_000 + low) as u32;
     let rest = &bytes[count..];
     match one_digit(rest) {
         None => Some((value * 10, rest)),

@@ -105,7 +105,7 @@ pub fn sign(bytes: &[u8]) -> Option<(u8, &[u8])>
 // How many digits the bytes begin with.
 #[inline(always)]
 #[tactic(auto, using(crate::proofs::Decimal::digit_count_within))]
-fn leading_digits(bytes: &[u8]) -> usize
+pub(crate) fn leading_digits(bytes: &[u8]) -> usize
     ensures count { result ≡ Pieces.digit_count bytes.now }
     ensures within { result ≤ length bytes.now }
 {

@@ -1,35 +1,10 @@
 //! Runs of digits.
 ghost use Rattle.std.specs.Prelude.{◌≡◌, ◌≤◌, ◌<◌, ◌^◌, IfSome, length};
-ghost use Rattle.std.specs.Str.Parse.{digits_value};
 ghost use Rattle.parsing_combinator.specs.Pieces as Pieces;
 ghost use Rattle.parsing_combinator.specs.Shape as Shape;
 
-use crate::fraction;
-
-// How many digits the bytes begin with.
-#[inline(always)]
-#[tactic(auto, using(crate::proofs::Decimal::digit_count_within))]
-pub(crate) fn leading_digits(bytes: &[u8]) -> usize
-    ensures count { result ≡ Pieces.digit_count bytes.now }
-    ensures within { result ≤ length bytes.now }
-{
-    bytes.iter().take_while(|b| b.is_ascii_digit()).count()
-}
-
-// The number that at most nine digits write.
-#[inline(always)]
-fn number(prefix: &[u8]) -> u32
-    requires short { length prefix.now ≤ 9 }
-    requires all { Pieces.digit_count prefix.now ≡ length prefix.now }
-    ensures value { result ≡ digits_value 10 prefix.now }
-    ensures bound { result < 10 ^ length prefix.now }
-{
-    let mut value = 0;
-    for b in prefix {
-        value = value * 10 + u32::from(*b - b'0');
-    }
-    value
-}
+use crate::cut::leading_digits;
+use crate::fractions::{fraction, number};
 
 /// `n` to `m` digits, as many as there are.
 #[tactic(auto, using(crate::proofs::Longest::taken_digits, crate::proofs::Longest::taken_bound, crate::proofs::Decimal::count_prefix))]

@@ -8,7 +8,7 @@ use crate::cut::{digit_run, one_digit};
 
 // The number that at most nine digits write.
 #[inline(always)]
-fn number(prefix: &[u8]) -> u32
+pub(crate) fn number(prefix: &[u8]) -> u32
     requires short { length prefix.now ≤ 9 }
     requires all { Pieces.digit_count prefix.now ≡ length prefix.now }
     ensures value { result ≡ digits_value 10 prefix.now }

@@ -1,7 +1,6 @@
 //! What readings of texts share: the faults, the pieces that texts are cut into, and the longest prefix of bytes in a shape.
 #![tactic(auto)]
 
-mod between;
 mod chunk;
 mod cut;
 mod digits;
@@ -15,8 +14,7 @@ mod strict;
 mod wide;
 mod zone;
 
-pub use between::{are_between, are_sixteen_between};
-pub use chunk::{digit_chunk, nine_digits};
+pub use chunk::{digit_chunk, nine_digits, zeros_after};
 pub use cut::{
     any_byte, byte, digit_run, four_digits, one_digit, sign, six_digits, three_digits, two_digits,
 };
@@ -25,7 +23,7 @@ pub use fault::{Parse, ParseFromDescription, TryFromParsed};
 pub use fractions::fraction;
 pub use names::{long_month, long_weekday, period, short_month, short_weekday};
 pub use padding::{padded, padded_four, padded_two};
-pub use places::{clock_at, four_digits_at, two_pairs_at};
+pub use places::{four_digits_at, two_pairs_at};
 pub use signed::{century, offset_hour, timestamp, year};
 pub use strict::within;
 pub use zone::Zone;

@@ -26,52 +26,48 @@ fn after<'a>(name: &[u8], case_sensitive: bool, bytes: &'a [u8]) -> Option<&'a [
     if same { Some(rest) } else { None }
 }
 
+// What the first of some names that is at the start names, and what follows it.
+macro_rules! first_name {
+    ($case_sensitive:expr, $bytes:expr) => { None };
+    ($case_sensitive:expr, $bytes:expr, $name:literal => $named:expr $(, $more:literal => $other:expr)*) => {
+        if let Some(rest) = after($name, $case_sensitive, $bytes) {
+            Some(($named, rest))
+        } else {
+            first_name!($case_sensitive, $bytes $(, $more => $other)*)
+        }
+    };
+}
+
 // The month of the first half of a year whose name is at the start.
 #[inline(always)]
 #[tactic(auto, unfolding(crate::specs::Names::found))]
 fn long_month_to_june(case_sensitive: bool, bytes: &[u8]) -> Option<(Month, &[u8])>
-    ensures { cut_view result
-        ≡ Names.found case_sensitive (take 6 Names.long_months) bytes.now }
+    ensures { cut_view result ≡ Names.found case_sensitive (take 6 Names.long_months) bytes.now }
 {
-    if let Some(rest) = after(b"January", case_sensitive, bytes) {
-        Some((Month::January, rest))
-    } else if let Some(rest) = after(b"February", case_sensitive, bytes) {
-        Some((Month::February, rest))
-    } else if let Some(rest) = after(b"March", case_sensitive, bytes) {
-        Some((Month::March, rest))
-    } else if let Some(rest) = after(b"April", case_sensitive, bytes) {
-        Some((Month::April, rest))
-    } else if let Some(rest) = after(b"May", case_sensitive, bytes) {
-        Some((Month::May, rest))
-    } else if let Some(rest) = after(b"June", case_sensitive, bytes) {
-        Some((Month::June, rest))
-    } else {
-        None
-    }
+    first_name!(case_sensitive, bytes,
+        b"January" => Month::January,
+        b"February" => Month::February,
+        b"March" => Month::March,
+        b"April" => Month::April,
+        b"May" => Month::May,
+        b"June" => Month::June
+    )
 }
 
 // The month of the second half of a year whose name is at the start.
 #[inline(always)]
 #[tactic(auto, unfolding(crate::specs::Names::found))]
 fn long_month_from_july(case_sensitive: bool, bytes: &[u8]) -> Option<(Month, &[u8])>
-    ensures { cut_view result
-        ≡ Names.found case_sensitive (drop 6 Names.long_months) bytes.now }
+    ensures { cut_view result ≡ Names.found case_sensitive (drop 6 Names.long_months) bytes.now }
 {
-    if let Some(rest) = after(b"July", case_sensitive, bytes) {
-        Some((Month::July, rest))
-    } else if let Some(rest) = after(b"August", case_sensitive, bytes) {
-        Some((Month::August, rest))
-    } else if let Some(rest) = after(b"September", case_sensitive, bytes) {
-        Some((Month::September, rest))
-    } else if let Some(rest) = after(b"October", case_sensitive, bytes) {
-        Some((Month::October, rest))
-    } else if let Some(rest) = after(b"November", case_sensitive, bytes) {
-        Some((Month::November, rest))
-    } else if let Some(rest) = after(b"December", case_sensitive, bytes) {
-        Some((Month::December, rest))
-    } else {
-        None
-    }
+    first_name!(case_sensitive, bytes,
+        b"July" => Month::July,
+        b"August" => Month::August,
+        b"September" => Month::September,
+        b"October" => Month::October,
+        b"November" => Month::November,
+        b"December" => Month::December
+    )
 }
 
 /// The English name of a month.
@@ -91,23 +87,15 @@ pub fn long_month(case_sensitive: bool, bytes: &[u8]) -> Option<(Month, &[u8])>
 fn first_long_weekday(case_sensitive: bool, bytes: &[u8]) -> Option<(Weekday, &[u8])>
     ensures { cut_view result ≡ Names.found case_sensitive Names.long_weekdays bytes.now }
 {
-    if let Some(rest) = after(b"Monday", case_sensitive, bytes) {
-        Some((Weekday::Monday, rest))
-    } else if let Some(rest) = after(b"Tuesday", case_sensitive, bytes) {
-        Some((Weekday::Tuesday, rest))
-    } else if let Some(rest) = after(b"Wednesday", case_sensitive, bytes) {
-        Some((Weekday::Wednesday, rest))
-    } else if let Some(rest) = after(b"Thursday", case_sensitive, bytes) {
-        Some((Weekday::Thursday, rest))
-    } else if let Some(rest) = after(b"Friday", case_sensitive, bytes) {
-        Some((Weekday::Friday, rest))
-    } else if let Some(rest) = after(b"Saturday", case_sensitive, bytes) {
-        Some((Weekday::Saturday, rest))
-    } else if let Some(rest) = after(b"Sunday", case_sensitive, bytes) {
-        Some((Weekday::Sunday, rest))
-    } else {
-        None
-    }
+    first_name!(case_sensitive, bytes,
+        b"Monday" => Weekday::Monday,
+        b"Tuesday" => Weekday::Tuesday,
+        b"Wednesday" => Weekday::Wednesday,
+        b"Thursday" => Weekday::Thursday,
+        b"Friday" => Weekday::Friday,
+        b"Saturday" => Weekday::Saturday,
+        b"Sunday" => Weekday::Sunday
+    )
 }
 
 /// The English name of a day of the week.
@@ -122,48 +110,32 @@ pub fn long_weekday(case_sensitive: bool, bytes: &[u8]) -> Option<(Weekday, &[u8
 #[inline(always)]
 #[tactic(auto, unfolding(crate::specs::Names::found))]
 fn short_month_to_june(case_sensitive: bool, bytes: &[u8]) -> Option<(Month, &[u8])>
-    ensures { cut_view result
-        ≡ Names.found case_sensitive (take 6 Names.short_months) bytes.now }
+    ensures { cut_view result ≡ Names.found case_sensitive (take 6 Names.short_months) bytes.now }
 {
-    if let Some(rest) = after(b"Jan", case_sensitive, bytes) {
-        Some((Month::January, rest))
-    } else if let Some(rest) = after(b"Feb", case_sensitive, bytes) {
-        Some((Month::February, rest))
-    } else if let Some(rest) = after(b"Mar", case_sensitive, bytes) {
-        Some((Month::March, rest))
-    } else if let Some(rest) = after(b"Apr", case_sensitive, bytes) {
-        Some((Month::April, rest))
-    } else if let Some(rest) = after(b"May", case_sensitive, bytes) {
-        Some((Month::May, rest))
-    } else if let Some(rest) = after(b"Jun", case_sensitive, bytes) {
-        Some((Month::June, rest))
-    } else {
-        None
-    }
+    first_name!(case_sensitive, bytes,
+        b"Jan" => Month::January,
+        b"Feb" => Month::February,
+        b"Mar" => Month::March,
+        b"Apr" => Month::April,
+        b"May" => Month::May,
+        b"Jun" => Month::June
+    )
 }
 
 // The month of the second half of a year whose short name is at the start.
 #[inline(always)]
 #[tactic(auto, unfolding(crate::specs::Names::found))]
 fn short_month_from_july(case_sensitive: bool, bytes: &[u8]) -> Option<(Month, &[u8])>
-    ensures { cut_view result
-        ≡ Names.found case_sensitive (drop 6 Names.short_months) bytes.now }
+    ensures { cut_view result ≡ Names.found case_sensitive (drop 6 Names.short_months) bytes.now }
 {
-    if let Some(rest) = after(b"Jul", case_sensitive, bytes) {
-        Some((Month::July, rest))
-    } else if let Some(rest) = after(b"Aug", case_sensitive, bytes) {
-        Some((Month::August, rest))
-    } else if let Some(rest) = after(b"Sep", case_sensitive, bytes) {
-        Some((Month::September, rest))
-    } else if let Some(rest) = after(b"Oct", case_sensitive, bytes) {
-        Some((Month::October, rest))
-    } else if let Some(rest) = after(b"Nov", case_sensitive, bytes) {
-        Some((Month::November, rest))
-    } else if let Some(rest) = after(b"Dec", case_sensitive, bytes) {
-        Some((Month::December, rest))
-    } else {
-        None
-    }
+    first_name!(case_sensitive, bytes,
+        b"Jul" => Month::July,
+        b"Aug" => Month::August,
+        b"Sep" => Month::September,
+        b"Oct" => Month::October,
+        b"Nov" => Month::November,
+        b"Dec" => Month::December
+    )
 }
 
 /// The first three letters of the English name of a month.
@@ -183,23 +155,15 @@ pub fn short_month(case_sensitive: bool, bytes: &[u8]) -> Option<(Month, &[u8])>
 fn first_short_weekday(case_sensitive: bool, bytes: &[u8]) -> Option<(Weekday, &[u8])>
     ensures { cut_view result ≡ Names.found case_sensitive Names.short_weekdays bytes.now }
 {
-    if let Some(rest) = after(b"Mon", case_sensitive, bytes) {
-        Some((Weekday::Monday, rest))
-    } else if let Some(rest) = after(b"Tue", case_sensitive, bytes) {
-        Some((Weekday::Tuesday, rest))
-    } else if let Some(rest) = after(b"Wed", case_sensitive, bytes) {
-        Some((Weekday::Wednesday, rest))
-    } else if let Some(rest) = after(b"Thu", case_sensitive, bytes) {
-        Some((Weekday::Thursday, rest))
-    } else if let Some(rest) = after(b"Fri", case_sensitive, bytes) {
-        Some((Weekday::Friday, rest))
-    } else if let Some(rest) = after(b"Sat", case_sensitive, bytes) {
-        Some((Weekday::Saturday, rest))
-    } else if let Some(rest) = after(b"Sun", case_sensitive, bytes) {
-        Some((Weekday::Sunday, rest))
-    } else {
-        None
-    }
+    first_name!(case_sensitive, bytes,
+        b"Mon" => Weekday::Monday,
+        b"Tue" => Weekday::Tuesday,
+        b"Wed" => Weekday::Wednesday,
+        b"Thu" => Weekday::Thursday,
+        b"Fri" => Weekday::Friday,
+        b"Sat" => Weekday::Saturday,
+        b"Sun" => Weekday::Sunday
+    )
 }
 
 /// The first three letters of the English name of a day of the week.
@@ -217,11 +181,8 @@ pub fn period(is_uppercase: bool, case_sensitive: bool, bytes: &[u8]) -> Option<
     ensures { cut_view result ≡ taken (Names.period is_uppercase case_sensitive) bytes.now }
 {
     let exact = is_uppercase && case_sensitive;
-    if let Some(rest) = after(b"AM", exact, bytes) {
-        Some((false, rest))
-    } else if let Some(rest) = after(b"PM", exact, bytes) {
-        Some((true, rest))
-    } else {
-        None
-    }
+    first_name!(exact, bytes,
+        b"AM" => false,
+        b"PM" => true
+    )
 }

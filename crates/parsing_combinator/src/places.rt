@@ -2,9 +2,8 @@
 //!
 //! Bytes stand in one number, the first one lowest: one product takes the tens of all digits, to the byte after them.
 ghost use Rattle.std.specs.Prelude.{◌≡◌, ◌≤◌, ◌+◌, Some, drop};
-ghost use Rattle.parsing_combinator.specs.Chunks as Chunks;
 ghost use Rattle.parsing_combinator.specs.Pieces as Pieces;
-ghost use Rattle.parsing_combinator.specs.Places.{HasPair, HasClock};
+ghost use Rattle.parsing_combinator.specs.Places.{HasPair};
 
 /// The numbers of the two digits at a place and of the two after them.
 #[inline(always)]
@@ -40,29 +39,4 @@ pub fn four_digits_at(text: &[u8], place: usize) -> u16
 {
     let (high, low) = two_pairs_at(text, place);
     u16::from(high) * 100 + u16::from(low)
-}
-
-/// The three numbers of two digits each at a place, with colons between them.
-#[inline(always)]
-pub fn clock_at(text: &[u8], place: usize) -> (u8, u8, u8)
-    requires { HasClock text.now place }
-    ensures { Chunks.IsClock (drop place text.now) result.0 result.1 result.2
-        (drop (place + 8) text.now) }
-{
-    let bytes = [
-        text[place],
-        text[place + 1],
-        text[place + 2],
-        text[place + 3],
-        text[place + 4],
-        text[place + 5],
-        text[place + 6],
-        text[place + 7],
-    ];
-    let digits = u64::from_le_bytes(bytes) - 0x3030_3a30_303a_3030;
-    let pairs = digits.wrapping_mul(2561);
-    let hour = pairs / 0x100 % 0x100;
-    let minute = pairs / 0x1_0000_0000 % 0x100;
-    let second = pairs / 0x100_0000_0000_0000;
-    (hour as u8, minute as u8, second as u8)
 }

@@ -9,6 +9,23 @@ use crate::sign;
 use crate::wide::wide_digits;
 use description_date_modifiers::Padding;
 
+// What is read after a sign, and whether that is a minus, or else what is read where none is due.
+macro_rules! by_sign {
+    ($mandatory:expr, $bytes:expr, $rest:ident => $after:expr, $bare:expr) => {
+        match sign($bytes) {
+            Some((mark, $rest)) => {
+                let (number, rest) = $after?;
+                Some(((mark == b'-', number), rest))
+            }
+            None if $mandatory => None,
+            None => {
+                let (number, rest) = $bare?;
+                Some(((false, number), rest))
+            }
+        }
+    };
+}
+
 // The digits of a year after its sign.
 #[tactic(auto, using(crate::proofs::Components::taken_padded))]
 fn signed_year(padding: Padding, extended: bool, bytes: &[u8]) -> Option<(u32, &[u8])>
@@ -32,17 +49,10 @@ pub fn year(
         ≡ Shape.taken (Numbers.year padding mandatory extended) bytes.now }
     ensures bound { IfSome result (λ x. x.0.1 < 1_000_000) }
 {
-    match sign(bytes) {
-        Some((mark, rest)) => {
-            let (number, rest) = signed_year(padding, extended, rest)?;
-            Some(((mark == b'-', number), rest))
-        }
-        None if mandatory => None,
-        None => {
-            let (number, rest) = padded_four(padding, bytes)?;
-            Some(((false, number), rest))
-        }
-    }
+    by_sign!(mandatory, bytes,
+        rest => signed_year(padding, extended, rest),
+        padded_four(padding, bytes)
+    )
 }
 
 /// A century: after a sign two digits, and where it is extended up to four; without one at most
@@ -58,17 +68,10 @@ pub fn century(
         ≡ Shape.taken (Numbers.century padding mandatory extended) bytes.now }
     ensures bound { IfSome result (λ x. x.0.1 < 10_000) }
 {
-    match sign(bytes) {
-        Some((mark, rest)) => {
-            let (number, rest) = padded(padding, 2, if extended { 4 } else { 2 }, rest)?;
-            Some(((mark == b'-', number), rest))
-        }
-        None if mandatory => None,
-        None => {
-            let (number, rest) = padded(padding, 1, 2, bytes)?;
-            Some(((false, number), rest))
-        }
-    }
+    by_sign!(mandatory, bytes,
+        rest => padded(padding, 2, if extended { 4 } else { 2 }, rest),
+        padded(padding, 1, 2, bytes)
+    )
 }
 
 /// The hours of an offset, two digits wide, with a sign before them, or without one where it is not mandatory.
@@ -79,17 +82,7 @@ pub fn offset_hour(padding: Padding, mandatory: bool, bytes: &[u8]) -> Option<((
         ≡ Shape.taken (Numbers.offset_hour padding mandatory) bytes.now }
     ensures bound { IfSome result (λ x. x.0.1 < 100) }
 {
-    match sign(bytes) {
-        Some((mark, rest)) => {
-            let (number, rest) = padded_two(padding, rest)?;
-            Some(((mark == b'-', number), rest))
-        }
-        None if mandatory => None,
-        None => {
-            let (number, rest) = padded_two(padding, bytes)?;
-            Some(((false, number), rest))
-        }
-    }
+    by_sign!(mandatory, bytes, rest => padded_two(padding, rest), padded_two(padding, bytes))
 }
 
 /// A Unix timestamp of at most so many digits, with a sign before them, or without one where it is not mandatory.
@@ -101,15 +94,5 @@ pub fn timestamp(mandatory: bool, most: usize, bytes: &[u8]) -> Option<((bool, u
         ≡ Shape.taken (Numbers.timestamp mandatory most) bytes.now }
     ensures bound { IfSome result (λ x. x.0.1 < 10 ^ most) }
 {
-    match sign(bytes) {
-        Some((mark, rest)) => {
-            let (number, rest) = wide_digits(most, rest)?;
-            Some(((mark == b'-', number), rest))
-        }
-        None if mandatory => None,
-        None => {
-            let (number, rest) = wide_digits(most, bytes)?;
-            Some(((false, number), rest))
-        }
-    }
+    by_sign!(mandatory, bytes, rest => wide_digits(most, rest), wide_digits(most, bytes))
 }

@@ -4,7 +4,7 @@ ghost use Rattle.std.specs.Str.Parse.{digits_value};
 ghost use Rattle.parsing_combinator.specs.Pieces as Pieces;
 ghost use Rattle.parsing_combinator.specs.Shape as Shape;
 
-use crate::digits::leading_digits;
+use crate::cut::leading_digits;
 
 // The number that at most 23 digits write.
 #[inline(always)]

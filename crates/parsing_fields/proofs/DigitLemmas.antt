@@ -18,6 +18,7 @@ use Rattle.parsing_combinator.proofs.PaddingLemmas.{fraction_of_padded, padded_l
 use Rattle.parsing_combinator.proofs.Lanes.{chunk_eight}
 use Rattle.parsing_fields.specs.Decimal.{decimal}
 use Rattle.parsing_fields.specs.Digits.{nine_digits, AreNineDigits}
+use Rattle.parsing_fields.specs.DigitsBack.{digits_below, nine_back}
 use Rattle.parsing_fields.proofs.lemmas.Decimals.{as_digit, decimal_count, decimal_value, digits_fit}
 
 nine_is : (first last : ℕ) (eight : List ℕ) → to_le_bytes w64 first ≡ eight → nine_digits first last ≡ eight ++ last ∷ []
@@ -36,10 +37,19 @@ of_number n first last h fits is end =
     let small : n < 10 ^ 9 = omega (arith, h) in
     ((fits, ap digit_count nine ∙ all), ap (digits_value 10) nine ∙ decimal_value 9 n small)
 
--- nine digits are read as their number
-pub all_nine : (first last : ℕ) → AreNineDigits first last → digits 9 (nine_digits first last) ≡ Some (digits_value 10 (nine_digits first last), [])
+-- what nine digits say that are kept for a number
+pub record Kept (first last n : ℕ) : Type 0 where
+  pub text : nine_digits first last ≡ decimal 9 n
+  pub reads : digits 9 (nine_digits first last) ≡ Some (n, [])
+  pub bound : n < 1_000_000_000
+
+pub kept : (first last n : ℕ) → AreNineDigits first last → digits_value 10 (nine_digits first last) ≡ n → Kept first last n
 unfolding digits nine_digits
-all_nine first last are = rw are.1 refl
+kept first last n are is = record {
+  text = rw (← is) (sym (nine_back first last are));
+  reads = rw (are.1, is) refl;
+  bound = rw (← is) (digits_below first last are);
+}
 
 -- ---- as they are read
 

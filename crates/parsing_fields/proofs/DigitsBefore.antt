@@ -1,30 +1,21 @@
 -- Digits that end at a place of a line, and the fraction of a second that they write.
-use Rattle.std.proofs.Common.{◌≡◌, ℕ, zero, suc, ◌+◌, ◌-◌, ◌*◌, ◌/◌, ◌%◌, ◌^◌, ◌<◌, ◌≤◌, ◌==◌, eqb, List, [], ◌∷◌, ◌++◌, length, get_or, take, drop, replicate, Option, Some, true, false, refl, sym, ap, ◌∙◌, arith, lit<, take-append-drop}
+use Rattle.std.proofs.Common.{◌≡◌, ℕ, ◌+◌, ◌-◌, ◌*◌, ◌/◌, ◌%◌, ◌^◌, ◌<◌, ◌≤◌, ◌==◌, eqb, List, [], ◌++◌, length, get_or, take, drop, replicate, Option, Some, true, false, refl, sym, ap, ◌∙◌, arith, take-append-drop}
 use Rattle.std.specs.Char.{is_ascii_digit}
 use Rattle.std.specs.Int.Bits.{bit_and}
 use Rattle.std.specs.Option.{unwrap_or}
 use Rattle.std.specs.Str.Parse.{digits_value}
 use Rattle.std.proofs.lemmas.Bool.Decides.{nat_tests}
-use Rattle.std.proofs.lemmas.List.{length-take-le, length-drop, take_all, drop_all, take-append-le, drop-take, drop-drop, get_or-drop}
+use Rattle.std.proofs.lemmas.List.{length-take-le, length-drop, take_all, drop_all, take-append-le, drop-take, drop-drop}
 use Rattle.std.proofs.lemmas.List.Folds.{prefix_len-append}
 use Rattle.std.proofs.lemmas.Nat.{div-mul-add}
 use Rattle.parsing_combinator.specs.Pieces.{digits, digit_count, digit_run, fraction, nanoseconds_of}
 use Rattle.parsing_combinator.specs.Chunks.{chunk, padded, IsDigitChunk}
 use Rattle.parsing_combinator.proofs.Decimal.{count_prefix}
-use Rattle.parsing_combinator.proofs.FractionDigits.{digits_read}
-use Rattle.parsing_combinator.proofs.PaddingLemmas.{chunk_append, chunk_below, padded_read}
+use Rattle.parsing_combinator.proofs.Lanes.{take_fit}
+use Rattle.parsing_combinator.proofs.PaddingLemmas.{chunk_append, chunk_below, drop_fit, padded_counted}
 use Rattle.parsing_fields.proofs.DigitLemmas.{Nine, short_read, none_of_nothing}
 use Rattle.parsing_fields.specs.Digits.{nine_digits, AreNineDigits}
 use Rattle.parsing_fields.specs.Written.{WriteFraction}
-
-take_fit : (n : ℕ) (bytes : List ℕ) → ((k : ℕ) → get_or bytes k 0 < 256) → (k : ℕ) → get_or (take n bytes) k 0 < 256
-take_fit zero bytes fit k = lit< tt
-take_fit (suc n) [] fit k = lit< tt
-take_fit (suc n) (b ∷ bs) fit zero = fit 0
-take_fit (suc n) (b ∷ bs) fit (suc k) = take_fit n bs (λ j. fit (suc j)) k
-
-pub drop_fit : (n : ℕ) (bytes : List ℕ) → ((k : ℕ) → get_or bytes k 0 < 256) → (k : ℕ) → get_or (drop n bytes) k 0 < 256
-drop_fit n bytes fit k = rw (get_or-drop n bytes k 0) (fit (n + k))
 
 pub cut_fit : (n m : ℕ) (bytes : List ℕ) → ((k : ℕ) → get_or bytes k 0 < 256) → (k : ℕ) → get_or (take n (drop m bytes)) k 0 < 256
 cut_fit n m bytes fit = take_fit n (drop m bytes) (drop_fit m bytes fit)
@@ -69,15 +60,13 @@ module _ (line : List ℕ) (end count : ℕ) (room : 8 ≤ end) (within : end �
   are_read x is here above =
       let run = take count (drop (end - count) line) in
       let inside : count ≤ length run = omega (arith, run_long) in
-      let r = padded_read run count few inside (cut_fit count (end - count) line fit) (rw is at here) (rw is at above) in
-      let d = digits_read 8 (padded count run) _ _ r.eight.reads in
       let nothing : drop count run ≡ [] = drop_all count run (omega (arith, run_long)) in
       record {
         some = some;
         few = few;
         within = inside;
         number_is = is;
-        digits_are = d.enough;
+        digits_are = padded_counted run count few inside (cut_fit count (end - count) line fit) (rw is at here) (rw is at above);
         ends = λ lt. ap (digits 1) nothing ∙ none_of_nothing;
       }
 
@@ -91,8 +80,12 @@ fraction_whole run n rest all some e =
     let cut : Some (n, rest) ≡ Some (nanoseconds_of run, drop (digit_count run) run) = sym e ∙ rw (nonzero, prefix) refl in
     ap (λ (o : Option (ℕ × List ℕ)). (unwrap_or o (0, [])).0) cut
 
-pub fraction_before : (bytes : List ℕ) (first count : ℕ) → count ≤ length bytes → IsDigitChunk (take count bytes) first count → ((k : ℕ) → get_or bytes k 0 < 256) → WriteFraction bytes count (digits_value 10 (nine_digits first 48))
-fraction_before bytes first count within c fit =
+pub record Before (bytes : List ℕ) (first last count : ℕ) : Type 0 where
+  pub are : AreNineDigits first last
+  pub writes : WriteFraction bytes count (digits_value 10 (nine_digits first last))
+
+pub before : (bytes : List ℕ) (first count : ℕ) → count ≤ length bytes → IsDigitChunk (take count bytes) first count → ((k : ℕ) → get_or bytes k 0 < 256) → Before bytes first 48 count
+before bytes first count within c fit =
     let run = take count bytes in
     let long : length run ≡ count = length-take-le count bytes within in
     let nothing : drop count run ≡ [] = drop_all count run (omega (arith, long)) in
@@ -104,13 +97,9 @@ fraction_before bytes first count within c fit =
     let same : eqb (digit_count run) (length run) ≡ true = grind (arith, nat_tests) in
     let counted : digit_count bytes ≡ length run + digit_count (drop count bytes) = ap digit_count (sym (take-append-drop count bytes)) ∙ prefix_len-append is_ascii_digit run (drop count bytes) ∙ rw same refl in
     record {
-      enough = omega (arith, counted, long);
-      value = fraction_whole run (digits_value 10 (nine_digits first 48)) (drop count run) all (omega (arith, long, c.some)) nine.reads;
+      are = nine.are;
+      writes = record {
+        enough = omega (arith, counted, long);
+        value = fraction_whole run (digits_value 10 (nine_digits first 48)) (drop count run) all (omega (arith, long, c.some)) nine.reads;
+      };
     }
-
-pub are_nine : (bytes : List ℕ) (first count : ℕ) → count ≤ length bytes → IsDigitChunk (take count bytes) first count → ((k : ℕ) → get_or bytes k 0 < 256) → AreNineDigits first 48
-are_nine bytes first count within c fit =
-    let run = take count bytes in
-    let long : length run ≡ count = length-take-le count bytes within in
-    let nothing : drop count run ≡ [] = drop_all count run (omega (arith, long)) in
-    (short_read run first count c (take_fit count bytes fit) (ap (digits 1) nothing ∙ none_of_nothing)).are

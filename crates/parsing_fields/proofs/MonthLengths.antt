@@ -1,7 +1,7 @@
 -- The days that a month has in every year.
-use Rattle.std.proofs.Common.{◌≡◌, ℕ, ◌<◌, ◌≤◌, ◌==◌, ◌||◌, true, cond, get_or, refl, ℤ, arith}
+use Rattle.std.proofs.Common.{ℕ, ◌<◌, ◌≤◌, ◌==◌, ◌||◌, true, cond, get_or, refl, ℤ, arith}
 use Rattle.std.specs.Prelude.{nat_le}
-use Rattle.std.proofs.lemmas.Bool.{agree_below_at}
+use Rattle.std.proofs.lemmas.Bool.{agree_below_at, leb-true}
 use Rattle.std.proofs.lemmas.Bool.Decides.{nat_tests}
 use Rattle.calendar_count.specs.Calendar.{days_in_month}
 use Rattle.parsing_fields.specs.declared.fields.TheConstants.{SHORTEST}
@@ -12,10 +12,7 @@ shortest m = cond (m == 2) 28 (cond ((m == 4) || (m == 6) || (m == 9) || (m == 1
 in_every_year : (y : ℤ) (m : ℕ) → shortest m ≤ days_in_month y m
 in_every_year y m = grind (arith, nat_tests)
 
-at_most : (a b : ℕ) → nat_le a b ≡ true → a ≤ b
-at_most a b e = grind (arith, nat_tests)
-
 pub shortest_month : (y : ℤ) (m : ℕ) → m < 13 → get_or SHORTEST m 0 ≤ days_in_month y m
 shortest_month y m lt =
-    let listed = at_most (get_or SHORTEST m 0) (shortest m) (agree_below_at (λ k. nat_le (get_or SHORTEST k 0) (shortest k)) (λ _. true) 13 m refl lt) in
+    let listed = leb-true (get_or SHORTEST m 0) (shortest m) (agree_below_at (λ k. nat_le (get_or SHORTEST k 0) (shortest k)) (λ _. true) 13 m refl lt) in
     omega (arith, listed, in_every_year y m)

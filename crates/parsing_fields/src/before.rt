@@ -1,7 +1,8 @@
 //! At most eight digits that end at a place of a line.
-ghost use Rattle.std.specs.Prelude.{◌≡◌, ◌+◌, ◌-◌, ◌*◌, ◌%◌, ◌<◌, ◌≤◌, ◌^◌, true, take, drop, length, replicate, IfSome, bit_and};
-ghost use Rattle.base.specs.Bytes.{digit_zero};
+ghost use Rattle.std.specs.Prelude.{◌≡◌, ◌+◌, ◌-◌, ◌%◌, ◌<◌, ◌≤◌, ◌^◌, true, take, drop, length, IfSome, bit_and};
 ghost use Rattle.parsing_combinator.specs.Chunks as Chunks;
+
+use parsing_combinator::zeros_after;
 
 // The eight bytes that end at a place, as one number, the first one lowest.
 #[inline(always)]
@@ -21,28 +22,6 @@ fn eight_before(line: &[u8], end: usize) -> u64
         line[at + 6],
         line[at + 7],
     ])
-}
-
-// The digit zero in all bytes but the first, for each number of these.
-static ZEROS_AFTER: [u64; 9] = [
-    0x3030_3030_3030_3030,
-    0x3030_3030_3030_3000,
-    0x3030_3030_3030_0000,
-    0x3030_3030_3000_0000,
-    0x3030_3030_0000_0000,
-    0x3030_3000_0000_0000,
-    0x3030_0000_0000_0000,
-    0x3000_0000_0000_0000,
-    0,
-];
-
-// The digit zero at each of eight places after the first so many.
-#[inline(always)]
-fn zeros_after(count: usize) -> u64
-    requires { count ≤ 8 }
-    ensures { result ≡ Chunks.chunk (replicate (8 - count) digit_zero) * 2 ^ (8 * count) }
-{
-    ZEROS_AFTER[count]
 }
 
 // Whether all eight bytes are digits: each has the high half of one, and so has the byte six above it.

@@ -11,5 +11,5 @@ mod year;
 pub use digits::digit_pair;
 pub use fields::{Fields, has_day};
 pub use fraction::Fraction;
-pub use minutes::{minute_of_day, offset_minutes, signed_minutes};
+pub use minutes::{minute_of_day, offset_minutes};
 pub use year::Year;

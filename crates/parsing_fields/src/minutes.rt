@@ -1,5 +1,5 @@
 //! Minutes of the day, and offsets in minutes.
-ghost use Rattle.std.specs.Prelude.{◌≡◌, ◌+◌, ◌*◌, ◌≤◌, ◌↔◌, IsSome, IfSome, IsOk, Ok, pos, ◌*ℤ◌, unsigned_abs};
+ghost use Rattle.std.specs.Prelude.{◌≡◌, ◌+◌, ◌*◌, ◌≤◌, ◌↔◌, IsSome, IfSome, Ok, pos, ◌*ℤ◌, unsigned_abs};
 ghost use Rattle.parsing_values.specs.Resolution.{signed_offset_of};
 
 /// The minute of the day of an hour below 24 and a minute below 60.
@@ -14,22 +14,8 @@ pub fn minute_of_day(hour: u8, minute: u8) -> Option<u16>
     Some(u16::from(hour) * 60 + u16::from(minute))
 }
 
-/// The minutes of an offset of hours and minutes under one sign, where it has at most 25 hours and 59 minutes.
-#[tactic(auto, unfolding(parsing_values::specs::Resolution::signed_offset_of, calendar_clock::specs::UtcOffset::offset_of))]
-#[inline(always)]
-pub fn signed_minutes(is_negative: bool, hours: u8, minutes: u8) -> Option<i16>
-    ensures some { IsSome result ↔ IsOk (signed_offset_of is_negative hours minutes) }
-    ensures value { IfSome result
-        (λ m. signed_offset_of is_negative hours minutes ≡ Ok (pos 60 *ℤ m)) }
-    ensures bound { IfSome result (λ m. unsigned_abs m ≤ 1559) }
-{
-    if hours > 25 || minutes > 59 {
-        return None;
-    }
-    Some(offset_minutes(is_negative, hours, minutes))
-}
-
-/// The minutes of such an offset: `signed_minutes` is the test.
+/// The minutes of an offset of hours and minutes under one sign.
+#[tactic(auto, using(std::proofs::lemmas::Int::ints))]
 #[inline(always)]
 pub fn offset_minutes(is_negative: bool, hours: u8, minutes: u8) -> i16
     requires hours { hours ≤ 25 }

@@ -12,7 +12,7 @@ use Rattle.parsing_combinator.proofs.Decimal.{digit_count_within, count_drop, co
 use Rattle.parsing_combinator.proofs.FractionDigits.{long_fraction, short_fraction}
 use Rattle.parsing_fields.specs.Written.{WriteFraction}
 use Rattle.parsing_combinator.proofs.Longest.{taken_digits}
-use Rattle.parsing_combinator.proofs.WideLemmas.{Next, next_digit}
+use Rattle.parsing_combinator.proofs.Numbers.{Next, next_digit}
 use Rattle.parsing_layout.specs.Layout.{exact_fraction}
 use Rattle.parsing_layout.proofs.PieceLemmas.{inside, exact_said}
 

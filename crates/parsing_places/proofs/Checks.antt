@@ -1,8 +1,8 @@
 -- Facts of windows that are constants, by tests that compute.
-use Rattle.std.proofs.Common.{◌≡◌, ◌≤◌, ◌-◌, ℕ, Bool, true, false, cond, List, get_or, refl, arith}
+use Rattle.std.proofs.Common.{◌≡◌, ℕ, Bool, true, List, get_or, arith}
 use Rattle.std.specs.Prelude.{◌==◌, ◌&&◌, nat_le, nat_lt}
 use Rattle.std.proofs.lemmas.Bool.Decides.{nat_tests}
-use Rattle.parsing_places.specs.Shape.{Takes, TakesFrom, TakesDigit}
+use Rattle.parsing_places.specs.Shape.{Takes}
 use Rattle.parsing_places.specs.Tail.{LetsByte}
 use Rattle.parsing_places.specs.declared.shape.Window.{Window}
 
@@ -28,8 +28,3 @@ lets_is w place byte e = record {
   low = grind (arith, nat_tests, e);
   high = grind (arith, nat_tests, e);
 }
-
--- a lane takes a digit, of one of two windows
-abbrev pub digit : List ℕ → List ℕ → List ℕ → List ℕ → List ℕ → List ℕ → ℕ → ℕ → ℕ → ℕ → Bool
-digit fl fh fm bl bh bm back_at lane place most =
-    cond (nat_lt (get_or fm lane 0) 128) (takes fl fh fm lane place most && nat_le 128 (get_or bm lane 0)) (nat_le back_at place && takes bl bh bm lane (place - back_at) most)

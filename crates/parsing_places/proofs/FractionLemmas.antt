@@ -1,28 +1,19 @@
 -- Nine digits in lanes, as a fraction.
-use Rattle.std.proofs.Common.{◌≡◌, ◌≤◌, ◌<◌, ◌+◌, ◌-◌, ◌*◌, ◌^◌, ◌∙◌, ℕ, zero, suc, true, List, [], ◌∷◌, ◌++◌, length, get_or, take, drop, replicate, refl, sym, ap, inl, inr, arith, lit<, w64, take-append-drop}
+use Rattle.std.proofs.Common.{◌≡◌, ◌≤◌, ◌<◌, ◌+◌, ◌-◌, ◌*◌, ◌^◌, ◌∙◌, ℕ, zero, suc, true, List, [], ◌∷◌, ◌++◌, length, get_or, take, drop, replicate, refl, sym, ap, inl, inr, arith, w64, take-append-drop}
 use Rattle.std.specs.Char.{is_ascii_digit}
 use Rattle.std.specs.Int.{from_le_bytes, to_le_bytes}
-use Rattle.std.specs.Str.Parse.{digits_value, digits_value_after}
+use Rattle.std.specs.Str.Parse.{digits_value}
 use Rattle.std.proofs.lemmas.Bool.{cases_lt}
-use Rattle.std.proofs.lemmas.Bool.Decides.{nat_tests}
-use Rattle.std.proofs.lemmas.List.{get_or_past, get_or-take, get_or-drop, get_or-replicate, length-take-le, length-drop, length-replicate}
+use Rattle.std.proofs.lemmas.List.{ext_get_or, get_or-take, get_or-drop, get_or-replicate, length-take-le, length-drop, length-replicate}
 use Rattle.std.proofs.lemmas.Nat.{le_bytes_8}
 use Rattle.parsing_combinator.specs.Pieces.{digit_count, nanoseconds_of}
-use Rattle.parsing_combinator.proofs.Decimal.{power_next, value_append, digit_count_within}
+use Rattle.parsing_combinator.proofs.Decimal.{value_append, value_zeros, digit_count_within}
+use Rattle.parsing_combinator.proofs.AtPlaces.{is_digit}
 use Rattle.parsing_combinator.proofs.FractionDigits.{short_fraction}
+use Rattle.parsing_combinator.proofs.Lanes.{spelled, spelled_is, take_fit}
 use Rattle.parsing_fields.specs.Digits.{nine_digits, AreNineDigits}
 use Rattle.parsing_fields.specs.Written.{WriteFraction}
-use Rattle.parsing_places.proofs.LaneLemmas.{expanded}
 use lib.Lanes.{number_l, chunk}
-
-same_all : (xs ys : List ℕ) → length xs ≡ length ys → ((k : ℕ) → k < length xs → get_or xs k 0 ≡ get_or ys k 0) → xs ≡ ys
-same_all [] [] n h = refl
-same_all [] (y ∷ ys) n h = absurd (omega (arith, n))
-same_all (x ∷ xs) [] n h = absurd (omega (arith, n))
-same_all (x ∷ xs) (y ∷ ys) n h =
-    let first : x ≡ y = h 0 (omega arith) in
-    let rest : xs ≡ ys = same_all xs ys (omega (arith, n)) (λ k lt. h (suc k) (omega (arith, lt))) in
-    cc
 
 -- digits before are counted
 counted : (xs : List ℕ) (n : ℕ) → n ≤ length xs → ((k : ℕ) → k < n → is_ascii_digit (get_or xs k 0) ≡ true) → n ≤ digit_count xs
@@ -33,33 +24,18 @@ counted (x ∷ xs) (suc n) le h =
     let rest = counted xs n (omega (arith, le)) (λ k lt. h (suc k) (omega (arith, lt))) in
     rw here (omega (arith, rest))
 
-zeros_after : (n m : ℕ) → digits_value_after 10 n (replicate m 48) ≡ n * 10 ^ m
-zeros_after n zero = omega arith
-zeros_after n (suc m) = zeros_after (n * 10 + 0) m ∙ rw (power_next m) (omega arith)
-
-is_digit : (c : ℕ) → 48 ≤ c → c ≤ 57 → is_ascii_digit c ≡ true
-is_digit c low high = grind (arith, nat_tests)
-
 -- the first nine lanes as the digits of a fraction are kept
-eight_of : (xs : List ℕ) → length xs ≡ 16 → ((k : ℕ) → get_or xs k 0 < 256) → (i : ℕ) → get_or (take 8 xs) i 0 < 256
-eight_of xs n small i = elim (cases_lt i 8) [
-  | inl lt ↦ rw (get_or-take 8 xs i 0 lt) (small i)
-  | inr le ↦ rw (get_or_past (take 8 xs) i 0 (omega (arith, le, length-take-le 8 xs (omega (arith, n))))) (lit< tt)
-]
-
 nine_is : (xs : List ℕ) (first last : ℕ) → length xs ≡ 16 → ((k : ℕ) → get_or xs k 0 < 256) → first ≡ number_l 256 (chunk 0 8 xs) → last ≡ get_or xs 8 0 → nine_digits first last ≡ take 9 xs
 unfolding nine_digits
 nine_is xs first last n small is end =
-    let eight : take 8 xs ≡ get_or xs 0 0 ∷ get_or xs 1 0 ∷ get_or xs 2 0 ∷ get_or xs 3 0 ∷ get_or xs 4 0 ∷ get_or xs 5 0 ∷ get_or xs 6 0 ∷ get_or xs 7 0 ∷ [] = ap (take 8) (expanded xs n) in
-    let nine : take 9 xs ≡ get_or xs 0 0 ∷ get_or xs 1 0 ∷ get_or xs 2 0 ∷ get_or xs 3 0 ∷ get_or xs 4 0 ∷ get_or xs 5 0 ∷ get_or xs 6 0 ∷ get_or xs 7 0 ∷ get_or xs 8 0 ∷ [] = ap (take 9) (expanded xs n) in
-    let value : first ≡ from_le_bytes w64 (get_or xs 0 0 ∷ get_or xs 1 0 ∷ get_or xs 2 0 ∷ get_or xs 3 0 ∷ get_or xs 4 0 ∷ get_or xs 5 0 ∷ get_or xs 6 0 ∷ get_or xs 7 0 ∷ []) = is ∙ ap (number_l 256) eight ∙ omega arith in
-    let bytes : to_le_bytes w64 first ≡ get_or xs 0 0 ∷ get_or xs 1 0 ∷ get_or xs 2 0 ∷ get_or xs 3 0 ∷ get_or xs 4 0 ∷ get_or xs 5 0 ∷ get_or xs 6 0 ∷ get_or xs 7 0 ∷ [] = le_bytes_8 _ first refl (rw eight at (eight_of xs n small)) value in
-    ap (λ (b : List ℕ). b ++ last ∷ []) bytes ∙ rw end refl ∙ sym nine
+    let eight : take 8 xs ≡ spelled 8 0 xs = spelled_is 8 0 xs (omega (arith, n)) in
+    let value : first ≡ from_le_bytes w64 (spelled 8 0 xs) = is ∙ ap (number_l 256) eight ∙ omega arith in
+    let bytes : to_le_bytes w64 first ≡ spelled 8 0 xs = le_bytes_8 _ first refl (rw eight at (take_fit 8 xs small)) value in
+    ap (λ (b : List ℕ). b ++ last ∷ []) bytes ∙ rw end refl ∙ sym (spelled_is 9 0 xs (omega (arith, n)))
 
 first_below : (xs : List ℕ) (first : ℕ) → length xs ≡ 16 → ((k : ℕ) → get_or xs k 0 < 256) → first ≡ number_l 256 (chunk 0 8 xs) → first < 2 ^ 64
 first_below xs first n small is =
-    let eight : take 8 xs ≡ get_or xs 0 0 ∷ get_or xs 1 0 ∷ get_or xs 2 0 ∷ get_or xs 3 0 ∷ get_or xs 4 0 ∷ get_or xs 5 0 ∷ get_or xs 6 0 ∷ get_or xs 7 0 ∷ [] = ap (take 8) (expanded xs n) in
-    let sum = is ∙ ap (number_l 256) eight in
+    let sum = is ∙ ap (number_l 256) (spelled_is 8 0 xs (omega (arith, n))) in
     omega (arith, sum, small 0, small 1, small 2, small 3, small 4, small 5, small 6, small 7)
 
 pub record Fractional (bytes : List ℕ) (count first last : ℕ) : Type 0 where
@@ -74,15 +50,15 @@ fraction_in bytes f count first last few within n small low high same zeros is e
     let long : length (take 9 f) ≡ 9 = length-take-le 9 f (omega (arith, n)) in
     let run : List ℕ = take count bytes in
     let run_long : length run ≡ count = length-take-le count bytes within in
-    let prefix : take count (take 9 f) ≡ run = same_all (take count (take 9 f)) run (length-take-le count (take 9 f) (omega (arith, long, few)) ∙ sym run_long)
+    let prefix : take count (take 9 f) ≡ run = ext_get_or 0 (take count (take 9 f)) run (length-take-le count (take 9 f) (omega (arith, long, few)) ∙ sym run_long)
     (λ k lt. let lt' : k < count = omega (arith, lt, length-take-le count (take 9 f) (omega (arith, long, few))) in
     get_or-take count (take 9 f) k 0 lt' ∙ get_or-take 9 f k 0 (omega (arith, lt', few)) ∙ same k lt' ∙ sym (get_or-take count bytes k 0 lt')) in
     let after_long : length (drop count (take 9 f)) ≡ 9 - count = omega (arith, length-drop count (take 9 f), long) in
-    let after : drop count (take 9 f) ≡ replicate (9 - count) 48 = same_all (drop count (take 9 f)) (replicate (9 - count) 48) (after_long ∙ sym (length-replicate (9 - count) 48))
+    let after : drop count (take 9 f) ≡ replicate (9 - count) 48 = ext_get_or 0 (drop count (take 9 f)) (replicate (9 - count) 48) (after_long ∙ sym (length-replicate (9 - count) 48))
     (λ k lt. let lt' : k < 9 - count = omega (arith, lt, after_long) in
     get_or-drop count (take 9 f) k 0 ∙ get_or-take 9 f (count + k) 0 (omega (arith, lt')) ∙ zeros (count + k) (omega arith) (omega (arith, lt')) ∙ sym (get_or-replicate (9 - count) k 48 0 lt')) in
     let split : take 9 f ≡ run ++ replicate (9 - count) 48 = sym (take-append-drop count (take 9 f)) ∙ rw (prefix, after) refl in
-    let value : digits_value 10 (run ++ replicate (9 - count) 48) ≡ digits_value 10 run * 10 ^ (9 - count) = value_append 0 run (replicate (9 - count) 48) ∙ zeros_after (digits_value 10 run) (9 - count) in
+    let value : digits_value 10 (run ++ replicate (9 - count) 48) ≡ digits_value 10 run * 10 ^ (9 - count) = value_append 0 run (replicate (9 - count) 48) ∙ value_zeros (digits_value 10 run) (9 - count) in
     let nanos : digits_value 10 run * 10 ^ (9 - count) ≡ nanoseconds_of run = ap (λ (m : ℕ). digits_value 10 run * 10 ^ (9 - m)) (sym run_long) ∙ short_fraction run (omega (arith, run_long, few)) in
     let digit : (k : ℕ) → k < 9 → is_ascii_digit (get_or (take 9 f) k 0) ≡ true = (λ k lt. rw (get_or-take 9 f k 0 lt) (elim (cases_lt k count) [
       | inl prefix ↦ rw (same k prefix) (is_digit (get_or bytes k 0) (low k prefix) (high k prefix))

@@ -2,10 +2,11 @@
 use Rattle.std.proofs.Common.{◌≡◌, ◌≤◌, ◌<◌, ◌+◌, ◌*◌, ◌^◌, ◌/◌, ◌%◌, ◌∙◌, ℕ, zero, suc, Bool, true, false, cond, List, [], ◌∷◌, length, get_or, take, drop, map, refl, sym, ap, arith, w8, lit<, inl, inr}
 use Rattle.std.specs.Int.Bits.{bit_and}
 use Rattle.std.specs.Prelude.{◌-◌, nat_le, nat_eq, replicate}
-use Rattle.std.proofs.lemmas.Bool.{cases_lt, agree_below_at}
+use Rattle.std.proofs.lemmas.Bool.{cases_lt, agree_below_at, leb-true}
 use Rattle.std.proofs.lemmas.Bool.Decides.{nat_tests}
-use Rattle.std.proofs.lemmas.List.{drop_more, length-drop, length-map, get_or-map}
+use Rattle.std.proofs.lemmas.List.{drop_more, length-map, get_or-map, take_all}
 use Rattle.std.proofs.lemmas.Simd.{swz_l, get_or-swz_l, get_or_wider, get_or_narrower, below_from_Fits, get_or-zip2, length-zip2, mask_l-mod, get_or-replicate}
+use Rattle.parsing_combinator.proofs.Lanes.{spelled, spelled_is}
 use Rattle.parsing_places.specs.Lanes.{are_moves}
 use lib.Dec.{T, ltb}
 use lib.Lanes.{Each1, zip2, mask_l, top, dots, number_l, digits_l}
@@ -19,42 +20,20 @@ each_moves (j ∷ js) h = let b = and_both (zeroes 16 w8 j || ltb j 16) (are_mov
 
 -- ---- all lanes, one by one
 
-none_left : (ys : List ℕ) → length ys ≡ 0 → ys ≡ []
-none_left [] e = refl
-none_left (y ∷ ys) e = absurd (omega (arith, e))
+expanded : (xs : List ℕ) → length xs ≡ 16 → xs ≡ spelled 16 0 xs
+expanded xs n = sym (take_all 16 xs (omega (arith, n))) ∙ spelled_is 16 0 xs (omega (arith, n))
 
-pub expanded : (xs : List ℕ) → length xs ≡ 16 → xs ≡ get_or xs 0 0 ∷ get_or xs 1 0 ∷ get_or xs 2 0 ∷ get_or xs 3 0 ∷ get_or xs 4 0 ∷ get_or xs 5 0 ∷ get_or xs 6 0 ∷ get_or xs 7 0 ∷ get_or xs 8 0 ∷ get_or xs 9 0 ∷ get_or xs 10 0 ∷ get_or xs 11 0 ∷ get_or xs 12 0 ∷ get_or xs 13 0 ∷ get_or xs 14 0 ∷ get_or xs 15 0 ∷ []
-expanded xs n =
-    let s16 : drop 16 xs ≡ [] = none_left (drop 16 xs) (omega (arith, length-drop 16 xs, n)) in
-    let s15 : drop 15 xs ≡ get_or xs 15 0 ∷ [] = drop_more xs 15 0 (omega (arith, n)) ∙ ap (λ t. get_or xs 15 0 ∷ t) s16 in
-    let s14 : drop 14 xs ≡ get_or xs 14 0 ∷ get_or xs 15 0 ∷ [] = drop_more xs 14 0 (omega (arith, n)) ∙ ap (λ t. get_or xs 14 0 ∷ t) s15 in
-    let s13 : drop 13 xs ≡ get_or xs 13 0 ∷ get_or xs 14 0 ∷ get_or xs 15 0 ∷ [] = drop_more xs 13 0 (omega (arith, n)) ∙ ap (λ t. get_or xs 13 0 ∷ t) s14 in
-    let s12 : drop 12 xs ≡ get_or xs 12 0 ∷ get_or xs 13 0 ∷ get_or xs 14 0 ∷ get_or xs 15 0 ∷ [] = drop_more xs 12 0 (omega (arith, n)) ∙ ap (λ t. get_or xs 12 0 ∷ t) s13 in
-    let s11 : drop 11 xs ≡ get_or xs 11 0 ∷ get_or xs 12 0 ∷ get_or xs 13 0 ∷ get_or xs 14 0 ∷ get_or xs 15 0 ∷ [] = drop_more xs 11 0 (omega (arith, n)) ∙ ap (λ t. get_or xs 11 0 ∷ t) s12 in
-    let s10 : drop 10 xs ≡ get_or xs 10 0 ∷ get_or xs 11 0 ∷ get_or xs 12 0 ∷ get_or xs 13 0 ∷ get_or xs 14 0 ∷ get_or xs 15 0 ∷ [] = drop_more xs 10 0 (omega (arith, n)) ∙ ap (λ t. get_or xs 10 0 ∷ t) s11 in
-    let s9 : drop 9 xs ≡ get_or xs 9 0 ∷ get_or xs 10 0 ∷ get_or xs 11 0 ∷ get_or xs 12 0 ∷ get_or xs 13 0 ∷ get_or xs 14 0 ∷ get_or xs 15 0 ∷ [] = drop_more xs 9 0 (omega (arith, n)) ∙ ap (λ t. get_or xs 9 0 ∷ t) s10 in
-    let s8 : drop 8 xs ≡ get_or xs 8 0 ∷ get_or xs 9 0 ∷ get_or xs 10 0 ∷ get_or xs 11 0 ∷ get_or xs 12 0 ∷ get_or xs 13 0 ∷ get_or xs 14 0 ∷ get_or xs 15 0 ∷ [] = drop_more xs 8 0 (omega (arith, n)) ∙ ap (λ t. get_or xs 8 0 ∷ t) s9 in
-    let s7 : drop 7 xs ≡ get_or xs 7 0 ∷ get_or xs 8 0 ∷ get_or xs 9 0 ∷ get_or xs 10 0 ∷ get_or xs 11 0 ∷ get_or xs 12 0 ∷ get_or xs 13 0 ∷ get_or xs 14 0 ∷ get_or xs 15 0 ∷ [] = drop_more xs 7 0 (omega (arith, n)) ∙ ap (λ t. get_or xs 7 0 ∷ t) s8 in
-    let s6 : drop 6 xs ≡ get_or xs 6 0 ∷ get_or xs 7 0 ∷ get_or xs 8 0 ∷ get_or xs 9 0 ∷ get_or xs 10 0 ∷ get_or xs 11 0 ∷ get_or xs 12 0 ∷ get_or xs 13 0 ∷ get_or xs 14 0 ∷ get_or xs 15 0 ∷ [] = drop_more xs 6 0 (omega (arith, n)) ∙ ap (λ t. get_or xs 6 0 ∷ t) s7 in
-    let s5 : drop 5 xs ≡ get_or xs 5 0 ∷ get_or xs 6 0 ∷ get_or xs 7 0 ∷ get_or xs 8 0 ∷ get_or xs 9 0 ∷ get_or xs 10 0 ∷ get_or xs 11 0 ∷ get_or xs 12 0 ∷ get_or xs 13 0 ∷ get_or xs 14 0 ∷ get_or xs 15 0 ∷ [] = drop_more xs 5 0 (omega (arith, n)) ∙ ap (λ t. get_or xs 5 0 ∷ t) s6 in
-    let s4 : drop 4 xs ≡ get_or xs 4 0 ∷ get_or xs 5 0 ∷ get_or xs 6 0 ∷ get_or xs 7 0 ∷ get_or xs 8 0 ∷ get_or xs 9 0 ∷ get_or xs 10 0 ∷ get_or xs 11 0 ∷ get_or xs 12 0 ∷ get_or xs 13 0 ∷ get_or xs 14 0 ∷ get_or xs 15 0 ∷ [] = drop_more xs 4 0 (omega (arith, n)) ∙ ap (λ t. get_or xs 4 0 ∷ t) s5 in
-    let s3 : drop 3 xs ≡ get_or xs 3 0 ∷ get_or xs 4 0 ∷ get_or xs 5 0 ∷ get_or xs 6 0 ∷ get_or xs 7 0 ∷ get_or xs 8 0 ∷ get_or xs 9 0 ∷ get_or xs 10 0 ∷ get_or xs 11 0 ∷ get_or xs 12 0 ∷ get_or xs 13 0 ∷ get_or xs 14 0 ∷ get_or xs 15 0 ∷ [] = drop_more xs 3 0 (omega (arith, n)) ∙ ap (λ t. get_or xs 3 0 ∷ t) s4 in
-    let s2 : drop 2 xs ≡ get_or xs 2 0 ∷ get_or xs 3 0 ∷ get_or xs 4 0 ∷ get_or xs 5 0 ∷ get_or xs 6 0 ∷ get_or xs 7 0 ∷ get_or xs 8 0 ∷ get_or xs 9 0 ∷ get_or xs 10 0 ∷ get_or xs 11 0 ∷ get_or xs 12 0 ∷ get_or xs 13 0 ∷ get_or xs 14 0 ∷ get_or xs 15 0 ∷ [] = drop_more xs 2 0 (omega (arith, n)) ∙ ap (λ t. get_or xs 2 0 ∷ t) s3 in
-    let s1 : drop 1 xs ≡ get_or xs 1 0 ∷ get_or xs 2 0 ∷ get_or xs 3 0 ∷ get_or xs 4 0 ∷ get_or xs 5 0 ∷ get_or xs 6 0 ∷ get_or xs 7 0 ∷ get_or xs 8 0 ∷ get_or xs 9 0 ∷ get_or xs 10 0 ∷ get_or xs 11 0 ∷ get_or xs 12 0 ∷ get_or xs 13 0 ∷ get_or xs 14 0 ∷ get_or xs 15 0 ∷ [] = drop_more xs 1 0 (omega (arith, n)) ∙ ap (λ t. get_or xs 1 0 ∷ t) s2 in
-    let s0 : drop 0 xs ≡ get_or xs 0 0 ∷ get_or xs 1 0 ∷ get_or xs 2 0 ∷ get_or xs 3 0 ∷ get_or xs 4 0 ∷ get_or xs 5 0 ∷ get_or xs 6 0 ∷ get_or xs 7 0 ∷ get_or xs 8 0 ∷ get_or xs 9 0 ∷ get_or xs 10 0 ∷ get_or xs 11 0 ∷ get_or xs 12 0 ∷ get_or xs 13 0 ∷ get_or xs 14 0 ∷ get_or xs 15 0 ∷ [] = drop_more xs 0 0 (omega (arith, n)) ∙ ap (λ t. get_or xs 0 0 ∷ t) s1 in
-    s0
+-- weights of lanes, and the sums under them
+abbrev weights : List ℕ
+weights = 1 ∷ 0 ∷ 64 ∷ 0 ∷ 60 ∷ 0 ∷ 1 ∷ 0 ∷ 60 ∷ 0 ∷ 1 ∷ 0 ∷ 1 ∷ 0 ∷ 64 ∷ 0 ∷ []
 
-pub first_sum : (xs : List ℕ) → length xs ≡ 16 → get_or (dots xs (1 ∷ 0 ∷ 64 ∷ 0 ∷ 60 ∷ 0 ∷ 1 ∷ 0 ∷ 60 ∷ 0 ∷ 1 ∷ 0 ∷ 1 ∷ 0 ∷ 64 ∷ 0 ∷ [])) 0 0 ≡ get_or xs 0 0 + 64 * get_or xs 2 0
-first_sum xs n = ap (λ v. get_or (dots v (1 ∷ 0 ∷ 64 ∷ 0 ∷ 60 ∷ 0 ∷ 1 ∷ 0 ∷ 60 ∷ 0 ∷ 1 ∷ 0 ∷ 1 ∷ 0 ∷ 64 ∷ 0 ∷ [])) 0 0) (expanded xs n) ∙ omega arith
+sum_at : (xs : List ℕ) (k : ℕ) → length xs ≡ 16 → get_or (dots xs weights) k 0 ≡ get_or (dots (spelled 16 0 xs) weights) k 0
+sum_at xs k n = ap (λ v. get_or (dots v weights) k 0) (expanded xs n)
 
-pub second_sum : (xs : List ℕ) → length xs ≡ 16 → get_or (dots xs (1 ∷ 0 ∷ 64 ∷ 0 ∷ 60 ∷ 0 ∷ 1 ∷ 0 ∷ 60 ∷ 0 ∷ 1 ∷ 0 ∷ 1 ∷ 0 ∷ 64 ∷ 0 ∷ [])) 1 0 ≡ 60 * get_or xs 4 0 + get_or xs 6 0
-second_sum xs n = ap (λ v. get_or (dots v (1 ∷ 0 ∷ 64 ∷ 0 ∷ 60 ∷ 0 ∷ 1 ∷ 0 ∷ 60 ∷ 0 ∷ 1 ∷ 0 ∷ 1 ∷ 0 ∷ 64 ∷ 0 ∷ [])) 1 0) (expanded xs n) ∙ omega arith
-
-pub third_sum : (xs : List ℕ) → length xs ≡ 16 → get_or (dots xs (1 ∷ 0 ∷ 64 ∷ 0 ∷ 60 ∷ 0 ∷ 1 ∷ 0 ∷ 60 ∷ 0 ∷ 1 ∷ 0 ∷ 1 ∷ 0 ∷ 64 ∷ 0 ∷ [])) 2 0 ≡ 60 * get_or xs 8 0 + get_or xs 10 0
-third_sum xs n = ap (λ v. get_or (dots v (1 ∷ 0 ∷ 64 ∷ 0 ∷ 60 ∷ 0 ∷ 1 ∷ 0 ∷ 60 ∷ 0 ∷ 1 ∷ 0 ∷ 1 ∷ 0 ∷ 64 ∷ 0 ∷ [])) 2 0) (expanded xs n) ∙ omega arith
-
-pub fourth_sum : (xs : List ℕ) → length xs ≡ 16 → get_or (dots xs (1 ∷ 0 ∷ 64 ∷ 0 ∷ 60 ∷ 0 ∷ 1 ∷ 0 ∷ 60 ∷ 0 ∷ 1 ∷ 0 ∷ 1 ∷ 0 ∷ 64 ∷ 0 ∷ [])) 3 0 ≡ get_or xs 12 0 + 64 * get_or xs 14 0
-fourth_sum xs n = ap (λ v. get_or (dots v (1 ∷ 0 ∷ 64 ∷ 0 ∷ 60 ∷ 0 ∷ 1 ∷ 0 ∷ 60 ∷ 0 ∷ 1 ∷ 0 ∷ 1 ∷ 0 ∷ 64 ∷ 0 ∷ [])) 3 0) (expanded xs n) ∙ omega arith
+pub sums_are : (xs : List ℕ) → length xs ≡ 16 → (get_or (dots xs weights) 0 0 ≡ get_or xs 0 0 + 64 * get_or xs 2 0)
+    × (get_or (dots xs weights) 1 0 ≡ 60 * get_or xs 4 0 + get_or xs 6 0) × (get_or (dots xs weights) 2 0 ≡ 60 * get_or xs 8 0 + get_or xs 10 0)
+    × (get_or (dots xs weights) 3 0 ≡ get_or xs 12 0 + 64 * get_or xs 14 0)
+sums_are xs n = (sum_at xs 0 n ∙ omega arith, sum_at xs 1 n ∙ omega arith, sum_at xs 2 n ∙ omega arith, sum_at xs 3 n ∙ omega arith)
 
 -- ---- wider and narrower lanes
 
@@ -114,9 +93,6 @@ all_true (true ∷ ms) (suc n) long e zero lt = refl
 all_true (true ∷ ms) (suc n) long e (suc k) lt = all_true ms n (omega (arith, long)) (omega (arith, e)) k (omega (arith, lt))
 all_true (false ∷ ms) (suc n) long e k lt = absurd (omega (arith, e))
 
-at_most : (a b : ℕ) → nat_le a b ≡ true → a ≤ b
-at_most a b e = grind (arith, nat_tests)
-
 abbrev pub tests : List ℕ → List ℕ → List ℕ
 tests = zip2 (λ a b. cond (nat_le a b) 255 0)
 
@@ -127,6 +103,10 @@ three_true true false true e = absurd cc
 three_true true false false e = absurd cc
 three_true false q true e = absurd cc
 three_true false q false e = absurd cc
+
+one_true : (p : Bool) → top 7 (cond p 255 0) ≡ true → p ≡ true
+one_true true e = refl
+one_true false e = absurd cc
 
 abbrev is_at_most : ℕ → ℕ → ℕ
 is_at_most a b = cond (nat_le a b) 255 0
@@ -147,6 +127,10 @@ every_lane zs k n e lt =
     let whole : mask_l bits + 1 ≡ 2 ^ 16 = omega (arith, same, all) in
     sym (get_or-map (top 7) zs k 0 false (omega (arith, n, lt))) ∙ all_true bits 16 n4 whole k lt
 
+pub all_pass : (xs ys : List ℕ) → length xs ≡ 16 → length ys ≡ 16 → nat_eq (mask_l (map (top 7) (tests xs ys)) % 18446744073709551616) 65535 ≡ true
+    → (k : ℕ) → k < 16 → get_or xs k 0 ≤ get_or ys k 0
+all_pass xs ys n m e k lt = leb-true _ _ (one_true _ (sym (ap (top 7) (test_at xs ys k n m lt)) ∙ every_lane (tests xs ys) k (tests_long xs ys n m) e lt))
+
 pub all_pass_three : (f fh s sh t th : List ℕ) → length f ≡ 16 → length fh ≡ 16 → length s ≡ 16 → length sh ≡ 16 → length t ≡ 16 → length th ≡ 16
     → nat_eq (mask_l (map (top 7) (zip2 bit_and (zip2 bit_and (tests f fh) (tests s sh)) (tests t th))) % 18446744073709551616) 65535 ≡ true
     → (k : ℕ) → k < 16 → (get_or f k 0 ≤ get_or fh k 0) × (get_or s k 0 ≤ get_or sh k 0) × (get_or t k 0 ≤ get_or th k 0)
@@ -163,7 +147,7 @@ all_pass_three f fh s sh t th nf nfh ns nsh nt nth e k lt =
     let is : get_or (zip2 bit_and both (tests t th)) k 0 ≡ bit_and (bit_and (cond (nat_le (get_or f k 0) (get_or fh k 0)) 255 0) (cond (nat_le (get_or s k 0) (get_or sh k 0)) 255 0)) (cond (nat_le (get_or t k 0) (get_or th k 0)) 255 0) =
     a ∙ rw (b, test_at f fh k nf nfh lt, test_at s sh k ns nsh lt, test_at t th k nt nth lt) refl in
     let all = three_true (nat_le (get_or f k 0) (get_or fh k 0)) (nat_le (get_or s k 0) (get_or sh k 0)) (nat_le (get_or t k 0) (get_or th k 0)) (sym (ap (top 7) is) ∙ here) in
-    (at_most _ _ all.0, at_most _ _ all.1, at_most _ _ all.2)
+    (leb-true _ _ all.0, leb-true _ _ all.1, leb-true _ _ all.2)
 
 abbrev plus : ℕ → ℕ → ℕ
 plus a b = (a + b) % 256

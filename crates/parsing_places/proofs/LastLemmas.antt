@@ -7,12 +7,11 @@ use Rattle.parsing_fields.specs.Written.{WriteFraction}
 use Rattle.std.specs.Str.Parse.{digits_value}
 use Rattle.parsing_fields.specs.Digits.{nine_digits}
 use Rattle.parsing_places.specs.Lanes.{are_moves, above}
-use Rattle.parsing_places.specs.Last.{HaveFraction, HaveLast}
+use Rattle.parsing_places.specs.Last.{HaveFraction, HaveLast, HaveWindow}
 use Rattle.parsing_places.specs.Numbers.{IsDigitAt}
 use Rattle.parsing_places.specs.declared.last.LastBytes.{LastBytes}
 use Rattle.parsing_places.proofs.FractionLemmas.{fraction_in}
 use Rattle.parsing_places.proofs.LaneLemmas.{moves_all}
-use Rattle.parsing_places.proofs.ReadLemmas.{Seen, digit_in, window_lies}
 use lib.Lanes.{number_l, chunk}
 
 -- lanes that slide along the places before the last bytes
@@ -63,13 +62,15 @@ module _ (digits text : List ℕ) (first last : ℕ) (n : length text ≡ 16) (b
       (λ k le lt. (omega (arith, is_text k lt, h.zeros k le (omega (arith, lt)))))
       is end).writes
 
-pub last_read : (last : LastBytes) (text : List ℕ) (end count : ℕ) (a v digits : List ℕ) → Seen last.window text (end - 16) a v → 16 ≤ end → count ≤ 9 → count + last.length ≤ 16
-    → ((k : ℕ) → k < count → get_or digits k 0 ≡ get_or a (16 - last.length - count + k) 0) → ((k : ℕ) → count ≤ k → k < 16 → get_or digits k 0 ≡ 0) → ((k : ℕ) → k < 16 → get_or digits k 0 ≤ 9) → HaveLast last text end count v digits
-last_read last text end count a v digits seen long few near taken zeros nine = record {
-  lies = window_lies last.window text (end - 16) a v seen;
-  taken = λ lane place most lt most_few takes. digit_in last.window text (end - 16) a v lane place most seen lt most_few takes;
+pub last_read : (last : LastBytes) (text : List ℕ) (end count : ℕ) (a v digits : List ℕ) → HaveWindow last.window text (end - 16) v
+    → ((k : ℕ) → k < 16 → get_or a k 0 ≡ above (get_or text (end - 16 + k) 0) (get_or last.window.low k 0)) → ((k : ℕ) → get_or text k 0 < 256)
+    → 16 ≤ end → end ≤ length text → count ≤ 9 → count + last.length ≤ 16 → ((k : ℕ) → k < count → get_or digits k 0 ≡ get_or a (16 - last.length - count + k) 0)
+    → ((k : ℕ) → count ≤ k → k < 16 → get_or digits k 0 ≡ 0) → ((k : ℕ) → k < 16 → get_or digits k 0 ≤ 9) → HaveLast last text end count v digits
+last_read last text end count a v digits seen above_is small long within few near taken zeros nine = record {
+  lies = seen.lies;
+  taken = seen.taken;
   none = seen.none;
-  raw = λ lane place lt inside is. rw is at (seen.taken lane lt (omega (arith, is, inside))) ∙ seen.above_is place inside;
+  raw = seen.raw;
   fraction = record {
     few = few;
     each = λ k lt.
@@ -78,7 +79,7 @@ last_read last text end count a v digits seen long few near taken zeros nine = r
         let place : end - 16 + at ≡ end - last.length - count + k = omega (arith, lt, near, long) in
         let zero : get_or last.window.low at 0 ≡ 48 = last.zeros at (omega (arith, lt, near)) in
         digit_of text (end - last.length - count + k) digits k
-        (rw (place, zero) at (taken k lt ∙ seen.above_is at inside)) (nine k (omega (arith, lt, few))) (seen.bytes _) (omega (arith, seen.room, inside, place));
+        (rw (place, zero) at (taken k lt ∙ above_is at inside)) (nine k (omega (arith, lt, few))) (small _) (omega (arith, within, inside, place, long));
     zeros = zeros;
   };
 }

@@ -5,10 +5,9 @@ use Rattle.std.proofs.lemmas.List.{get_or_past}
 use Rattle.parsing_combinator.specs.Places.{HasDigit}
 use Rattle.parsing_places.specs.Lanes.{above}
 use Rattle.parsing_places.specs.Numbers.{LieIn}
-use Rattle.parsing_places.specs.Windows.{LetsIn, LetsAt, TakeTwo, TakeOne, SpareTwo, SpareOne, TakeSign, Taken}
+use Rattle.parsing_places.specs.Windows.{LetsIn, LetsAt, TakeOne, SpareTwo, SpareOne, TakeSign, Taken}
 use Rattle.parsing_places.specs.declared.shape.Window.{Window}
 use Rattle.parsing_places.specs.declared.windows.Windows.{Windows}
-use Rattle.parsing_places.proofs.ReadLemmas.{Pair, pair_read}
 use Rattle.parsing_places.proofs.SumLemmas.{sign_byte}
 
 -- a single digit, and a sign with how far it lies above a plus
@@ -27,12 +26,6 @@ abbrev pub PairedAt : List ℕ → List ℕ → ℕ → Type 0
 PairedAt v n j = get_or v (2 * j) 0 ≤ 9 → get_or v (2 * j + 1) 0 ≤ 9 → get_or n (2 * j) 0 ≡ get_or v (2 * j) 0 * 10 + get_or v (2 * j + 1) 0
 
 module _ (w : Windows) (text v n : List ℕ) (h : Taken w text v) where
-  pub two_taken : (j place most : ℕ) → j < 8 → most ≤ 9 → TakeTwo w (2 * j) place most → PairedAt v n j → Pair text place (get_or n (2 * j) 0) most
-  two_taken j place most lt few takes paired =
-      let first = h.taken (2 * j) place most (omega (arith, lt)) few takes.first in
-      let second = h.taken (2 * j + 1) (place + 1) 9 (omega (arith, lt)) (lit≤ tt) takes.second in
-      pair_read v n text (2 * j) place most first second (paired (omega (arith, first.few, few)) second.few)
-
   pub one_taken : (j place : ℕ) → j < 8 → SpareOne w (2 * j) → TakeOne w (2 * j + 1) place → PairedAt v n j → One text place (get_or n (2 * j) 0)
   one_taken j place lt spared takes paired =
       let first = h.none (2 * j) (omega (arith, lt)) spared in

@@ -1,7 +1,6 @@
 -- What signs and last bytes say of a text.
-use Rattle.std.proofs.Common.{◌≡◌, ◌≤◌, ◌<◌, ◌+◌, ◌-◌, ◌%◌, ℕ, Bool, true, false, List, length, get_or, refl, ap, inl, inr, arith, lit<}
-use Rattle.std.specs.Prelude.{◌⊎◌, ◌==◌, nat_eq}
-use Rattle.std.proofs.lemmas.Bool.{cases_lt}
+use Rattle.std.proofs.Common.{◌≡◌, ◌≤◌, ◌<◌, ◌+◌, ◌-◌, ℕ, Bool, true, false, List, length, get_or, refl, ap, arith, lit<}
+use Rattle.std.specs.Prelude.{◌==◌}
 use Rattle.std.proofs.lemmas.Bool.Decides.{nat_tests}
 use Rattle.parsing_places.specs.Lanes.{above}
 use Rattle.parsing_places.specs.Numbers.{LieIn}
@@ -38,11 +37,3 @@ has_fraction tail text long lies small zulu =
     let last : length text - 16 + 15 ≡ length text - 1 = omega (arith, long) in
     possible tail.ending (is_fraction tail.fraction) (get_or text (length text - 16 + 15) 0) (get_or text (length text - 1) 0) (ap (λ k. get_or text k 0) last) zulu
     (λ none. let lets = tail.never none in exact _ (other_end tail.ending) (small _) (end_small tail.ending) (omega (arith, rw (lets.low, lets.high) at (lies 15 lets.inside))))
-
--- ---- the offset under its sign
-
-minus_is : (byte sign : ℕ) → sign ≡ byte - 43 → 43 ≤ byte → nat_eq sign 2 ≡ (byte == 45)
-minus_is byte sign is low = grind (arith, nat_tests, is, low)
-
-sign_of : (byte sign : ℕ) → sign ≡ byte - 43 → 43 ≤ byte → byte ≤ 45 → sign % 2 ≡ 0 → (byte ≡ 43) ⊎ (byte ≡ 45)
-sign_of byte sign is low high even = elim (cases_lt byte 45) [ inl lt ↦ inl (omega (arith, is, low, even, lt)) | inr le ↦ inr (omega (arith, high, le)) ]

@@ -6,12 +6,16 @@ use Rattle.parsing_places.specs.Shape.{Takes}
 use Rattle.parsing_places.specs.declared.last.LastBytes.{LastBytes}
 use Rattle.parsing_places.specs.declared.shape.Window.{Window}
 
--- lanes v have what a window takes of the sixteen bytes before an end of a text
-pub record HaveEnd (window : Window) (text : List ℕ) (end : ℕ) (v : List ℕ) : Type 0 where
-  pub lies : LieIn window text (end - 16)
-  pub taken : (lane place most : ℕ) → lane < 16 → most ≤ 9 → Takes window lane place most → IsDigitAt v lane text (end - 16 + place) most
+-- lanes v have what a window takes of the sixteen bytes of a text from a place on
+pub record HaveWindow (window : Window) (text : List ℕ) (at : ℕ) (v : List ℕ) : Type 0 where
+  pub lies : LieIn window text at
+  pub taken : (lane place most : ℕ) → lane < 16 → most ≤ 9 → Takes window lane place most → IsDigitAt v lane text (at + place) most
   pub none : (lane : ℕ) → lane < 16 → 128 ≤ get_or window.taken.lanes lane 0 → get_or v lane 0 ≡ 0
-  pub raw : (lane place : ℕ) → lane < 16 → place < 16 → get_or window.taken.lanes lane 0 ≡ place → get_or v lane 0 ≡ above (get_or text (end - 16 + place) 0) (get_or window.low place 0)
+  pub raw : (lane place : ℕ) → lane < 16 → place < 16 → get_or window.taken.lanes lane 0 ≡ place → get_or v lane 0 ≡ above (get_or text (at + place) 0) (get_or window.low place 0)
+
+-- the same of the sixteen bytes before an end
+abbrev pub HaveEnd : Window → List ℕ → ℕ → List ℕ → Type 0
+HaveEnd window text end v = HaveWindow window text (end - 16) v
 
 -- the first lanes are so many digits that stand at a place, and the others 0
 pub record HaveFraction (text : List ℕ) (place count : ℕ) (digits : List ℕ) : Type 0 where

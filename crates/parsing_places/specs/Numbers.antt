@@ -1,5 +1,5 @@
 -- What is written at the places of a text.
-use Rattle.std.specs.Prelude.{◌≡◌, ◌≤◌, ◌<◌, ◌+◌, ◌-◌, ℕ, List, drop, get_or, length, Some, true, false}
+use Rattle.std.specs.Prelude.{◌≡◌, ◌≤◌, ◌<◌, ◌+◌, ◌-◌, ℕ, List, drop, get_or, length, Some}
 use Rattle.parsing_combinator.specs.Pieces.{digits}
 use Rattle.parsing_combinator.specs.Places.{HasDigit}
 use Rattle.parsing_places.specs.Lanes.{above}

@@ -1,5 +1,5 @@
 -- Where the digits of a text are taken from.
-use Rattle.std.specs.Prelude.{◌≡◌, ◌≤◌, ◌<◌, ◌+◌, ◌-◌, ℕ, get_or, true, false}
+use Rattle.std.specs.Prelude.{◌≡◌, ◌≤◌, ◌<◌, ◌+◌, ◌-◌, ℕ, get_or}
 use Rattle.parsing_places.specs.declared.lanes.Moves.{Moves}
 use Rattle.parsing_places.specs.declared.shape.Window.{Window}
 
@@ -31,19 +31,6 @@ pub record TakesNothing (prefix back : Window) (lane : ℕ) : Type 0 where
   pub first_back : 128 ≤ get_or back.taken.lanes lane 0
   pub second_prefix : 128 ≤ get_or prefix.taken.lanes (lane + 1) 0
   pub second_back : 128 ≤ get_or back.taken.lanes (lane + 1) 0
-
--- one digit alone can stand at a place
-pub record LetsDigit (window : Window) (place : ℕ) : Type 0 where
-  pub inside : place < 16
-  pub low : get_or window.low place 0 ≡ 48
-  pub high : get_or window.high place 0 ≤ 9
-
--- four digits can
-pub record LetsYear (window : Window) (year : ℕ) : Type 0 where
-  pub first : LetsDigit window year
-  pub second : LetsDigit window (year + 1)
-  pub third : LetsDigit window (year + 2)
-  pub fourth : LetsDigit window (year + 3)
 
 -- the same bounds, with other bytes taken
 abbrev pub with_moves : Window → Moves → Window

@@ -10,7 +10,7 @@ pub const LANES: usize = 16;
 
 /// The sixteen bytes from a place on.
 #[inline(always)]
-pub(crate) fn sixteen_from(text: &[u8], place: usize) -> u8x16
+pub fn sixteen_from(text: &[u8], place: usize) -> u8x16
     requires { place + LANES ≤ length text.now }
     ensures bytes { (k : ℕ) → k < LANES → get_or result k 0 ≡ get_or text.now (place + k) 0 }
     ensures small { (k : ℕ) → get_or text.now k 0 < 256 }
@@ -20,8 +20,9 @@ pub(crate) fn sixteen_from(text: &[u8], place: usize) -> u8x16
 
 /// How far each byte lies above another.
 #[inline(always)]
-pub(crate) fn all_above(bytes: u8x16, low: u8x16) -> u8x16
-    ensures { (k : ℕ) → k < LANES → get_or result k 0 ≡ above (get_or bytes k 0) (get_or low k 0) }
+pub fn all_above(bytes: u8x16, low: u8x16) -> u8x16
+    ensures above { (k : ℕ) → k < LANES → get_or result k 0 ≡ above (get_or bytes k 0) (get_or low k 0) }
+    ensures small { (k : ℕ) → get_or bytes k 0 < 256 }
 {
     bytes - low
 }
@@ -84,15 +85,14 @@ pub struct Moves {
     ghost right: { are_moves lanes ≡ true },
 }
 
-impl Moves {
-    /// The lanes that it takes.
-    #[inline(always)]
-    pub(crate) fn of(&self, bytes: u8x16) -> u8x16
-        ensures taken { (k : ℕ) → k < LANES → get_or self.now.lanes k 0 < LANES → get_or result k 0 ≡ get_or bytes (get_or self.now.lanes k 0) 0 }
-        ensures none { (k : ℕ) → k < LANES → 128 ≤ get_or self.now.lanes k 0 → get_or result k 0 ≡ 0 }
-    {
-        bytes.swizzle_dyn(u8x16::from_array(self.lanes))
-    }
+/// The lanes that moves take.
+#[inline(always)]
+pub fn taken_by(moves: &Moves, bytes: u8x16) -> u8x16
+    ensures taken { (k : ℕ) → k < LANES → get_or moves.now.lanes k 0 < LANES
+        → get_or result k 0 ≡ get_or bytes (get_or moves.now.lanes k 0) 0 }
+    ensures none { (k : ℕ) → k < LANES → 128 ≤ get_or moves.now.lanes k 0 → get_or result k 0 ≡ 0 }
+{
+    bytes.swizzle_dyn(u8x16::from_array(moves.lanes))
 }
 
 // Each two bytes as one number, the first one lowest.

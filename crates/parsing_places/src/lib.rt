@@ -17,7 +17,7 @@ mod whole;
 mod windows;
 
 pub use ending::{Ending, ending_of};
-pub use lanes::{LANES, Moves, joined, paired, sums};
+pub use lanes::{LANES, Moves, all_above, joined, paired, sixteen_from, sums, taken_by};
 pub use last::{LastBytes, fraction_of};
 pub use long::are_digits;
 pub use parts::signed;
@@ -25,4 +25,4 @@ pub use shape::Window;
 pub use tail::Tail;
 pub use tails::{length_of, tail_of};
 pub use whole::digits_of_whole;
-pub use windows::Windows;
+pub use windows::{Windows, padded};

@@ -4,7 +4,7 @@ ghost use Rattle.parsing_places.specs.Digits.{HaveDigits};
 ghost use Rattle.parsing_places.specs.Last.{HaveEnd};
 ghost use Rattle.parsing_places.specs.Shape.{with_moves};
 
-use crate::lanes::{LANES, Moves, all_above, are_at_most, joined, sixteen_from};
+use crate::lanes::{LANES, Moves, are_at_most, joined, taken_by};
 use crate::shape::Window;
 use std::simd::prelude::*;
 
@@ -25,12 +25,9 @@ pub fn digits_of_whole(
     ensures fraction { result.0 ≡ true → HaveEnd (with_moves last.now fraction.now) text.now
         (length text.now) result.3 }
 {
-    let first = all_above(sixteen_from(text, 0), u8x16::from_array(prefix.low));
-    let second = all_above(sixteen_from(text, back_at), u8x16::from_array(back.low));
-    let third = all_above(
-        sixteen_from(text, text.len() - LANES),
-        u8x16::from_array(last.low),
-    );
+    let (first, first_taken) = prefix.taken_at(text, 0);
+    let (second, second_taken) = back.taken_at(text, back_at);
+    let (third, third_taken) = last.taken_at(text, text.len() - LANES);
     let fits = are_at_most(
         first,
         u8x16::from_array(prefix.high),
@@ -39,6 +36,6 @@ pub fn digits_of_whole(
         third,
         u8x16::from_array(last.high),
     );
-    let digits = joined(prefix.taken.of(first), back.taken.of(second));
-    (fits, digits, last.taken.of(third), fraction.of(third))
+    let digits = joined(first_taken, second_taken);
+    (fits, digits, third_taken, taken_by(fraction, third))
 }

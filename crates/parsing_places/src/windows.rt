@@ -2,7 +2,7 @@
 ghost use Rattle.std.specs.Prelude.{◌≡◌, ◌≤◌, ◌<◌, ◌+◌, ℕ, length, get_or, true, IfSome};
 ghost use Rattle.parsing_places.specs.Windows.{Taken};
 
-use crate::lanes::{LANES, Moves, all_above, are_at_most, joined, sixteen_from};
+use crate::lanes::{LANES, Moves, are_at_most, joined};
 use crate::shape::Window;
 use std::simd::prelude::*;
 
@@ -29,8 +29,10 @@ impl Moves {
     }
 }
 
-// The bytes of a text that is shorter than a window, and zeros after them.
-fn padded(text: &[u8]) -> [u8; LANES]
+/// The bytes of a text that is shorter than a window, and zeros after them.
+#[cold]
+#[inline(never)]
+pub fn padded(text: &[u8]) -> [u8; LANES]
     requires { length text.now < LANES }
     ensures { (k : ℕ) → get_or result k 0 ≡ get_or text.now k 0 }
 {
@@ -48,16 +50,12 @@ impl Windows {
         requires { self.now.back_at + LANES ≤ length text.now }
         ensures { result.0 ≡ true → Taken self.now text.now result.1 }
     {
-        let first = all_above(sixteen_from(text, 0), u8x16::from_array(self.prefix.low));
-        let second = all_above(
-            sixteen_from(text, self.back_at),
-            u8x16::from_array(self.back.low),
-        );
+        let (first, first_taken) = self.prefix.taken_at(text, 0);
+        let (second, second_taken) = self.back.taken_at(text, self.back_at);
         let first_high = u8x16::from_array(self.prefix.high);
         let second_high = u8x16::from_array(self.back.high);
         let fits = are_at_most(first, first_high, second, second_high, second, second_high);
-        let digits = joined(self.prefix.taken.of(first), self.back.taken.of(second));
-        (fits, digits)
+        (fits, joined(first_taken, second_taken))
     }
 
     // The digits of a text that is shorter than a window.

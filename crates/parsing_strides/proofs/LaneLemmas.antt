@@ -5,6 +5,7 @@ use Rattle.std.proofs.lemmas.Bool.{cases_lt, agree_below_at}
 use Rattle.std.proofs.lemmas.Bool.Decides.{nat_tests}
 use Rattle.std.proofs.lemmas.Simd.{get_or-zip2, length-zip2, mask_l-mod, get_or-replicate, length-replicate, tops_compared, get_or-sel_l, swz_l, get_or-swz_l}
 use Rattle.parsing_places.specs.Lanes.{are_moves}
+use Rattle.parsing_places.proofs.LaneLemmas.{moves_all, taken_lane}
 use lib.Dec.{T, ltb}
 use lib.Lanes.{Each1, zip2, mask_l, top, sel_l}
 use mathlib.Core.Bool.{◌&&◌, ◌||◌}
@@ -42,30 +43,6 @@ number_lane t o k n m lt small =
     let e = add_at (adds eight twice) o k (long eight twice eighth two) m lt in
     omega (arith, a, b, c, d, e, small)
 
--- ---- a test of all lanes
-
-all_true : (ms : List Bool) (n : ℕ) → length ms ≡ n → mask_l ms + 1 ≡ 2 ^ n → (k : ℕ) → k < n → get_or ms k false ≡ true
-all_true [] n long e k lt = absurd (omega (arith, long, lt))
-all_true (m ∷ ms) zero long e k lt = absurd (omega (arith, lt))
-all_true (true ∷ ms) (suc n) long e zero lt = refl
-all_true (true ∷ ms) (suc n) long e (suc k) lt = all_true ms n (omega (arith, long)) (omega (arith, e)) k (omega (arith, lt))
-all_true (false ∷ ms) (suc n) long e k lt = absurd (omega (arith, e))
-
-at_most : (a b : ℕ) → nat_le a b ≡ true → a ≤ b
-at_most a b e = grind (arith, nat_tests)
-
-pub all_pass : (xs ys : List ℕ) → length xs ≡ 16 → length ys ≡ 16 → nat_eq (mask_l (map (top 7) (zip2 (λ a b. cond (nat_le a b) 255 0) xs ys)) % 18446744073709551616) 65535 ≡ true
-    → (k : ℕ) → k < 16 → get_or xs k 0 ≤ get_or ys k 0
-all_pass xs ys n m e k lt =
-    let bits : List Bool = zip2 nat_le xs ys in
-    let size : length bits ≡ 16 = length-zip2 nat_le xs ys (n ∙ sym m) ∙ n in
-    let same = mask_l-mod bits 64 (omega (arith, size)) in
-    let passed : nat_eq (mask_l bits % 18446744073709551616) 65535 ≡ true = rw (tops_compared w8 nat_le xs ys) at e in
-    let all : mask_l bits % 18446744073709551616 ≡ 65535 = grind (arith, nat_tests, passed) in
-    let whole : mask_l bits + 1 ≡ 2 ^ 16 = omega (arith, same, all) in
-    let here : get_or bits k false ≡ nat_le (get_or xs k 0) (get_or ys k 0) = get_or-zip2 nat_le xs ys k 0 0 false (omega (arith, n, lt)) (omega (arith, m, lt)) in
-    at_most _ _ (sym here ∙ all_true bits 16 size whole k lt)
-
 -- ---- lanes of two vectors
 
 pub put_lane : (js ls ns : List ℕ) (k : ℕ) → length js ≡ 16 → length ls ≡ 16 → length ns ≡ 16 → k < 16
@@ -87,31 +64,6 @@ pub large_there : (j a b : ℕ) → 128 ≤ j → cond (nat_le 128 j) a b ≡ a
 large_there j a b le = grind (arith, nat_tests)
 
 -- ---- lanes that are moved
-
-pub each_moves : (js : List ℕ) → T (are_moves js) → Each1 (λ j. T (zeroes 16 w8 j || ltb j 16)) js
-each_moves [] h = tt
-each_moves (j ∷ js) h = let b = and_both (zeroes 16 w8 j || ltb j 16) (are_moves js) h in (b.0, each_moves js b.1)
-
-pub taken_lane : (xs js : List ℕ) (k : ℕ) → length js ≡ 16 → k < 16 → get_or js k 0 < 16 → get_or (swz_l w8 16 xs 0 js) k 0 ≡ get_or xs (get_or js k 0) 0
-taken_lane xs js k n lt small =
-    let zeroed : zeroes 16 w8 (get_or js k 0) ≡ false = grind (arith, nat_tests) in
-    let block : 16 * ((0 + k) / 16) + get_or js k 0 ≡ get_or js k 0 = omega arith in
-    get_or-swz_l w8 16 xs 0 js k (omega (arith, n, lt)) ∙ rw (zeroed, block) refl
-
-pub no_lane : (xs js : List ℕ) (k : ℕ) → length js ≡ 16 → k < 16 → 128 ≤ get_or js k 0 → get_or (swz_l w8 16 xs 0 js) k 0 ≡ 0
-no_lane xs js k n lt large =
-    let zeroed : zeroes 16 w8 (get_or js k 0) ≡ true = grind (arith, nat_tests) in
-    get_or-swz_l w8 16 xs 0 js k (omega (arith, n, lt)) ∙ rw zeroed refl
-
-one_move : (j : ℕ) (rest : Bool) → (16 ≤ j → 128 ≤ j) → rest ≡ true → ((zeroes 16 w8 j || ltb j 16) && rest) ≡ true
-one_move j rest h e = elim (cases_lt j 16) [
-  | inl small ↦ grind (arith, nat_tests, small, e)
-  | inr large ↦ let zero = h large in grind (arith, nat_tests, zero, e)
-]
-
-moves_all : (js : List ℕ) → ((k : ℕ) → k < length js → 16 ≤ get_or js k 0 → 128 ≤ get_or js k 0) → are_moves js ≡ true
-moves_all [] h = refl
-moves_all (j ∷ js) h = one_move j (are_moves js) (h 0 (omega arith)) (moves_all js (λ k lt. h (suc k) (omega (arith, lt))))
 
 -- all lanes in order, and then as many that take nothing
 abbrev pub down : List ℕ

@@ -1,19 +1,10 @@
 //! Vectors of sixteen bytes.
 ghost use Rattle.std.specs.Prelude.{◌≡◌, ◌≤◌, ◌<◌, ◌+◌, ◌*◌, ℕ, get_or, length, true};
 ghost use Rattle.parsing_combinator.specs.Tame.{EndsWith};
-ghost use Rattle.parsing_places.specs.Lanes.{above};
 
-use parsing_places::{LANES, Moves};
+use parsing_places::{LANES, Moves, padded, sixteen_from};
+pub(crate) use parsing_places::{all_above, taken_by};
 use std::simd::prelude::*;
-
-// The sixteen bytes from a place on.
-#[inline(always)]
-fn sixteen_from(text: &[u8], place: usize) -> u8x16
-    requires { place + LANES ≤ length text.now }
-    ensures { (k : ℕ) → k < LANES → get_or result k 0 ≡ get_or text.now (place + k) 0 }
-{
-    u8x16::from_slice(&text[place..])
-}
 
 // All lanes in order, and then as many that take nothing.
 static DOWN: [u8; 2 * LANES] = [
@@ -28,20 +19,6 @@ fn moved_down(bytes: u8x16, by: usize) -> u8x16
     ensures { (k : ℕ) → by + k < LANES → get_or result k 0 ≡ get_or bytes (by + k) 0 }
 {
     bytes.swizzle_dyn(sixteen_from(&DOWN, by))
-}
-
-// Fewer than sixteen bytes, and zeros after them.
-#[cold]
-#[inline(never)]
-fn padded(text: &[u8]) -> [u8; LANES]
-    requires { length text.now < LANES }
-    ensures { (k : ℕ) → k < length text.now → get_or result k 0 ≡ get_or text.now k 0 }
-{
-    let mut bytes = [0; LANES];
-    for place in 0..text.len() {
-        bytes[place] = text[place];
-    }
-    bytes
 }
 
 /// The first sixteen bytes of what is left of a line. What stands after its end means nothing.
@@ -60,31 +37,12 @@ pub(crate) fn first_sixteen(line: &[u8], rest: &[u8]) -> u8x16
     moved_down(last, LANES - rest.len())
 }
 
-/// How far each byte lies above another.
-#[inline(always)]
-pub(crate) fn all_above(bytes: u8x16, low: u8x16) -> u8x16
-    ensures above { (k : ℕ) → k < LANES → get_or result k 0 ≡ above (get_or bytes k 0) (get_or low k 0) }
-    ensures small { (k : ℕ) → get_or bytes k 0 < 256 }
-{
-    bytes - low
-}
-
 /// Whether no byte is more than another.
 #[inline(always)]
 pub(crate) fn are_at_most(bytes: u8x16, most: u8x16) -> bool
     ensures { result ≡ true → (k : ℕ) → k < LANES → get_or bytes k 0 ≤ get_or most k 0 }
 {
     bytes.simd_le(most).all()
-}
-
-/// The lanes that moves take.
-#[inline(always)]
-pub(crate) fn taken_by(moves: &Moves, bytes: u8x16) -> u8x16
-    ensures taken { (k : ℕ) → k < LANES → get_or moves.now.lanes k 0 < LANES
-        → get_or result k 0 ≡ get_or bytes (get_or moves.now.lanes k 0) 0 }
-    ensures none { (k : ℕ) → k < LANES → 128 ≤ get_or moves.now.lanes k 0 → get_or result k 0 ≡ 0 }
-{
-    bytes.swizzle_dyn(u8x16::from_array(moves.lanes))
 }
 
 /// In each lane the number of two digits.

@@ -7,7 +7,7 @@ use description::{
 };
 use parsing_combinator::digit_chunk;
 use parsing_components::assumed_minutes;
-use parsing_fields::{Fields, Fraction, Year, digit_pair, minute_of_day, signed_minutes};
+use parsing_fields::{Fields, Fraction, Year, digit_pair, minute_of_day};
 use parsing_item_parts::Listed;
 use parsing_places::{Moves, Window, Windows};
 use parsing_plan::Plan;
@@ -37,7 +37,6 @@ fn moments() -> [Option<(i64, u32)>; 3] {
 fn moments_and_minutes(rt: HostRuntime) {
     assert!(rt; moments() == [HALF, HALF, None]);
     assert!(rt; minute_of_day(23, 59) == Some(1439));
-    assert!(rt; signed_minutes(true, 5, 30) == Some(-330));
     assert!(rt; digit_pair(42) == (b'4', b'2'));
 }
 

@@ -4,7 +4,7 @@ use Rattle.std.specs.Int.{IsInRange}
 use Rattle.std.proofs.lemmas.Bool.Decides.{nat_tests}
 use Rattle.std.proofs.lemmas.Int.{ints}
 use Rattle.calendar_count.specs.Range.{greatest_year, IsYear, IsCount}
-use Rattle.calendar_count.specs.Calendar.{is_year, days_in_year, day_at, ordinal_at, weekday_at, iso_year_at, iso_week_at, IsIsoDay}
+use Rattle.calendar_count.specs.Calendar.{is_year, days_in_year, day_at, ordinal_at, IsIsoDay}
 use Rattle.calendar_count.specs.Closed.{days_before_year}
 use Rattle.calendar_count.specs.ComponentRange.{out_of_range, out_of_conditional_range}
 use Rattle.calendar_count.specs.declared.component_range.ComponentName.{ComponentName}
@@ -36,13 +36,10 @@ ordinal_yes y o n e f = rw (e, f) (grind (arith, nat_tests, ints))
 pub ordinal_year : (y : ℤ) (o n : ℕ) → is_ordinal_day y o n ≡ true → (day_at n).year ≡ y
 ordinal_year y o n h = grind (arith, nat_tests, ints)
 
-ordinal_place : (y : ℤ) (o n : ℕ) → is_ordinal_day y o n ≡ true → ordinal_at n ≡ o
-ordinal_place y o n h = grind (arith, nat_tests)
-
 pub ordinal_count : (y : ℤ) (o n k : ℕ) → y +ℤ pos greatest_year ≡ pos n → is_ordinal_day y o k ≡ true → IsInRange 1 (days_in_year y) o × (o + days_before_year n ≡ k + 1)
 ordinal_count y o n k e h =
     let same = ordinal_year y o k h in
-    let place = ordinal_place y o k h in
+    let place : ordinal_at k ≡ o = grind (arith, nat_tests, h) in
     let within = days_between k y n e same in
     let is = ordinal_after k n y e same in
     (omega (arith, is, place), omega (arith, is, place))
@@ -67,17 +64,8 @@ ordinal_result y o (Err e) succeeds value bound err =
 iso_yes : (y : ℤ) (k w n : ℕ) → IsIsoDay y k w n → is_iso_day y k w n ≡ true
 iso_yes y k w n h = rw (h.0, h.1, h.2) (grind (arith, nat_tests, ints))
 
-iso_year : (y : ℤ) (k w n : ℕ) → is_iso_day y k w n ≡ true → iso_year_at n ≡ y
-iso_year y k w n h = grind (arith, nat_tests, ints)
-
-iso_week : (y : ℤ) (k w n : ℕ) → is_iso_day y k w n ≡ true → iso_week_at n ≡ k
-iso_week y k w n h = grind (arith, nat_tests)
-
-iso_weekday : (y : ℤ) (k w n : ℕ) → is_iso_day y k w n ≡ true → weekday_at n ≡ w
-iso_weekday y k w n h = grind (arith, nat_tests)
-
 pub iso_is : (y : ℤ) (k w n : ℕ) → is_iso_day y k w n ≡ true → IsIsoDay y k w n
-iso_is y k w n h = (iso_year y k w n h, iso_week y k w n h, iso_weekday y k w n h)
+iso_is y k w n h = (grind (arith, nat_tests, ints), grind (arith, nat_tests), grind (arith, nat_tests))
 
 pub iso_result : (y : ℤ) (k w : ℕ) (r : Result ℕ ComponentRange) → IfOk r (IsIsoDay y k w) → IfOk r IsCount → OnErr r ((n : ℕ) → IsCount n → ¬ IsIsoDay y k w n) → IfErr r (λ e. e ≡ refusal y Week) → r ≡ iso_week_date_of y k w
 unfolding iso_week_date_of

@@ -23,12 +23,6 @@ week_day-yes b y k w n e f g = rw (e, f, g) (grind (arith, nat_tests, ints))
 pub week_day-year : (b : ℕ) (y : ℤ) (k w n : ℕ) → is_week_day b y k w n ≡ true → (day_at n).year ≡ y
 week_day-year b y k w n h = grind (arith, nat_tests, ints)
 
-week_day-week : (b : ℕ) (y : ℤ) (k w n : ℕ) → is_week_day b y k w n ≡ true → weekdays_so_far b n ≡ k
-week_day-week b y k w n h = grind (arith, nat_tests)
-
-week_day-weekday : (b : ℕ) (y : ℤ) (k w n : ℕ) → is_week_day b y k w n ≡ true → weekday_at n ≡ w
-week_day-weekday b y k w n h = grind (arith, nat_tests)
-
 -- ---- weeks that begin on a weekday
 
 -- the days from the week's first one to a weekday
@@ -39,9 +33,9 @@ into_week b w = (w + 7 - b) % 7
 pub week_count : (b k w n c : ℕ) (y : ℤ) → b < 7 → y +ℤ pos greatest_year ≡ pos n → is_week_day b y k w c ≡ true → (c + 7 ≡ 7 * (k + sevenths b (days_before_year n)) + into_week b w + b) × (days_before_year n ≤ c) × (c < days_before_year n + days_in_year y)
 week_count b k w n c y low e h =
     let same = week_day-year b y k w c h in
-    let day : c % 7 ≡ w = week_day-weekday b y k w c h in
+    let day : c % 7 ≡ w = grind (arith, nat_tests, h) in
     let within = days_between c y n e same in
-    let week = week_day-week b y k w c h in
+    let week : weekdays_so_far b c ≡ k = grind (arith, nat_tests, h) in
     let is = weekdays_after b c n y low e same in
     (omega (arith, is, week, day), within.0, within.1)
 

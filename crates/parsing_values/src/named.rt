@@ -10,7 +10,7 @@ use calendar::Date;
 use parsing_combinator::TryFromParsed;
 
 /// The year that is there, and else that of its century and its last two digits.
-#[tactic(auto, unfolding(crate::specs::NamedDate::year_of, crate::specs::NamedDate::split_year))]
+#[tactic(auto, using(std::proofs::lemmas::Int::ints), unfolding(crate::specs::NamedDate::year_of, crate::specs::NamedDate::split_year))]
 pub fn year(parts: &YearParts) -> Option<i32>
     ensures { result ≡ year_of parts.now }
 {

@@ -4,7 +4,7 @@ ghost use Rattle.parsing_fields.specs.Written.{WriteFraction};
 ghost use Rattle.parsing_places.specs.Last.{HaveFraction, HaveLast};
 
 use super::{LastBytes, TWICE};
-use crate::lanes::{LANES, all_above, are_at_most, as_text, first_nine, sixteen_from};
+use crate::lanes::{LANES, are_at_most, as_text, first_nine, sixteen_from};
 use crate::shape::Window;
 use parsing_fields::Fraction;
 use std::simd::prelude::*;
@@ -88,12 +88,11 @@ impl LastBytes {
         ensures digits { result.0 ≡ true → (k : ℕ) → k < LANES → get_or result.2 k 0 ≤ 9 }
         ensures rest { (k : ℕ) → 9 ≤ k → k < LANES → get_or result.2 k 0 ≡ 0 }
     {
-        let low = u8x16::from_array(self.window.low);
         let high = u8x16::from_array(self.window.high);
         let nine = u8x16::splat(9);
-        let bytes = all_above(sixteen_from(text, end - LANES), low);
+        let (bytes, taken) = self.window.taken_at(text, end - LANES);
         let digits = self.bytes_before(bytes, count);
         let fits = are_at_most(bytes, high, digits, nine, digits, nine);
-        (fits, self.window.taken.of(bytes), digits)
+        (fits, taken, digits)
     }
 }

@@ -1,6 +1,5 @@
 -- What it says of numbers that they name a date, a time of day or an offset.
-use Rattle.std.proofs.Common.{◌≡◌, ℕ, ◌≤◌, ◌==◌, Bool, true, false, cond, Option, Some, None, Result, Ok, Err, refl, arith, lit<, inl, inr, ℤ}
-use Rattle.std.specs.Prelude.{pos, neg_ℤ, nat_lt, unsigned_abs}
+use Rattle.std.proofs.Common.{◌≡◌, ℕ, ◌≤◌, Bool, true, false, cond, Option, Some, None, Result, Ok, Err, refl, arith, inl, inr, ℤ}
 use Rattle.std.specs.Option.{ok_or}
 use Rattle.std.specs.Int.{is_in_range}
 use Rattle.std.proofs.lemmas.Bool.{cases_lt}
@@ -30,14 +29,8 @@ found : {A E : Type 0} (o : Option A) (e : E) (x : A) → ok_or o e ≡ Ok x →
 found None e x h none = cc
 found (Some y) e x h none = cc
 
-at_most_31 : (a b c : Bool) → cond a (cond b 29 28) (cond c 30 31) ≤ 31
-at_most_31 true true c = lit< tt
-at_most_31 true false c = lit< tt
-at_most_31 false b true = lit< tt
-at_most_31 false b false = lit< tt
-
 longest_month : (y : ℤ) (m : ℕ) → days_in_month y m ≤ 31
-longest_month y m = at_most_31 _ _ _
+longest_month y m = grind (arith, nat_tests)
 
 outside : (y : ℤ) (m d : ℕ) → ((1 ≤ d) × (d ≤ 31) → ⊥) → ¬ IsDay y m d
 outside y m d h is = h (omega (arith, is.3), omega (arith, is.4, longest_month y m))
@@ -81,25 +74,9 @@ pub record TimeRanges (h m s : ℕ) : Type 0 where
   pub minute : m ≤ 59
   pub second : s ≤ 60
 
-clock_ranges : (h m s n time : ℕ) → time_of h m s n ≡ Ok time → (nat_lt 23 h ≡ false) × (nat_lt 59 m ≡ false) × (nat_lt 59 s ≡ false)
-unfolding time_of
-clock_ranges h m s n time e =
-    let hour = past (nat_lt 23 h) _ _ time e in
-    let minute = past (nat_lt 59 m) _ _ time hour.1 in
-    let second = past (nat_lt 59 s) _ _ time minute.1 in
-    (hour.0, minute.0, second.0)
-
-by_leap : (b : Bool) (h m s n time : ℕ) → (s == 60) ≡ b → cond b (time_of h m 59 999_999_999) (time_of h m s n) ≡ Ok time → TimeRanges h m s
-by_leap true h m s n time e is =
-    let r = clock_ranges h m 59 999_999_999 time is in
-    record { hour = let t = r.0 in grind (arith, nat_tests); minute = let t = r.1 in grind (arith, nat_tests); second = grind (arith, nat_tests) }
-by_leap false h m s n time e is =
-    let r = clock_ranges h m s n time is in
-    record { hour = let t = r.0 in grind (arith, nat_tests); minute = let t = r.1 in grind (arith, nat_tests); second = let t = r.2 in grind (arith, nat_tests) }
-
 pub time_ranges : (h m s n time : ℕ) → leap_time_of h m s n ≡ Ok time → TimeRanges h m s
-unfolding permitted_time_of
-time_ranges h m s n time e = by_leap (s == 60) h m s n time refl e
+unfolding permitted_time_of time_of
+time_ranges h m s n time e = record { hour = grind (arith, nat_tests, e); minute = grind (arith, nat_tests, e); second = grind (arith, nat_tests, e) }
 
 -- ---- offsets
 
@@ -109,11 +86,5 @@ pub record OffsetRanges (h m : ℕ) : Type 0 where
 
 pub offset_ranges : (is_negative : Bool) (hours minutes : ℕ) (seconds : ℤ) → signed_offset_of is_negative hours minutes ≡ Ok seconds → OffsetRanges hours minutes
 unfolding signed_offset_of offset_of
-offset_ranges true hours minutes seconds e =
-    let hour = past (nat_lt 25 (unsigned_abs (neg_ℤ (pos hours)))) _ _ seconds e in
-    let minute = past (nat_lt 59 (unsigned_abs (neg_ℤ (pos minutes)))) _ _ seconds hour.1 in
-    record { hours = let t = hour.0 in grind (arith, nat_tests, ints); minutes = let t = minute.0 in grind (arith, nat_tests, ints) }
-offset_ranges false hours minutes seconds e =
-    let hour = past (nat_lt 25 hours) _ _ seconds e in
-    let minute = past (nat_lt 59 minutes) _ _ seconds hour.1 in
-    record { hours = let t = hour.0 in grind (arith, nat_tests); minutes = let t = minute.0 in grind (arith, nat_tests) }
+offset_ranges true hours minutes seconds e = record { hours = grind (arith, nat_tests, ints, e); minutes = grind (arith, nat_tests, ints, e) }
+offset_ranges false hours minutes seconds e = record { hours = grind (arith, nat_tests, e); minutes = grind (arith, nat_tests, e) }

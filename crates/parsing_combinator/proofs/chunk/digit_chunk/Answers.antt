@@ -1,8 +1,7 @@
 use Rattle.std.proofs.Common.{ℕ, ◌∙◌, ap, arith}
-use Rattle.parsing_combinator.specs.Chunks.{padded, likely_digits}
+use Rattle.parsing_combinator.specs.Chunks.{likely_digits}
 use Rattle.parsing_combinator.proofs.DigitLanes.{count_says}
-use Rattle.parsing_combinator.proofs.FractionDigits.{digits_read}
-use Rattle.parsing_combinator.proofs.PaddingLemmas.{padded_read}
+use Rattle.parsing_combinator.proofs.PaddingLemmas.{padded_counted}
 use Rattle.parsing_combinator.proofs.chunk.digit_chunk.Goals as goal
 
 pub padded_chunk-digits-requires : goal.padded_chunk-digits-requires
@@ -16,13 +15,11 @@ returns c =
     let count = c.likely_digits-count.result in
     let says = count_says bytes count (λ (k : ℕ). omega (arith, c.type_inv.bytes k)) (c.likely_digits-count.ensures.value ∙ ap likely_digits c.chunk_of-chunk.ensures) in
     let e = c.padded_chunk-digits.ensures in
-    let r = padded_read bytes count says.few says.within (λ (k : ℕ). omega (arith, c.type_inv.bytes k)) says.here (rw e at c.if-sum-ne3472328296227680304.false) in
-    let d = digits_read 8 (padded count bytes) _ _ r.eight.reads in
     record {
       some = omega arith;
       few = says.few;
       within = says.within;
       number_is = e;
-      digits_are = d.enough;
+      digits_are = padded_counted bytes count says.few says.within (λ (k : ℕ). omega (arith, c.type_inv.bytes k)) says.here (rw e at c.if-sum-ne3472328296227680304.false);
       ends = says.ends;
     }

@@ -1,5 +1,5 @@
 use Rattle.std.proofs.Common.{arith}
-use Rattle.parsing_combinator.proofs.WideLemmas.{next_digit}
+use Rattle.parsing_combinator.proofs.Numbers.{next_digit}
 use Rattle.parsing_combinator.proofs.wide.wide_number.Goals as goal
 
 pub overflow_mul-value : goal.overflow_mul-value

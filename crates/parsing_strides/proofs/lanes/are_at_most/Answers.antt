@@ -1,5 +1,5 @@
 use Rattle.std.proofs.Common.{arith}
-use Rattle.parsing_strides.proofs.LaneLemmas.{all_pass}
+use Rattle.parsing_places.proofs.LaneLemmas.{all_pass}
 use Rattle.parsing_strides.proofs.lanes.are_at_most.Goals as goal
 
 pub returns : goal.returns

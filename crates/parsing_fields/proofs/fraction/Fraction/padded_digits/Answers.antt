@@ -1,24 +1,18 @@
-use Rattle.std.proofs.Common.{◌≡◌, ◌/◌, ◌%◌, refl, sym, arith}
-use Rattle.std.specs.Str.Parse.{digits_value}
+use Rattle.std.proofs.Common.{◌≡◌, ◌/◌, ◌%◌, refl, arith}
 use Rattle.parsing_fields.specs.Digits.{nine_digits}
-use Rattle.parsing_fields.specs.DigitsBack.{digits_below, last_back, nine_back}
+use Rattle.parsing_fields.specs.DigitsBack.{last_back}
+use Rattle.parsing_fields.proofs.DigitLemmas.{kept}
 use Rattle.parsing_fields.proofs.fraction.Fraction.padded_digits.Goals as goal
 
 pub returns-clause-text : goal.returns-clause-text
 unfolding nine_digits
 returns-clause-text c =
-    let first = c.self.inside.first in
     let last = c.self.inside.last in
-    let seen : digits_value 10 (nine_digits first last) ≡ c.args.self = cc in
-    let byte : last % 256 ≡ last = omega (arith, last_back first last c.self.invariant) in
-    rw (c.to_le_bytes.ensures, c.to_le_bytes-2.ensures, byte, ← seen) (sym (nine_back first last c.self.invariant))
+    let byte : last % 256 ≡ last = omega (arith, last_back c.self.inside.first last c.self.invariant) in
+    rw (c.to_le_bytes.ensures, c.to_le_bytes-2.ensures, byte) (kept _ _ _ c.self.invariant c.self.view_is).text
 
 pub returns-clause-bound : goal.returns-clause-bound
-returns-clause-bound c =
-    let first = c.self.inside.first in
-    let last = c.self.inside.last in
-    let seen : digits_value 10 (nine_digits first last) ≡ c.args.self = cc in
-    rw (← seen) (digits_below first last c.self.invariant)
+returns-clause-bound c = (kept _ _ _ c.self.invariant c.self.view_is).bound
 
 pub returns-clause-zeros : goal.returns-clause-zeros
 returns-clause-zeros c =
