@@ -16,8 +16,8 @@ ghost use Rattle.parsing_rfc2822_shapes.specs.Layout.{from_day, short_from_day};
 
 use crate::letters::{has_weekday, month_number};
 use crate::shape::{
-    one_digit, one_digit_short_year, one_digit_with_name, one_digit_without_second, two_digits,
-    two_digits_short_year, two_digits_with_name, two_digits_without_second,
+    ONE_DIGIT_SHORT_YEAR, ONE_DIGIT_USUAL, ONE_DIGIT_WITH_NAME, ONE_DIGIT_WITHOUT_SECOND,
+    TWO_DIGITS_SHORT_YEAR, TWO_DIGITS_USUAL, TWO_DIGITS_WITH_NAME, TWO_DIGITS_WITHOUT_SECOND,
 };
 use parsing_combinator::two_digits as digit_pair;
 use parsing_fields::{Fields, Year, has_day, offset_minutes};
@@ -84,9 +84,9 @@ fn read_usual(text: &[u8]) -> Option<Fields>
     ensures { IfSome result (SaysFields text.now) }
 {
     if text.len() == 25 {
-        return read_shape(&one_digit(), 1, text);
+        return read_shape(&ONE_DIGIT_USUAL, 1, text);
     }
-    read_shape(&two_digits(), 2, text)
+    read_shape(&TWO_DIGITS_USUAL, 2, text)
 }
 
 // The same with white space or comments after the offset.
@@ -99,12 +99,12 @@ fn read_spaced(text: &[u8]) -> Option<Fields>
         if !is_spacing(&text[25..]) {
             return None;
         }
-        return read_shape(&one_digit(), 1, text);
+        return read_shape(&ONE_DIGIT_USUAL, 1, text);
     }
     if !is_spacing(&text[26..]) {
         return None;
     }
-    read_shape(&two_digits(), 2, text)
+    read_shape(&TWO_DIGITS_USUAL, 2, text)
 }
 
 // The fields with the zone that three letters after a space name.
@@ -136,10 +136,10 @@ fn read_with_name(text: &[u8]) -> Option<Fields>
     ensures { IfSome result (SaysFields text.now) }
 {
     if text.len() == 23 {
-        let fields = read_shape(&one_digit_with_name(), 1, text)?;
+        let fields = read_shape(&ONE_DIGIT_WITH_NAME, 1, text)?;
         return with_name(fields, &text[19..]);
     }
-    let fields = read_shape(&two_digits_with_name(), 2, text)?;
+    let fields = read_shape(&TWO_DIGITS_WITH_NAME, 2, text)?;
     with_name(fields, &text[20..])
 }
 
@@ -168,10 +168,10 @@ fn read_without_second(text: &[u8]) -> Option<Fields>
     ensures { IfSome result (SaysFields text.now) }
 {
     if text.len() == 22 {
-        let fields = read_shape(&one_digit_without_second(), 1, text)?;
+        let fields = read_shape(&ONE_DIGIT_WITHOUT_SECOND, 1, text)?;
         return Some(at_minute(fields));
     }
-    let fields = read_shape(&two_digits_without_second(), 2, text)?;
+    let fields = read_shape(&TWO_DIGITS_WITHOUT_SECOND, 2, text)?;
     Some(at_minute(fields))
 }
 
@@ -224,9 +224,9 @@ fn read_short_year(text: &[u8]) -> Option<Fields>
     ensures { IfSome result (SaysFields text.now) }
 {
     if text.len() == 23 {
-        return read_short_shape(&one_digit_short_year(), 1, text);
+        return read_short_shape(&ONE_DIGIT_SHORT_YEAR, 1, text);
     }
-    read_short_shape(&two_digits_short_year(), 2, text)
+    read_short_shape(&TWO_DIGITS_SHORT_YEAR, 2, text)
 }
 
 // The fields of a text that begins with its day, by how many bytes it has. (The name of a zone ends with a letter.)
