@@ -36,23 +36,19 @@ require_on : (c : Bool) (fault : Fault) (a b : List ℕ) → GoesOn b (require c
 require_on true fault a b = refl
 require_on false fault a b = tt
 
+first_on : {A : Type 0} (t : Bool) (x : A) (xs b : List ℕ) → PieceOn b (cond t (Some (x, xs)) None) (cond t (Some (x, xs ++ b)) None)
+first_on true x xs b = refl
+first_on false x xs b = tt
+
 skip_on : (p : ℕ → Bool) (a b : List ℕ) → PieceOn b (skip_of p a) (skip_of p (a ++ b))
 unfolding skip_of
 skip_on p [] b = tt
-skip_on p (x ∷ xs) b =
-    elim (p x) as (λ t. PieceOn {A = Unit {0}} b (cond t (Some (tt, xs)) None) (cond t (Some (tt, xs ++ b)) None)) [
-      | true ↦ refl
-      | false ↦ tt
-    ]
+skip_on p (x ∷ xs) b = first_on (p x) tt xs b
 
 byte_on : (p : ℕ → Bool) (a b : List ℕ) → PieceOn b (byte_of p a) (byte_of p (a ++ b))
 unfolding byte_of
 byte_on p [] b = tt
-byte_on p (x ∷ xs) b =
-    elim (p x) as (λ t. PieceOn b (cond t (Some (x, xs)) None) (cond t (Some (x, xs ++ b)) None)) [
-      | true ↦ refl
-      | false ↦ tt
-    ]
+byte_on p (x ∷ xs) b = first_on (p x) x xs b
 
 no_fewer : (a b : List ℕ) → digit_count a ≤ digit_count (a ++ b)
 no_fewer a b =
