@@ -109,7 +109,7 @@ fn read_spaced(text: &[u8]) -> Option<Fields>
 
 // The fields with the zone that three letters after a space name.
 #[inline(always)]
-fn with_name(fields: Fields, end: &[u8]) -> Option<Fields>
+fn with_name(mut fields: Fields, end: &[u8]) -> Option<Fields>
     requires { length end.now ≡ 4 }
     ensures { IfSome result (HasZone fields end.now) }
 {
@@ -117,15 +117,8 @@ fn with_name(fields: Fields, end: &[u8]) -> Option<Fields>
         return None;
     }
     let hours = zone_of(&end[1..])?;
-    Some(Fields {
-        year: fields.year,
-        month: fields.month,
-        day: fields.day,
-        minute: fields.minute,
-        offset: i32::from(offset_minutes(true, hours, 0)),
-        second: fields.second,
-        fraction: fields.fraction,
-    })
+    fields.offset = i32::from(offset_minutes(true, hours, 0));
+    Some(fields)
 }
 
 // The fields of a text that begins with its day and ends with a zone's name, with single spaces.
@@ -145,19 +138,12 @@ fn read_with_name(text: &[u8]) -> Option<Fields>
 
 // Fields at the full minute.
 #[inline(always)]
-fn at_minute(fields: Fields) -> Fields
+fn at_minute(mut fields: Fields) -> Fields
     ensures { HaveNumbers result fields.year fields.month fields.day fields.minute 0
         fields.fraction fields.offset }
 {
-    Fields {
-        year: fields.year,
-        month: fields.month,
-        day: fields.day,
-        minute: fields.minute,
-        offset: fields.offset,
-        second: 0,
-        fraction: fields.fraction,
-    }
+    fields.second = 0;
+    fields
 }
 
 // The fields of a text that begins with its day and ends with an offset in digits, with single spaces and no second.
@@ -200,20 +186,13 @@ fn read_short_shape(shape: &Shape, count: usize, text: &[u8]) -> Option<Fields>
 {
     let month = month_number(&text[count..])?;
     let (year, _) = digit_pair(&text[count + 5..])?;
-    let date = read_named_moment(shape, month, text)?;
+    let mut date = read_named_moment(shape, month, text)?;
     let year = full_year(year);
     if !has_day(year, date.month, date.day) {
         return None;
     }
-    Some(Fields {
-        year,
-        month: date.month,
-        day: date.day,
-        minute: date.minute,
-        offset: date.offset,
-        second: date.second,
-        fraction: date.fraction,
-    })
+    date.year = year;
+    Some(date)
 }
 
 // The fields of a text that begins with its day and ends with an offset in digits, with single spaces and a year of two digits.
