@@ -1,7 +1,7 @@
 -- Fractions of a second, rounded and cut.
-use Rattle.std.proofs.Common.{◌≡◌, ℕ, ◌+◌, ◌-◌, ◌*◌, ◌/◌, ◌%◌, ◌^◌, ◌<◌, ◌≤◌, true, false, cond, leb, List, [], ◌∷◌, length, take, drop, get_or, sym, ap, ◌∙◌, arith, lit<, inl, inr, refl}
+use Rattle.std.proofs.Common.{◌≡◌, ℕ, ◌+◌, ◌-◌, ◌*◌, ◌/◌, ◌%◌, ◌^◌, ◌<◌, ◌≤◌, false, cond, leb, List, [], ◌∷◌, length, take, drop, get_or, sym, ap, ◌∙◌, arith, lit<, inl, inr, refl}
 use Rattle.std.specs.Str.Parse.{digits_value}
-use Rattle.std.proofs.lemmas.Bool.{cases_lt}
+use Rattle.std.proofs.lemmas.Bool.{cases_lt, le-leb, lt-leb}
 use Rattle.std.proofs.lemmas.Bool.Decides.{nat_tests}
 use Rattle.std.proofs.lemmas.Nat.{pow-add, div_below, le-div, div-add-mod', mod-mul-add}
 use Rattle.std.proofs.Math.Nat.{one-le-pow, mul_assoc, mul-le-mul_right, mul-mod_left, mod-lt}
@@ -28,14 +28,9 @@ down x p q r some e half = quotient (2 * x + p) (2 * p) q (omega arith) (rw e (o
 nearest : (x p : ℕ) → 0 < p → (2 * x + p) / (2 * p) ≡ cond (leb p (2 * (x % p))) (x / p + 1) (x / p)
 nearest x p some =
     let e : x ≡ x / p * p + x % p = omega (arith, div-add-mod' x p) in
-    let less = mod-lt x some in
     elim (cases_lt (2 * (x % p)) p) [
-      | inl lt ↦
-          let t : leb p (2 * (x % p)) ≡ false = grind (arith, nat_tests) in
-          rw t (down x p (x / p) (x % p) some e lt)
-      | inr le ↦
-          let t : leb p (2 * (x % p)) ≡ true = grind (arith, nat_tests) in
-          rw t (up x p (x / p) (x % p) some e less le)
+      | inl lt ↦ rw (lt-leb p (2 * (x % p)) lt) (down x p (x / p) (x % p) some e lt)
+      | inr le ↦ rw (le-leb p (2 * (x % p)) le) (up x p (x / p) (x % p) some e (mod-lt x some) le)
     ]
 
 -- what is left of the nanosecond that a fraction lies in decides
@@ -69,22 +64,15 @@ half v p s q r m b is less digit me be =
       | inl lt ↦
           let few = mul-le-mul_right q (let le : s ≤ 4 = omega arith in le) in
           let small : 2 * ((s * q + r) * b) < m = rw (me, be) (omega (arith, few)) in
-          let no : leb m (2 * ((s * q + r) * b)) ≡ false = grind (arith, nat_tests, small) in
-          let no' : leb 5 s ≡ false = grind (arith, nat_tests) in
-          rw (left, no, no') refl
+          rw (left, lt-leb m (2 * ((s * q + r) * b)) small, lt-leb 5 s lt) refl
       | inr le ↦
           let many = mul-le-mul_right q le in
           let great : m ≤ 2 * ((s * q + r) * b) = rw (me, be) (omega (arith, many)) in
-          let yes : leb m (2 * ((s * q + r) * b)) ≡ true = grind (arith, nat_tests, great) in
-          let yes' : leb 5 s ≡ true = grind (arith, nat_tests) in
-          rw (left, yes, yes') refl
+          rw (left, le-leb m (2 * ((s * q + r) * b)) great, le-leb 5 s le) refl
     ]
 
 five_more : (t s : ℕ) → t ≡ s + 48 → leb 5 s ≡ leb 53 t
-five_more t s e = elim (cases_lt s 5) [
-  | inl lt ↦ let no : leb 5 s ≡ false = grind (arith, nat_tests) in let no' : leb 53 t ≡ false = grind (arith, nat_tests) in rw (no, no') refl
-  | inr le ↦ let yes : leb 5 s ≡ true = grind (arith, nat_tests) in let yes' : leb 53 t ≡ true = grind (arith, nat_tests) in rw (yes, yes') refl
-]
+five_more t s e = grind (arith, nat_tests)
 
 pub long_rounded : (run : List ℕ) → 9 < length run → digit_count run ≡ length run → rounded_part_of 1_000_000_000 run ≡ next_if (leb 53 (get_or run 9 0)) (nanoseconds_of run)
 long_rounded run lt all =

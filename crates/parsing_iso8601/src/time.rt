@@ -35,6 +35,7 @@ fn after_hour(hour: u8, nanos: u64) -> WrittenTime
 
 // The time so many nanoseconds after a minute.
 #[tactic(auto, unfolding(crate::specs::Times::after_minute))]
+#[inline(always)]
 fn after_minute(hour: u8, minute: u8, nanos: u64) -> WrittenTime
     requires hour { hour ≤ 23 }
     requires minute { minute ≤ 59 }
@@ -95,23 +96,8 @@ fn to_second<'a>(
     Some((time, bytes))
 }
 
-// A whole minute.
-fn to_minute(hour: u8, minute: u8) -> WrittenTime
-    requires hour { hour ≤ 23 }
-    requires minute { minute ≤ 59 }
-    ensures value { result ≡ Times.time_of hour minute 0 0 }
-    ensures range { IsTimeInRange result }
-{
-    WrittenTime {
-        hour,
-        minute,
-        second: 0,
-        subsecond: 0,
-    }
-}
-
 // What follows a whole minute of the basic kind.
-#[tactic(auto, unfolding(crate::specs::Times::basic_seconds))]
+#[tactic(auto, unfolding(crate::specs::Times::basic_seconds, crate::specs::Times::after_minute))]
 #[inline(always)]
 fn basic_seconds(hour: u8, minute: u8, bytes: &[u8]) -> Option<(WrittenTime, &[u8])>
     requires hour { hour ≤ 23 }
@@ -121,12 +107,12 @@ fn basic_seconds(hour: u8, minute: u8, bytes: &[u8]) -> Option<(WrittenTime, &[u
 {
     match number(bytes) {
         Some((second, rest)) => to_second(hour, minute, second, rest),
-        None => Some((to_minute(hour, minute), bytes)),
+        None => Some((after_minute(hour, minute, 0), bytes)),
     }
 }
 
 // What follows a whole minute of the extended kind.
-#[tactic(auto, unfolding(crate::specs::Times::extended_seconds, crate::specs::Times::due_second))]
+#[tactic(auto, unfolding(crate::specs::Times::extended_seconds, crate::specs::Times::due_second, crate::specs::Times::after_minute))]
 #[inline(always)]
 fn extended_seconds(hour: u8, minute: u8, bytes: &[u8]) -> Option<(WrittenTime, &[u8])>
     requires hour { hour ≤ 23 }
@@ -135,7 +121,7 @@ fn extended_seconds(hour: u8, minute: u8, bytes: &[u8]) -> Option<(WrittenTime, 
     ensures range { IfSome result (λ x. IsTimeInRange x.0) }
 {
     let Some(rest) = byte(b':', bytes) else {
-        return Some((to_minute(hour, minute), bytes));
+        return Some((after_minute(hour, minute, 0), bytes));
     };
     let (second, rest) = number(rest)?;
     to_second(hour, minute, second, rest)
@@ -187,7 +173,7 @@ fn from_minute<'a>(
 }
 
 // Minutes and what follows them, where they are there.
-#[tactic(auto, unfolding(crate::specs::Times::minutes))]
+#[tactic(auto, unfolding(crate::specs::Times::minutes, crate::specs::Times::after_minute))]
 #[inline(always)]
 fn minutes(kind: Kind, hour: u8, bytes: &[u8]) -> Option<((WrittenTime, Kind), &[u8])>
     requires hour { hour ≤ 23 }
@@ -198,7 +184,7 @@ fn minutes(kind: Kind, hour: u8, bytes: &[u8]) -> Option<((WrittenTime, Kind), &
         return from_minute(kind, hour, minute, rest);
     }
     match kind {
-        Kind::Unknown | Kind::Basic => Some(((to_minute(hour, 0), kind), bytes)),
+        Kind::Unknown | Kind::Basic => Some(((after_minute(hour, 0, 0), kind), bytes)),
         Kind::Extended => None,
     }
 }

@@ -1,6 +1,7 @@
 -- Dates, by their pieces.
-use Rattle.std.proofs.Common.{◌≡◌, ◌≤◌, ◌+◌, ◌-◌, ◌*◌, ◌∙◌, ℕ, zero, suc, Bool, true, false, List, [], ◌∷◌, leb, Option, Some, None, Ok, Err, refl, arith, lit≤, pos, ℤ}
+use Rattle.std.proofs.Common.{◌≡◌, ◌≤◌, ◌+◌, ◌-◌, ◌*◌, ◌∙◌, ℕ, Bool, true, false, List, [], ◌∷◌, Option, Some, None, Ok, Err, refl, arith, lit≤, pos, ℤ}
 use Rattle.std.specs.Prelude.{option_map, codes}
+use Rattle.std.proofs.lemmas.Bool.{le-leb}
 use Rattle.std.proofs.lemmas.Bool.Decides.{nat_tests}
 use Rattle.base.specs.Bytes.{hyphen}
 use Rattle.calendar_count.specs.Calendar.{IsDay}
@@ -8,7 +9,6 @@ use Rattle.calendar_count.specs.Weekday.{days_from_monday}
 use Rattle.calendar_count.specs.Month.{month_number}
 use Rattle.calendar_count.specs.declared.month.Month.{Month}
 use Rattle.calendar_count.specs.declared.weekday.Weekday.{Weekday}
-use Rattle.calendar_count.specs.declared.weekday.Weekday.TheVariants.{Monday, Tuesday, Wednesday, Thursday, Friday, Saturday, Sunday}
 use Rattle.parsing_combinator.specs.Fault.{Fault, literal, component}
 use Rattle.parsing_combinator.specs.Pieces.{digits, byte, skip_of}
 use Rattle.parsing_combinator.proofs.Fixed.{digits_three}
@@ -30,7 +30,7 @@ use Rattle.parsing_iso8601_shapes.specs.Days.{NamesOrdinal, NamesWeekDay}
 use Rattle.parsing_iso8601_shapes.specs.Layout.{NamesDate, date_parts}
 use Rattle.parsing_iso8601_shapes.specs.declared.form.Dating.{Dating}
 use Rattle.parsing_iso8601_shapes.specs.declared.form.Dating.TheVariants.{Calendar, Ordinal, Week}
-use Rattle.parsing_iso8601_shapes.proofs.FastDates.{NamesDay, ReadsDay, year_of, month_of, within, date_of_pieces, named_month, month_names, count_names}
+use Rattle.parsing_iso8601_shapes.proofs.FastDates.{NamesDay, ReadsDay, year_of, month_of, within, date_of_pieces, named_month, weekday_of, month_names, count_names}
 
 -- ---- what is not there
 
@@ -86,53 +86,37 @@ extended_ordinal_pieces : (b0 b1 b2 b4 b5 : List ℕ) (y n o : ℕ) → digits 4
 unfolding dated year_and_kind kind_of_date date_after date_without_month date_of_year
 extended_ordinal_pieces b0 b1 b2 b4 b5 y n o p0 p1 p2 p3 p4 some most =
     let none = month_or_none (counted months n) b2 b4 (month_of_two b2 b4 n p2) p3 in
-    let yes : leb o 366 ≡ true = grind (arith, nat_tests) in
-    rw (year_of b0 y b1 p0) (rw p1 (rw none.1 (rw (within 3 1 999 b2 o b5 p4 some (omega arith)) (rw yes refl))))
+    rw (year_of b0 y b1 p0, p1, none.1, within 3 1 999 b2 o b5 p4 some (omega arith), le-leb o 366 (omega arith)) refl
 
 -- `1985102`
 basic_ordinal_pieces : (b0 b1 b3 b4 : List ℕ) (y n o : ℕ) → digits 4 b0 ≡ Some (y, b1) → byte hyphen b1 ≡ None → digits 2 b1 ≡ Some (n, b3) → digits 2 b3 ≡ None → digits 3 b1 ≡ Some (o, b4) → 1 ≤ o → o ≤ 365 → dated b0 ≡ Ok ((Ok (OfYear (pos y) o), Basic), b4)
 unfolding dated year_and_kind kind_of_date date_after date_without_month date_of_year
 basic_ordinal_pieces b0 b1 b3 b4 y n o p0 p1 p2 p3 p4 some most =
     let none = month_alone (counted months n) b1 b3 (month_of_two b1 b3 n p2) (none_within 2 1 99 b3 p3) in
-    let yes : leb o 366 ≡ true = grind (arith, nat_tests) in
-    rw (year_of b0 y b1 p0) (rw p1 (rw none.1 (rw (within 3 1 999 b1 o b4 p4 some (omega arith)) (rw yes refl))))
+    rw (year_of b0 y b1 p0, p1, none.1, within 3 1 999 b1 o b4 p4 some (omega arith), le-leb o 366 (omega arith)) refl
 
 -- `1985-W15-5`
 extended_week_pieces : (b0 b1 b2 b3 b4 b5 b6 : List ℕ) (y n : ℕ) (w : Weekday) → digits 4 b0 ≡ Some (y, b1) → byte hyphen b1 ≡ Some (tt, b2) → digits 2 b2 ≡ None → digits 3 b2 ≡ None → byte week_designator b2 ≡ Some (tt, b3) → digits 2 b3 ≡ Some (n, b4) → 1 ≤ n → n ≤ 53 → byte hyphen b4 ≡ Some (tt, b5) → numbered 1 weekdays b5 ≡ Some (w, b6) → dated b0 ≡ Ok ((Ok (OfWeek (pos y) n w), Extended), b6)
 unfolding dated year_and_kind kind_of_date date_after month_and_day date_without_month date_of_week week_and_weekday
 extended_week_pieces b0 b1 b2 b3 b4 b5 b6 y n w p0 p1 p2 p3 p4 p5 some most p6 p7 =
-    let yes : leb n 53 ≡ true = grind (arith, nat_tests) in
-    rw (year_of b0 y b1 p0) (rw p1 (rw (no_month b2 p2) (rw (none_within 3 1 999 b2 p3) (rw p4 (rw (within 2 1 99 b3 n b4 p5 some (omega arith)) (rw p6 (rw p7 (rw yes refl))))))))
+    rw (year_of b0 y b1 p0, p1, no_month b2 p2, none_within 3 1 999 b2 p3, p4, within 2 1 99 b3 n b4 p5 some (omega arith), p6, p7, le-leb n 53 most) refl
 
 -- `1985W155`
 basic_week_pieces : (b0 b1 b2 b3 b4 : List ℕ) (y n : ℕ) (w : Weekday) → digits 4 b0 ≡ Some (y, b1) → byte hyphen b1 ≡ None → digits 2 b1 ≡ None → digits 3 b1 ≡ None → byte week_designator b1 ≡ Some (tt, b2) → digits 2 b2 ≡ Some (n, b3) → 1 ≤ n → n ≤ 53 → numbered 1 weekdays b3 ≡ Some (w, b4) → dated b0 ≡ Ok ((Ok (OfWeek (pos y) n w), Basic), b4)
 unfolding dated year_and_kind kind_of_date date_after month_and_day date_without_month date_of_week week_and_weekday
 basic_week_pieces b0 b1 b2 b3 b4 y n w p0 p1 p2 p3 p4 p5 some most p7 =
-    let yes : leb n 53 ≡ true = grind (arith, nat_tests) in
-    rw (year_of b0 y b1 p0) (rw p1 (rw (no_month b1 p2) (rw (none_within 3 1 999 b1 p3) (rw p4 (rw (within 2 1 99 b2 n b3 p5 some (omega arith)) (rw p7 (rw yes refl)))))))
+    rw (year_of b0 y b1 p0, p1, no_month b1 p2, none_within 3 1 999 b1 p3, p4, within 2 1 99 b2 n b3 p5 some (omega arith), p7, le-leb n 53 most) refl
 
 -- `19850412`
 calendar_pieces : (b0 b1 b2 b3 : List ℕ) (y n d : ℕ) (m : Month) → digits 4 b0 ≡ Some (y, b1) → byte hyphen b1 ≡ None → digits 2 b1 ≡ Some (n, b2) → month_number m ≡ n → digits 2 b2 ≡ Some (d, b3) → 1 ≤ d → d ≤ 31 → dated b0 ≡ Ok ((Ok (OfMonth (pos y) m d), Basic), b3)
 unfolding dated year_and_kind kind_of_date date_after month_and_day date_of_month
 calendar_pieces b0 b1 b2 b3 y n d m p0 p1 p2 is p3 some most =
-    let yes : leb d 31 ≡ true = grind (arith, nat_tests) in
-    rw (year_of b0 y b1 p0) (rw p1 (rw (month_of b1 m n b2 p2 is) (rw (within 2 1 99 b2 d b3 p3 some (omega arith)) (rw yes refl))))
+    rw (year_of b0 y b1 p0, p1, month_of b1 m n b2 p2 is, within 2 1 99 b2 d b3 p3 some (omega arith), le-leb d 31 most) refl
 
 -- ---- days
 
 of_ordinal : (y o m d : ℕ) → NamesOrdinal y o m d → NamesDay (OfYear (pos y) o) y m d
 of_ordinal y o m d named = count_names (OfYear (pos y) o) (pos y) y m d named.count named.named refl named.day_is
-
--- the weekday so many days after Monday
-weekday_of : (n : ℕ) → n ≤ 6 → (w : Weekday) × (days_from_monday w ≡ n)
-weekday_of zero le = (Monday, refl)
-weekday_of (suc zero) le = (Tuesday, refl)
-weekday_of (suc (suc zero)) le = (Wednesday, refl)
-weekday_of (suc (suc (suc zero))) le = (Thursday, refl)
-weekday_of (suc (suc (suc (suc zero)))) le = (Friday, refl)
-weekday_of (suc (suc (suc (suc (suc zero))))) le = (Saturday, refl)
-weekday_of (suc (suc (suc (suc (suc (suc zero)))))) le = (Sunday, refl)
-weekday_of (suc (suc (suc (suc (suc (suc (suc n))))))) le = absurd (omega arith)
 
 numbered_weekday : (bytes rest : List ℕ) (n : ℕ) (w : Weekday) → digits 1 bytes ≡ Some (n, rest) → 1 ≤ n → days_from_monday w ≡ n - 1 → numbered 1 weekdays bytes ≡ Some (w, rest)
 unfolding numbered

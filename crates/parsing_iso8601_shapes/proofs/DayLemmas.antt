@@ -2,7 +2,7 @@
 use Rattle.std.proofs.Common.{◌≡◌, ℕ, ◌+◌, ◌-◌, ◌*◌, ◌/◌, ◌%◌, ◌==◌, ◌⊎◌, Bool, cond, get_or, inl, inr, ◌<◌, ◌≤◌, true, false, Ok, refl, sym, ◌∙◌, arith, ℤ, pos, ◌+ℤ◌}
 use Rattle.std.specs.Int.{IsInRange}
 use Rattle.std.specs.Prelude.{◌&&◌, nat_le, nat_lt}
-use Rattle.std.proofs.lemmas.Bool.{agree_below_at, cases_lt, false≢true}
+use Rattle.std.proofs.lemmas.Bool.{agree_below_at, and_parts, cases_lt, eqb-true, lt-ltb, ltb-true}
 use Rattle.std.proofs.lemmas.Bool.Decides.{nat_tests}
 use Rattle.std.proofs.lemmas.Int.{ints}
 use Rattle.calendar_count.specs.Range.{greatest_year, IsYear, IsCount}
@@ -129,29 +129,19 @@ late length ordinal m d e = (grind (arith, nat_tests, e), grind (arith, nat_test
 early : (length ordinal m d : ℕ) → is_early length ordinal m d ≡ true → (march_days (m + 12) + d ≡ ordinal + 305) × (ordinal + 305 < march_days (m + 12 + 1)) × (ordinal + 305 < length) × (1 ≤ m)
 early length ordinal m d e = (grind (arith, nat_tests, e), grind (arith, nat_tests, e), grind (arith, nat_tests, e), grind (arith, nat_tests, e))
 
-below : (a b : ℕ) → a < b → nat_lt a b ≡ true
-below a b lt = grind (arith, nat_tests)
-
 not_below : (a b : ℕ) → b ≤ a → nat_lt a b ≡ false
 not_below a b le = grind (arith, nat_tests)
 
 named_by : (year ordinal m d length : ℕ) → length ≡ days_in_year (pos year) → year ≤ 9999 → IsInRange 1 365 ordinal → cond (nat_lt m 3) (is_early length ordinal m d) (is_late length ordinal m d) ≡ true → NamesOrdinal year ordinal m (d + 1)
 named_by year ordinal m d length is four range e = elim (cases_lt m 3) [
   | inl small ↦
-      let h = early length ordinal m d (rw (below m 3 small) at e) in
+      let h = early length ordinal m d (rw (lt-ltb m 3 small) at e) in
       let same : m + 12 - 12 ≡ m = omega arith in
       rw same at (january_ordinal year ordinal (ordinal + 305) (m + 12) d four range refl (omega (arith, h.2, is)) h.0 h.1 (omega (arith, h.3)) (omega (arith, small)))
   | inr large ↦
       let h = late length ordinal m d (rw (not_below m 3 large) at e) in
       march_ordinal year ordinal (march_days m + d) m d four range (omega (arith, h.0, is)) refl h.1 large h.2
 ]
-
-both : (a b : Bool) → (a && b) ≡ true → (a ≡ true) × (b ≡ true)
-both true b e = (refl, e)
-both false b e = absurd (false≢true e)
-
-less : (a b : ℕ) → nat_lt a b ≡ true → a < b
-less a b e = grind (arith, nat_tests)
 
 -- what the table has of a day of a year
 pub record Split (length ordinal : ℕ) : Type 0 where
@@ -164,10 +154,10 @@ pub split_of : (length ordinal : ℕ) → (length ≡ 365) ⊎ (length ≡ 366) 
 split_of length ordinal either range =
     let month = month_of length ordinal in
     let day = day_of length ordinal in
-    let all = both (fits length ordinal) (cond (nat_lt month 3) (is_early length ordinal month day) (is_late length ordinal month day)) (rw (below 0 ordinal (omega (arith, range.0))) at (split_at length ordinal either (omega (arith, range.1)))) in
-    let one = both (nat_lt (before_month length ordinal) ordinal) (nat_lt month 13 && nat_lt day 31) all.0 in
-    let two = both (nat_lt month 13) (nat_lt day 31) one.1 in
-    record { before = less (before_month length ordinal) ordinal one.0; month = omega (arith, less month 13 two.0); day = omega (arith, less day 31 two.1); splits = all.1 }
+    let all = and_parts (fits length ordinal) (cond (nat_lt month 3) (is_early length ordinal month day) (is_late length ordinal month day)) (rw (lt-ltb 0 ordinal (omega (arith, range.0))) at (split_at length ordinal either (omega (arith, range.1)))) in
+    let one = and_parts (nat_lt (before_month length ordinal) ordinal) (nat_lt month 13 && nat_lt day 31) all.0 in
+    let two = and_parts (nat_lt month 13) (nat_lt day 31) one.1 in
+    record { before = ltb-true (before_month length ordinal) ordinal one.0; month = omega (arith, ltb-true month 13 two.0); day = omega (arith, ltb-true day 31 two.1); splits = all.1 }
 
 -- the two look-ups find the place of the month
 pub looked_up : (length ordinal months first place before : ℕ) → months ≡ months_row length → first ≡ get_or DAYS_BEFORE (months + ordinal / 32 + 1 + 1) 0 → place ≡ next_if (nat_lt first ordinal) (months + ordinal / 32 + 1) → before ≡ get_or DAYS_BEFORE place 0
@@ -210,9 +200,6 @@ week_named year week weekday four some few in_year bound =
     one_day y Week (is_iso_day y week weekday) c (within year four) bound (is_iso y week weekday c at.0 at.1 at.2) (λ k within passes.
     (iso_count-is k n week weekday y (since year) (year_of_iso y week weekday k passes) (week_of_iso y week weekday k passes) (weekday_of_iso y week weekday k passes)).0)
 
-equals : (a b : ℕ) → (a == b) ≡ true → a ≡ b
-equals a b e = grind (arith, nat_tests)
-
 -- 400 years have so many whole weeks
 again : (k q : ℕ) → first_thursday_of (k + 400 * q) ≡ first_thursday_of k
 again k q = let days : days_before_year (k + 400 * q + greatest_year) ≡ days_before_year (k + greatest_year) + 7 * (20_871 * q) = omega arith in omega (arith, days)
@@ -225,7 +212,7 @@ thursday_at year =
     let h = agree_below_at thursday_there (λ _. true) 400 (year % 400) refl (omega arith) in
     let split : year % 400 + 400 * (year / 400) ≡ year = omega arith in
     let same : first_thursday_of year ≡ first_thursday_of (year % 400) = rw split at (again (year % 400) (year / 400)) in
-    equals (get_or FIRST_THURSDAYS (year % 400) 0) (first_thursday_of (year % 400) + 48) h ∙ rw same refl
+    eqb-true (get_or FIRST_THURSDAYS (year % 400) 0) (first_thursday_of (year % 400) + 48) h ∙ rw same refl
 
 -- the same by the pairs of its digits
 pub thursday_by : (century last_two : ℕ) → last_two ≤ 99 → get_or FIRST_THURSDAYS (century % 4 * 100 + last_two) 0 ≡ first_thursday_of (year_by century last_two) + 48

@@ -75,7 +75,7 @@ may_be has_colon is_extended extended Zulu w = refl
 may_be has_colon is_extended extended Plain w = refl
 may_be has_colon is_extended extended Colon w = extended w
 
-colon_there : (bytes rest : List ℕ) → byte colon bytes ≡ Some (tt, rest) → maybe_colon Extended bytes ≡ Some (tt, rest)
+pub colon_there : (bytes rest : List ℕ) → byte colon bytes ≡ Some (tt, rest) → maybe_colon Extended bytes ≡ Some (tt, rest)
 colon_there bytes rest e = rw e refl
 
 no_colon_there : (is_extended : Bool) (bytes : List ℕ) → byte colon bytes ≡ None → maybe_colon (kind_of is_extended) bytes ≡ Some (tt, bytes)

@@ -1,12 +1,14 @@
 -- A calendar date of the extended kind by its pieces, and the days that dates name.
-use Rattle.std.proofs.Common.{◌≡◌, ℕ, zero, suc, ◌≤◌, true, leb, List, Option, Some, Ok, ℤ, refl, sym, ap, ◌∙◌, arith, lit<}
+use Rattle.std.proofs.Common.{Bool, false, None, ◌==◌, ◌+◌, ◌≡◌, ℕ, zero, suc, ◌≤◌, true, List, Option, Some, Ok, ℤ, refl, sym, ap, ◌∙◌, arith, lit<}
 use Rattle.std.specs.Prelude.{pos}
 use Rattle.std.specs.Int.{is_in_range}
+use Rattle.std.proofs.lemmas.Bool.{agree_below_at, le-leb}
 use Rattle.std.proofs.lemmas.Bool.Decides.{nat_tests}
 use Rattle.base.specs.Bytes.{hyphen}
 use Rattle.calendar_count.specs.Month.{month_number}
 use Rattle.calendar_count.specs.declared.month.Month.{Month}
-use Rattle.calendar_count.specs.declared.month.Month.TheVariants.{January, February, March, April, May, June, July, August, September, October, November, December}
+use Rattle.calendar_count.specs.Weekday.{days_from_monday}
+use Rattle.calendar_count.specs.declared.weekday.Weekday.{Weekday}
 use Rattle.std.specs.Option.{ok_or, unwrap_or}
 use Rattle.std.proofs.lemmas.Int.{ints}
 use Rattle.calendar_count.specs.Calendar.{is_year, day_at, ymd, IsDay}
@@ -23,7 +25,7 @@ use Rattle.parsing_iso8601.specs.declared.kind.Kind.TheVariants.{Extended}
 use Rattle.parsing_iso8601.specs.declared.written.WrittenDate.TheVariants.{OfMonth}
 use Rattle.parsing_iso8601.specs.Dates.{month_and_day, date_of_month, date_after, year_and_kind}
 use Rattle.parsing_iso8601.specs.Kinds.{kind_of_date}
-use Rattle.parsing_iso8601.specs.Numbers.{digits_within, numbered, months, year, plain_year}
+use Rattle.parsing_iso8601.specs.Numbers.{digits_within, numbered, counted, months, weekdays, year, plain_year}
 use Rattle.parsing_iso8601.specs.Reading.{dated}
 use Rattle.parsing_iso8601.proofs.Entries.{month_entry}
 use Rattle.parsing_iso8601.proofs.Pieces.{no_sign}
@@ -60,30 +62,27 @@ pub date_of_pieces : (b0 b1 b2 b3 b4 b5 : List ℕ) (y n d : ℕ) (m : Month) �
     → dated b0 ≡ Ok ((Ok (OfMonth (pos y) m d), Extended), b5)
 unfolding dated year_and_kind kind_of_date date_after month_and_day date_of_month
 date_of_pieces b0 b1 b2 b3 b4 b5 y n d m p1 p2 p3 is p4 p5 some most =
-    let yes : leb d 31 ≡ true = grind (arith, nat_tests) in
-    let year_is = year_of b0 y b1 p1 in
-    let month_is = month_of b2 m n b3 p3 is in
-    let day_is = within 2 1 99 b4 d b5 p5 some (omega arith) in
-    rw year_is (rw p2 (rw month_is (rw p4 (rw day_is (rw yes refl)))))
+    rw (year_of b0 y b1 p1, p2, month_of b2 m n b3 p3 is, p4, within 2 1 99 b4 d b5 p5 some (omega arith), le-leb d 31 most) refl
 
 -- ---- the days that dates name
+
+-- an entry is there, and has this number
+abbrev has_number : {A : Type 0} → (A → ℕ) → Option A → ℕ → Bool
+has_number number None n = false
+has_number number (Some x) n = number x == n
+
+entry_with : {A : Type 0} (number : A → ℕ) (o : Option A) (n : ℕ) → has_number number o n ≡ true → (x : A) × (number x ≡ n)
+entry_with number None n e = absurd cc
+entry_with number (Some x) n e = (x, grind (arith, nat_tests))
 
 -- a month has its number
 pub named_month : (n : ℕ) → 1 ≤ n → n ≤ 12 → (m : Month) × (month_number m ≡ n)
 named_month zero low high = absurd (omega arith)
-named_month (suc zero) low high = (January, refl)
-named_month (suc (suc zero)) low high = (February, refl)
-named_month (suc (suc (suc zero))) low high = (March, refl)
-named_month (suc (suc (suc (suc zero)))) low high = (April, refl)
-named_month (suc (suc (suc (suc (suc zero))))) low high = (May, refl)
-named_month (suc (suc (suc (suc (suc (suc zero)))))) low high = (June, refl)
-named_month (suc (suc (suc (suc (suc (suc (suc zero))))))) low high = (July, refl)
-named_month (suc (suc (suc (suc (suc (suc (suc (suc zero)))))))) low high = (August, refl)
-named_month (suc (suc (suc (suc (suc (suc (suc (suc (suc zero))))))))) low high = (September, refl)
-named_month (suc (suc (suc (suc (suc (suc (suc (suc (suc (suc zero)))))))))) low high = (October, refl)
-named_month (suc (suc (suc (suc (suc (suc (suc (suc (suc (suc (suc zero))))))))))) low high = (November, refl)
-named_month (suc (suc (suc (suc (suc (suc (suc (suc (suc (suc (suc (suc zero)))))))))))) low high = (December, refl)
-named_month (suc (suc (suc (suc (suc (suc (suc (suc (suc (suc (suc (suc (suc n))))))))))))) low high = absurd (omega arith)
+named_month (suc k) low high = entry_with month_number (counted months (suc k)) (suc k) (agree_below_at (λ j. has_number month_number (counted months (suc j)) (suc j)) (λ _. true) 12 k refl (omega arith))
+
+-- the weekday so many days after Monday
+pub weekday_of : (n : ℕ) → n ≤ 6 → (w : Weekday) × (days_from_monday w ≡ n)
+weekday_of n most = entry_with days_from_monday (counted weekdays (n + 1)) n (agree_below_at (λ j. has_number days_from_monday (counted weekdays (j + 1)) j) (λ _. true) 7 n refl (omega arith))
 
 -- a date with a month and a day
 pub month_names : (year : ℤ) (month : Month) (y n d : ℕ) → pos y ≡ year → month_number month ≡ n → NamesDay (OfMonth year month d) y n d

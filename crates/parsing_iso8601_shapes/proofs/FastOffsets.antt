@@ -1,9 +1,8 @@
 -- An offset that is all that is there.
-use Rattle.std.proofs.Common.{◌≡◌, ℕ, ◌≤◌, ◌==◌, Bool, true, false, leb, List, [], Option, Some, None, Ok, refl, ◌∙◌, ℤ}
+use Rattle.std.proofs.Common.{◌≡◌, ℕ, ◌≤◌, ◌==◌, Bool, true, false, List, [], Option, Some, None, Ok, refl, ◌∙◌, ℤ}
 use Rattle.std.specs.Option.{unwrap_or}
 use Rattle.std.specs.Prelude.{pos, ◌*ℤ◌}
-use Rattle.std.proofs.lemmas.Bool.Decides.{nat_tests}
-use Rattle.std.proofs.Common.{arith}
+use Rattle.std.proofs.lemmas.Bool.{le-leb}
 use Rattle.base.specs.Bytes.{hyphen, upper_z}
 use Rattle.calendar.specs.UtcOffset.{offset_of}
 use Rattle.parsing_combinator.specs.Pieces.{byte, digits, sign}
@@ -15,13 +14,11 @@ use Rattle.parsing_iso8601.specs.Offsets.{maybe_colon, offset_minute, signed_off
 use Rattle.parsing_iso8601.specs.declared.kind.Kind.{Kind}
 use Rattle.parsing_iso8601.specs.declared.written.WrittenOffset.{WrittenOffset}
 
-signed_there : (kind : Kind) (bytes b1 b2 b3 : List ℕ) (mark hour minute : ℕ) → sign bytes ≡ Some (mark, b1) → digits 2 b1 ≡ Some (hour, b2) → hour ≤ 25 → maybe_colon kind b2 ≡ Some (tt, b3) → offset_minute b3 ≡ Some (minute, []) → signed_offset kind bytes ≡ Some (Offsets.offset_of (mark == hyphen) hour minute, [])
+pub signed_there : (kind : Kind) (bytes b1 b2 b3 : List ℕ) (mark hour minute : ℕ) → sign bytes ≡ Some (mark, b1) → digits 2 b1 ≡ Some (hour, b2) → hour ≤ 25 → maybe_colon kind b2 ≡ Some (tt, b3) → offset_minute b3 ≡ Some (minute, []) → signed_offset kind bytes ≡ Some (Offsets.offset_of (mark == hyphen) hour minute, [])
 unfolding signed_offset
-signed_there kind bytes b1 b2 b3 mark hour minute e0 e1 few e2 e3 =
-    let yes : leb hour 25 ≡ true = grind (arith, nat_tests) in
-    rw e0 (rw e1 (rw yes (rw e2 (rw e3 refl))))
+signed_there kind bytes b1 b2 b3 mark hour minute e0 e1 few e2 e3 = rw (e0, e1, le-leb hour 25 few, e2, e3) refl
 
-seconds_of : (is_negative : Bool) (hour minute : ℕ) → offset_of (signed is_negative hour) (signed is_negative minute) (pos 0) ≡ signed_offset_of is_negative hour minute
+pub seconds_of : (is_negative : Bool) (hour minute : ℕ) → offset_of (signed is_negative hour) (signed is_negative minute) (pos 0) ≡ signed_offset_of is_negative hour minute
 unfolding signed_offset_of
 seconds_of true hour minute = refl
 seconds_of false hour minute = refl
@@ -31,11 +28,9 @@ abbrev pub IsAllOffset : Option (WrittenOffset × List ℕ) → ℤ → Type 0
 IsAllOffset read minutes =
     (o : WrittenOffset) × (read ≡ Some (o, [])) × (offset_of o.hour o.minute (unwrap_or o.second (pos 0)) ≡ Ok (pos 60 *ℤ minutes))
 
-minute_there : (bytes : List ℕ) (minute : ℕ) → digits 2 bytes ≡ Some (minute, []) → minute ≤ 59 → offset_minute bytes ≡ Some (minute, [])
+pub minute_there : (bytes : List ℕ) (minute : ℕ) → digits 2 bytes ≡ Some (minute, []) → minute ≤ 59 → offset_minute bytes ≡ Some (minute, [])
 unfolding offset_minute
-minute_there bytes minute e le =
-    let yes : leb minute 59 ≡ true = grind (arith, nat_tests) in
-    rw e (rw yes refl)
+minute_there bytes minute e few = rw (e, le-leb minute 59 few) refl
 
 not_zulu : (kind : Kind) (bytes : List ℕ) → byte upper_z bytes ≡ None → offset kind bytes ≡ signed_offset kind bytes
 unfolding offset

@@ -1,6 +1,6 @@
 -- A time of day by its pieces, of the extended kind and of the basic one.
-use Rattle.std.proofs.Common.{◌≡◌, ℕ, ◌+◌, ◌<◌, ◌≤◌, ◌==◌, true, false, leb, List, length, take, drop, Option, Some, None, refl, ◌∙◌, arith, lit<}
-use Rattle.std.specs.Prelude.{nat_lt}
+use Rattle.std.proofs.Common.{◌≡◌, ℕ, ◌+◌, ◌<◌, ◌≤◌, ◌==◌, true, false, List, length, take, drop, Option, Some, None, refl, ◌∙◌, arith, lit<}
+use Rattle.std.proofs.lemmas.Bool.{le-leb, lt-ltb}
 use Rattle.std.proofs.lemmas.Bool.Decides.{nat_tests}
 use Rattle.base.specs.Bytes.{colon}
 use Rattle.parsing_combinator.specs.Pieces.{digits, digit_count, digit_run, fraction, byte}
@@ -33,25 +33,15 @@ pub time_of_pieces : (b0 b1 b2 b3 b4 b5 b6 rest : List ℕ) (h m s : ℕ) (run :
     → time Extended true b0 ≡ Some ((time_of h m s (subsecond_of run), Extended), rest)
 unfolding time designator from_hour kind_of_time minutes from_minute seconds extended_seconds due_second to_second
 time_of_pieces b0 b1 b2 b3 b4 b5 b6 rest h m s run p0 p1 p2 p3 p4 p5 p6 hh hm hs hn =
-    let hour = before_colon b1 h b2 b3 p1 p2 in
-    let minute = before_colon b3 m b4 b5 p3 p4 in
-    let second = number_of b5 s b6 run rest p5 p6 in
-    let th : leb h 23 ≡ true = grind (arith, nat_tests) in
-    let tm : leb m 59 ≡ true = grind (arith, nat_tests) in
-    let ts : leb s 60 ≡ true = grind (arith, nat_tests) in
-    let tn : nat_lt (subsecond_of run) 1_000_000_000 ≡ true = grind (arith, nat_tests) in
-    rw p0 (rw hour (rw th (rw p2 (rw minute (rw tm (rw p4 (rw second (rw ts (rw tn refl)))))))))
+    rw (p0, before_colon b1 h b2 b3 p1 p2, le-leb h 23 hh, p2, before_colon b3 m b4 b5 p3 p4, le-leb m 59 hm, p4, number_of b5 s b6 run rest p5 p6)
+    (rw (le-leb s 60 hs, lt-ltb (subsecond_of run) 1_000_000_000 hn) refl)
 
 -- the time to a minute, after which no second stands
 pub minutes_of_pieces : (b0 b1 b2 b3 b4 : List ℕ) (h m : ℕ) → byte time_designator b0 ≡ Some (tt, b1) → digits 2 b1 ≡ Some (h, b2) → byte colon b2 ≡ Some (tt, b3) → digits 2 b3 ≡ Some (m, b4) → decimal_mark b4 ≡ None → byte colon b4 ≡ None
     → h ≤ 23 → m ≤ 59 → time Extended true b0 ≡ Some ((time_of h m 0 0, Extended), b4)
 unfolding time designator from_hour kind_of_time minutes from_minute seconds extended_seconds
 minutes_of_pieces b0 b1 b2 b3 b4 h m p0 p1 p2 p3 unmarked colonless hh hm =
-    let hour = before_colon b1 h b2 b3 p1 p2 in
-    let minute = whole_number b3 m b4 p3 unmarked in
-    let th : leb h 23 ≡ true = grind (arith, nat_tests) in
-    let tm : leb m 59 ≡ true = grind (arith, nat_tests) in
-    rw p0 (rw hour (rw th (rw p2 (rw minute (rw tm (rw colonless refl))))))
+    rw (p0, before_colon b1 h b2 b3 p1 p2, le-leb h 23 hh, p2, whole_number b3 m b4 p3 unmarked, le-leb m 59 hm, colonless) refl
 
 pub before_digits : (bytes : List ℕ) (n : ℕ) (rest : List ℕ) (x : ℕ × List ℕ) → digits 2 bytes ≡ Some (n, rest) → digits 2 rest ≡ Some x → number bytes ≡ Some ((n, None), rest)
 before_digits bytes n rest x e f = whole_number bytes n rest e (no_mark 2 rest x (lit< tt) f)
@@ -62,15 +52,8 @@ pub basic_time_of_pieces : (b0 b1 b2 b3 b4 rest : List ℕ) (h m s : ℕ) (run :
     → time Basic true b0 ≡ Some ((time_of h m s (subsecond_of run), Basic), rest)
 unfolding time designator from_hour kind_of_time minutes from_minute seconds basic_seconds to_second
 basic_time_of_pieces b0 b1 b2 b3 b4 rest h m s run p0 p1 p2 p3 p4 hh hm hs hn =
-    let hour = before_digits b1 h b2 (m, b3) p1 p2 in
-    let minute = before_digits b2 m b3 (s, b4) p2 p3 in
-    let second = number_of b3 s b4 run rest p3 p4 in
-    let colonless = no_byte colon 2 b2 (m, b3) refl (lit< tt) p2 in
-    let th : leb h 23 ≡ true = grind (arith, nat_tests) in
-    let tm : leb m 59 ≡ true = grind (arith, nat_tests) in
-    let ts : leb s 60 ≡ true = grind (arith, nat_tests) in
-    let tn : nat_lt (subsecond_of run) 1_000_000_000 ≡ true = grind (arith, nat_tests) in
-    rw p0 (rw hour (rw th (rw colonless (rw minute (rw tm (rw second (rw ts (rw tn refl))))))))
+    rw (p0, before_digits b1 h b2 (m, b3) p1 p2, le-leb h 23 hh, no_byte colon 2 b2 (m, b3) refl (lit< tt) p2, before_digits b2 m b3 (s, b4) p2 p3)
+    (rw (le-leb m 59 hm, number_of b3 s b4 run rest p3 p4, le-leb s 60 hs, lt-ltb (subsecond_of run) 1_000_000_000 hn) refl)
 
 no_number : (bytes : List ℕ) → digits 2 bytes ≡ None → number bytes ≡ None
 unfolding number
@@ -81,12 +64,8 @@ pub basic_minutes_of_pieces : (b0 b1 b2 b3 : List ℕ) (h m : ℕ) → byte time
     → h ≤ 23 → m ≤ 59 → time Basic true b0 ≡ Some ((time_of h m 0 0, Basic), b3)
 unfolding time designator from_hour kind_of_time minutes from_minute seconds basic_seconds
 basic_minutes_of_pieces b0 b1 b2 b3 h m p0 p1 p2 unmarked none hh hm =
-    let hour = before_digits b1 h b2 (m, b3) p1 p2 in
-    let minute = whole_number b2 m b3 p2 unmarked in
-    let colonless = no_byte colon 2 b2 (m, b3) refl (lit< tt) p2 in
-    let th : leb h 23 ≡ true = grind (arith, nat_tests) in
-    let tm : leb m 59 ≡ true = grind (arith, nat_tests) in
-    rw p0 (rw hour (rw th (rw colonless (rw minute (rw tm (rw (no_number b3 none) refl))))))
+    rw (p0, before_digits b1 h b2 (m, b3) p1 p2, le-leb h 23 hh, no_byte colon 2 b2 (m, b3) refl (lit< tt) p2)
+    (rw (whole_number b2 m b3 p2 unmarked, le-leb m 59 hm, no_number b3 none) refl)
 
 -- ---- fractions
 

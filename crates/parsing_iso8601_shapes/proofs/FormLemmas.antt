@@ -14,7 +14,7 @@ use Rattle.parsing_iso8601_shapes.specs.declared.forms.Row.{Row}
 use Rattle.parsing_iso8601_shapes.specs.declared.forms.TheConstants.{TABLE}
 
 abbrev none : Row
-none = record { low = []; above = []; lanes = []; back_low = []; back_above = []; back_lanes = []; back_at = 0; length = 0; dating = Calendar; is_extended = false }
+none = record { low = []; above = []; lanes = []; back = record { low = []; above = []; lanes = []; at = 0 }; length = 0; dating = Calendar; is_extended = false }
 
 abbrev pub row : ℕ → Row
 row at = get_or TABLE at none
@@ -25,58 +25,47 @@ passes test at all lt = agree_below_at (λ k. test (row k)) (λ _. true) 12 at a
 pub front_moves : (at : ℕ) → at < 12 → are_moves (row at).lanes ≡ true
 front_moves at lt = passes (λ r. are_moves r.lanes) at refl lt
 
-pub back_moves : (at : ℕ) → at < 12 → are_moves (row at).back_lanes ≡ true
-back_moves at lt = passes (λ r. are_moves r.back_lanes) at refl lt
+pub back_moves : (at : ℕ) → at < 12 → are_moves (row at).back.lanes ≡ true
+back_moves at lt = passes (λ r. are_moves r.back.lanes) at refl lt
 
 far : (a b : ℕ) → ((a == 0) || nat_le (a + 16) b) ≡ true → 0 < a → a + 16 ≤ b
 far a b e some = grind (arith, nat_tests)
 
-pub within : (at : ℕ) → at < 12 → 0 < (row at).back_at → (row at).back_at + 16 ≤ (row at).length
-within at lt = far _ _ (passes (λ r. (r.back_at == 0) || nat_le (r.back_at + 16) r.length) at refl lt)
+pub within : (at : ℕ) → at < 12 → 0 < (row at).back.at → (row at).back.at + 16 ≤ (row at).length
+within at lt = far _ _ (passes (λ r. (r.back.at == 0) || nat_le (r.back.at + 16) r.length) at refl lt)
 
 -- the windows of a row
-abbrev pub windows_of : (r : Row) → are_moves r.lanes ≡ true → are_moves r.back_lanes ≡ true → Windows
-windows_of r p q = record { prefix = record { low = r.low; high = r.above; taken = record { lanes = r.lanes; right = p } }; back = record { low = r.back_low; high = r.back_above; taken = record { lanes = r.back_lanes; right = q } }; back_at = r.back_at }
-
-pub bounds : (at : ℕ) → at < 12 → (p : are_moves (row at).lanes ≡ true) (q : are_moves (row at).back_lanes ≡ true) → (lets_year (windows_of (row at) p q) (row at).length 0 ≡ true) × (are_bounded (windows_of (row at) p q) true ≡ true)
-bounds zero lt p q = (refl, refl)
-bounds (suc zero) lt p q = (refl, refl)
-bounds (suc (suc zero)) lt p q = (refl, refl)
-bounds (suc (suc (suc zero))) lt p q = (refl, refl)
-bounds (suc (suc (suc (suc zero)))) lt p q = (refl, refl)
-bounds (suc (suc (suc (suc (suc zero))))) lt p q = (refl, refl)
-bounds (suc (suc (suc (suc (suc (suc zero)))))) lt p q = (refl, refl)
-bounds (suc (suc (suc (suc (suc (suc (suc zero))))))) lt p q = (refl, refl)
-bounds (suc (suc (suc (suc (suc (suc (suc (suc zero)))))))) lt p q = (refl, refl)
-bounds (suc (suc (suc (suc (suc (suc (suc (suc (suc zero))))))))) lt p q = (refl, refl)
-bounds (suc (suc (suc (suc (suc (suc (suc (suc (suc (suc zero)))))))))) lt p q = (refl, refl)
-bounds (suc (suc (suc (suc (suc (suc (suc (suc (suc (suc (suc zero))))))))))) lt p q = (refl, refl)
-bounds (suc (suc (suc (suc (suc (suc (suc (suc (suc (suc (suc (suc n)))))))))))) lt p q = absurd (omega (arith, lt))
+abbrev pub windows_of : (r : Row) → are_moves r.lanes ≡ true → are_moves r.back.lanes ≡ true → Windows
+windows_of r p q = record { prefix = record { low = r.low; high = r.above; taken = record { lanes = r.lanes; right = p } }; back = record { low = r.back.low; high = r.back.above; taken = record { lanes = r.back.lanes; right = q } }; back_at = r.back.at }
 
 -- the shape of a row was made for its layout
-abbrev pub shape_of : (r : Row) (p : are_moves r.lanes ≡ true) (q : are_moves r.back_lanes ≡ true) → (0 < r.back_at → r.back_at + 16 ≤ r.length) → lets_year (windows_of r p q) r.length 0 ≡ true → are_bounded (windows_of r p q) true ≡ true → Shape
+abbrev pub shape_of : (r : Row) (p : are_moves r.lanes ≡ true) (q : are_moves r.back.lanes ≡ true) → (0 < r.back.at → r.back.at + 16 ≤ r.length) → lets_year (windows_of r p q) r.length 0 ≡ true → are_bounded (windows_of r p q) true ≡ true → Shape
 shape_of r p q near year bounded = record { windows = windows_of r p q; length = r.length; has_tail = true; year = 0; within = near; year_is = year; bounded = bounded }
 
-fits_by : (at : ℕ) → at < 12 → (p : are_moves (row at).lanes ≡ true) (q : are_moves (row at).back_lanes ≡ true) (a : 0 < (row at).back_at → (row at).back_at + 16 ≤ (row at).length) (b : lets_year (windows_of (row at) p q) (row at).length 0 ≡ true) (d : are_bounded (windows_of (row at) p q) true ≡ true)
-    → fits (shape_of (row at) p q a b d) (front_parts (row at).dating (row at).is_extended (nat_lt at 6)) ≡ true
-fits_by zero lt p q a b d = refl
-fits_by (suc zero) lt p q a b d = refl
-fits_by (suc (suc zero)) lt p q a b d = refl
-fits_by (suc (suc (suc zero))) lt p q a b d = refl
-fits_by (suc (suc (suc (suc zero)))) lt p q a b d = refl
-fits_by (suc (suc (suc (suc (suc zero))))) lt p q a b d = refl
-fits_by (suc (suc (suc (suc (suc (suc zero)))))) lt p q a b d = refl
-fits_by (suc (suc (suc (suc (suc (suc (suc zero))))))) lt p q a b d = refl
-fits_by (suc (suc (suc (suc (suc (suc (suc (suc zero)))))))) lt p q a b d = refl
-fits_by (suc (suc (suc (suc (suc (suc (suc (suc (suc zero))))))))) lt p q a b d = refl
-fits_by (suc (suc (suc (suc (suc (suc (suc (suc (suc (suc zero)))))))))) lt p q a b d = refl
-fits_by (suc (suc (suc (suc (suc (suc (suc (suc (suc (suc (suc zero))))))))))) lt p q a b d = refl
-fits_by (suc (suc (suc (suc (suc (suc (suc (suc (suc (suc (suc (suc n)))))))))))) lt p q a b d = absurd (omega (arith, lt))
+-- what is so of each row
+abbrev Right : ℕ → Type 0
+Right at = (p : are_moves (row at).lanes ≡ true) (q : are_moves (row at).back.lanes ≡ true) → (lets_year (windows_of (row at) p q) (row at).length 0 ≡ true) × (are_bounded (windows_of (row at) p q) true ≡ true)
+    × ((a : 0 < (row at).back.at → (row at).back.at + 16 ≤ (row at).length) (b : lets_year (windows_of (row at) p q) (row at).length 0 ≡ true) (d : are_bounded (windows_of (row at) p q) true ≡ true) → fits (shape_of (row at) p q a b d) (front_parts (row at).dating (row at).is_extended (nat_lt at 6)) ≡ true)
+
+pub right : (at : ℕ) → at < 12 → Right at
+right zero lt = λ p q. (refl, refl, λ a b d. refl)
+right (suc zero) lt = λ p q. (refl, refl, λ a b d. refl)
+right (suc (suc zero)) lt = λ p q. (refl, refl, λ a b d. refl)
+right (suc (suc (suc zero))) lt = λ p q. (refl, refl, λ a b d. refl)
+right (suc (suc (suc (suc zero)))) lt = λ p q. (refl, refl, λ a b d. refl)
+right (suc (suc (suc (suc (suc zero))))) lt = λ p q. (refl, refl, λ a b d. refl)
+right (suc (suc (suc (suc (suc (suc zero)))))) lt = λ p q. (refl, refl, λ a b d. refl)
+right (suc (suc (suc (suc (suc (suc (suc zero))))))) lt = λ p q. (refl, refl, λ a b d. refl)
+right (suc (suc (suc (suc (suc (suc (suc (suc zero)))))))) lt = λ p q. (refl, refl, λ a b d. refl)
+right (suc (suc (suc (suc (suc (suc (suc (suc (suc zero))))))))) lt = λ p q. (refl, refl, λ a b d. refl)
+right (suc (suc (suc (suc (suc (suc (suc (suc (suc (suc zero)))))))))) lt = λ p q. (refl, refl, λ a b d. refl)
+right (suc (suc (suc (suc (suc (suc (suc (suc (suc (suc (suc zero))))))))))) lt = λ p q. (refl, refl, λ a b d. refl)
+right (suc (suc (suc (suc (suc (suc (suc (suc (suc (suc (suc (suc n)))))))))))) lt = absurd (omega (arith, lt))
 
 second_of : (form at : ℕ) (s : Bool) → form < 6 → at ≡ row_of form s → nat_lt at 6 ≡ s
 second_of form at true lt is = grind (arith, nat_tests)
 second_of form at false lt is = grind (arith, nat_tests)
 
-pub row_fits : (form at : ℕ) (s : Bool) → form < 6 → at ≡ row_of form s → at < 12 → (p : are_moves (row at).lanes ≡ true) (q : are_moves (row at).back_lanes ≡ true) (a : 0 < (row at).back_at → (row at).back_at + 16 ≤ (row at).length) (b : lets_year (windows_of (row at) p q) (row at).length 0 ≡ true) (d : are_bounded (windows_of (row at) p q) true ≡ true)
+pub row_fits : (form at : ℕ) (s : Bool) → form < 6 → at ≡ row_of form s → at < 12 → (p : are_moves (row at).lanes ≡ true) (q : are_moves (row at).back.lanes ≡ true) (a : 0 < (row at).back.at → (row at).back.at + 16 ≤ (row at).length) (b : lets_year (windows_of (row at) p q) (row at).length 0 ≡ true) (d : are_bounded (windows_of (row at) p q) true ≡ true)
     → fits (shape_of (row at) p q a b d) (front_parts (row at).dating (row at).is_extended s) ≡ true
-row_fits form at s small is lt p q a b d = rw (second_of form at s small is) at (fits_by at lt p q a b d)
+row_fits form at s small is lt p q a b d = rw (second_of form at s small is) at ((right at lt p q).2 a b d)

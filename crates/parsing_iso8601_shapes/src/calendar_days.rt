@@ -75,6 +75,7 @@ static FIRST_THURSDAYS: [u8; 400] = *b"\
     05432065421064321654310653210543206542106432165431065321054320654210643216543106";
 
 // The days from the first one of a year to its first Thursday.
+#[tactic(auto, using(crate::proofs::DayLemmas::thursday_by))]
 #[inline(always)]
 fn first_thursday(century: u8, last_two: u8) -> u32
     requires century { century ≤ 99 }

@@ -1,31 +1,21 @@
 -- A comment of plain text, with one space before it and nothing after it.
 use Rattle.std.proofs.Common.{◌≡◌, ◌≤◌, ◌-◌, ℕ, suc, false, true, List, [], ◌∷◌, ◌++◌, length, get_or, take, drop, Some, None, eqb, refl, ap, ◌∙◌, arith, lit<}
 use Rattle.std.specs.List.{list_all}
-use Rattle.std.proofs.lemmas.Bool.{ne_eqb, and_parts}
+use Rattle.std.proofs.lemmas.Bool.{and_parts}
+use Rattle.std.proofs.lemmas.Bool.Decides.{nat_tests}
 use Rattle.parsing_rfc2822.specs.Skips.{many, byte_where}
 use Rattle.parsing_rfc2822.specs.WhiteSpace.{is_comment_text, lone_white, folding_white_space, quoted_pair, content, white_or_comment, comments_and_white_space}
 use Rattle.parsing_rfc2822.proofs.WhiteSpaceLemmas.{folding_other, contents_step, contents_end, comment_read, comment_not_open, white_step, white_end, white_none_of_empty}
 
-no_text : (c d : ℕ) → is_comment_text c ≡ true → is_comment_text d ≡ false → eqb c d ≡ false
-no_text c d h n = ne_eqb c d (λ e. absurd (let other : is_comment_text d ≡ true = rw e at h in cc))
-
-no_return : is_comment_text 13 ≡ false
+text_apart : (c : ℕ) → is_comment_text c ≡ true → (eqb c 13 ≡ false) × (eqb c 32 ≡ false) × (eqb c 9 ≡ false)
 unfolding is_comment_text
-no_return = refl
-
-no_space : is_comment_text 32 ≡ false
-unfolding is_comment_text
-no_space = refl
-
-no_tab : is_comment_text 9 ≡ false
-unfolding is_comment_text
-no_tab = refl
+text_apart c h = (grind (arith, nat_tests), grind (arith, nat_tests), grind (arith, nat_tests))
 
 text_step : (level c : ℕ) (rest : List ℕ) → is_comment_text c ≡ true → content level (c ∷ rest) ≡ Some rest
 unfolding content byte_where
 text_step level c rest h =
-    let none = folding_other c rest (no_text c 13 h no_return) (no_text c 32 h no_space) (no_text c 9 h no_tab) in
-    rw (none, h) refl
+    let apart = text_apart c h in
+    rw (folding_other c rest apart.0 apart.1 apart.2, h) refl
 
 closed : (level : ℕ) (rest : List ℕ) → content level (41 ∷ rest) ≡ None
 unfolding content quoted_pair is_comment_text byte_where

@@ -6,58 +6,64 @@ use Rattle.std.specs.Borrow.{Bor}
 use Rattle.std.specs.Prelude.{◌↔◌, IfOk, IfSome, codes, option_map, nat_le}
 use Rattle.std.specs.Int.{IsInRange}
 use Rattle.calendar_count.specs.declared.weekday.Weekday.{Weekday}
-use Rattle.parsing_combinator.specs.Fault.{Fault, literal, component}
+use Rattle.parsing_combinator.specs.Fault.{Fault, literal}
 use Rattle.parsing_combinator.specs.FaultOf.{Gives, reading_fault}
-use Rattle.parsing_combinator.specs.Pieces.{digits, sign, byte_of}
+use Rattle.parsing_combinator.specs.Pieces.{sign, byte_of}
 use Rattle.parsing_combinator.specs.Readings.{piece_or, give, then_read, within}
 use Rattle.parsing_combinator.specs.declared.fault.ParseFromDescription.{ParseFromDescription}
 use Rattle.parsing_combinator.specs.declared.zone.Zone.{Zone}
-use Rattle.parsing_combinator.proofs.lemmas.Strict.{Narrows, Says, given, denied, then_misses, then_narrows, plain_then, checked, entered_narrows, within_yes, within_no, same_narrows, narrows_iff, strict_passes}
+use Rattle.parsing_combinator.proofs.lemmas.Strict.{Misses, Narrows, Says, given, denied, then_misses, then_narrows, plain_then, checked, entered_narrows, within_yes, within_no, same_narrows, narrows_iff, strict_passes}
 use Rattle.parsing_rfc2822.specs.Skips.{optional, past}
 use Rattle.parsing_rfc2822.specs.WhiteSpace.{comments_and_white_space}
 use Rattle.parsing_rfc2822.specs.declared.parts.Rfc2822Parts.{Rfc2822Parts}
 use Rattle.parsing_rfc2822.specs.Names.{is_name, is_military, lookup, zones, zone_of, military_zone, short_zone, zone_name}
 use Rattle.parsing_rfc2822.specs.Range.{AreInRange}
-use Rattle.parsing_rfc2822.specs.Reading.{spaced_colon, one_or_two_digits, optional_weekday, day, month_and_year, hour_and_minute, due_second, second, clock, signed_zone, named_zone, zone, spaced_zone, rfc2822}
+use Rattle.parsing_rfc2822.specs.Reading.{day, month_and_year, hour_and_minute, due_second, second, clock, signed_zone, named_zone, zone, spaced_zone, rfc2822}
+
+-- a check of the strict reading tells of its number
+most : (n low high : ℕ) → within true low high n ≡ true → n ≤ high
+most n low high e = (within_yes low high n e).1
+
+both : {A B : Type 0} → A → B → A × B
+both a b = (a, b)
+
+ruleset narrows = (plain_then, checked, given, then_misses, entered_narrows, most, within_yes, both)
 
 abbrev is_day : Option Weekday × ℕ → Type 0
 is_day x = IsInRange 1 31 x.1
 
+no_day : (w : Option Weekday) (n : ℕ) (bytes : List ℕ) → within true 1 31 n ≡ false → Misses is_day (Ok ((w, n), bytes))
+no_day w n bytes out = denied _ _ bytes (within_no 1 31 n out)
+
 day_narrows : (bytes : List ℕ) → Narrows is_day (day true bytes) (day false bytes)
 unfolding day
-day_narrows b0 =
-    plain_then is_day (optional_weekday (optional comments_and_white_space b0)) _ _ (λ w b1.
-    plain_then is_day (piece_or (component (codes "day")) (one_or_two_digits b1)) _ _ (λ n b2.
-    checked is_day (within true 1 31 n) (component (codes "day")) _ _ b2 (λ yes. given is_day (w, n) b2 (within_yes 1 31 n yes)) (λ no. denied is_day (w, n) b2 (within_no 1 31 n no))))
+day_narrows b0 = search (narrows, no_day) depth 20 fits 5000
 
 abbrev is_hour_and_minute : ℕ × ℕ → Type 0
 is_hour_and_minute x = (x.0 ≤ 23) × (x.1 ≤ 59)
 
+no_hour : (h m : ℕ) (bytes : List ℕ) → within true 0 23 h ≡ false → Misses is_hour_and_minute (Ok ((h, m), bytes))
+no_hour h m bytes out = denied _ _ bytes (λ p. within_no 0 23 h out (omega arith, p.0))
+
+no_minute : (h m : ℕ) (bytes : List ℕ) → within true 0 59 m ≡ false → Misses is_hour_and_minute (Ok ((h, m), bytes))
+no_minute h m bytes out = denied _ _ bytes (λ p. within_no 0 59 m out (omega arith, p.1))
+
 hour_and_minute_narrows : (bytes : List ℕ) → Narrows is_hour_and_minute (hour_and_minute true bytes) (hour_and_minute false bytes)
 unfolding hour_and_minute
-hour_and_minute_narrows b0 =
-    plain_then is_hour_and_minute (piece_or (component (codes "hour")) (digits 2 b0)) _ _ (λ h b1.
-    checked is_hour_and_minute (within true 0 23 h) (component (codes "hour")) _ _ b1
-    (λ yes.
-    plain_then is_hour_and_minute (piece_or literal (past spaced_colon b1)) _ _ (λ between b2.
-    plain_then is_hour_and_minute (piece_or (component (codes "minute")) (digits 2 b2)) _ _ (λ m b3.
-    checked is_hour_and_minute (within true 0 59 m) (component (codes "minute")) _ _ b3 (λ fits. given is_hour_and_minute (h, m) b3 ((within_yes 0 23 h yes).1, (within_yes 0 59 m fits).1)) (λ no. denied is_hour_and_minute (h, m) b3 (λ p. within_no 0 59 m no (omega arith, p.1))))))
-    (λ no.
-    then_misses is_hour_and_minute (piece_or literal (past spaced_colon b1)) _ (λ between b2.
-    then_misses is_hour_and_minute (piece_or (component (codes "minute")) (digits 2 b2)) _ (λ m b3. denied is_hour_and_minute (h, m) b3 (λ p. within_no 0 23 h no (omega arith, p.0))))))
+hour_and_minute_narrows b0 = search (narrows, no_hour, no_minute) depth 20 fits 5000
 
 abbrev is_second : Option ℕ → Type 0
 is_second o = IfSome o (λ n. n ≤ 60)
 
-due_second_narrows : (bytes : List ℕ) → Narrows is_second (due_second true bytes) (due_second false bytes)
-unfolding due_second
-due_second_narrows b0 =
-    plain_then is_second (piece_or (component (codes "second")) (digits 2 b0)) _ _ (λ n b1.
-    checked is_second (within true 0 60 n) (component (codes "second")) _ _ b1 (λ yes. given is_second (Some n) b1 (within_yes 0 60 n yes).1) (λ no. denied is_second (Some n) b1 (λ p. within_no 0 60 n no (omega arith, p))))
+no_second : (n : ℕ) (bytes : List ℕ) → within true 0 60 n ≡ false → Misses is_second (Ok (Some n, bytes))
+no_second n bytes out = denied _ _ bytes (λ p. within_no 0 60 n out (omega arith, p))
+
+none_given : (bytes : List ℕ) → Narrows is_second (Ok (None, bytes)) (Ok (None, bytes))
+none_given bytes = given is_second None bytes tt
 
 second_narrows : (bytes : List ℕ) → Narrows is_second (second true bytes) (second false bytes)
-unfolding second
-second_narrows b0 = entered_narrows is_second (past spaced_colon b0) (λ between. due_second true) (λ between. due_second false) (give None) (give None) b0 (λ between rest. due_second_narrows rest) (given is_second None b0 tt)
+unfolding second due_second
+second_narrows b0 = search (narrows, no_second, none_given) depth 20 fits 5000
 
 abbrev is_clock : ℕ × ℕ × Option ℕ → Type 0
 is_clock x = (x.0 ≤ 23) × (x.1 ≤ 59) × is_second x.2
@@ -76,16 +82,15 @@ clock_narrows b0 =
 abbrev is_zone : Zone → Type 0
 is_zone z = (z.hours ≤ 25) × (z.minutes ≤ 59)
 
+no_hours : (z : Zone) (bytes : List ℕ) → within true 0 25 z.hours ≡ false → Misses is_zone (Ok (z, bytes))
+no_hours z bytes out = denied _ _ bytes (λ p. within_no 0 25 z.hours out (omega arith, p.0))
+
+no_minutes : (z : Zone) (bytes : List ℕ) → within true 0 59 z.minutes ≡ false → Misses is_zone (Ok (z, bytes))
+no_minutes z bytes out = denied _ _ bytes (λ p. within_no 0 59 z.minutes out (omega arith, p.1))
+
 signed_zone_narrows : (s : ℕ) (bytes : List ℕ) → Narrows is_zone (signed_zone true s bytes) (signed_zone false s bytes)
 unfolding signed_zone
-signed_zone_narrows s b0 =
-    plain_then is_zone (piece_or (component (codes "offset hour")) (digits 2 b0)) _ _ (λ h b1.
-    checked is_zone (within true 0 25 h) (component (codes "offset hour")) _ _ b1
-    (λ yes.
-    plain_then is_zone (piece_or (component (codes "offset minute")) (digits 2 b1)) _ _ (λ m b2.
-    checked is_zone (within true 0 59 m) (component (codes "offset minute")) _ _ b2 (λ fits. given is_zone _ b2 ((within_yes 0 25 h yes).1, (within_yes 0 59 m fits).1)) (λ no. denied is_zone _ b2 (λ p. within_no 0 59 m no (omega arith, p.1)))))
-    (λ no.
-    then_misses is_zone (piece_or (component (codes "offset minute")) (digits 2 b1)) _ (λ m b2. denied is_zone _ b2 (λ p. within_no 0 25 h no (omega arith, p.0)))))
+signed_zone_narrows s b0 = search (narrows, no_hours, no_minutes) depth 20 fits 5000
 
 -- an optional number of at most 8, which no zone's hours exceed
 record IsSmall (o : Option ℕ) : Type 0 where

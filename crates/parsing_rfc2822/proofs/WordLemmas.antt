@@ -1,10 +1,10 @@
 -- A name is compared as one number.
-use Rattle.std.proofs.Common.{◌≡◌, ℕ, ◌+◌, ◌*◌, ◌/◌, ◌%◌, ◌<◌, ◌≤◌, ◌&&◌, Bool, true, false, cond, eqb, leb, List, [], ◌∷◌, length, get_or, Option, Some, None, refl, sym, ap, ◌∙◌, arith, inl, inr}
+use Rattle.std.proofs.Common.{◌≡◌, ℕ, ◌+◌, ◌-◌, ◌*◌, ◌/◌, ◌%◌, ◌<◌, ◌≤◌, ◌&&◌, Bool, true, false, cond, eqb, leb, List, [], ◌∷◌, length, get_or, Option, Some, None, refl, arith}
 use Rattle.std.specs.Prelude.{if◌then◌else◌, ◌==◌}
 use Rattle.std.specs.Int.Bits.{bit_or}
 use Rattle.std.specs.Char.{to_ascii_lowercase}
 use Rattle.std.specs.Str.{str_eq_ignore_ascii_case}
-use Rattle.std.proofs.lemmas.Bool.{agree_below_at, cases_lt, cases_eq, and_parts, eqb-true, leb-true, eq-eqb, ne_eqb}
+use Rattle.std.proofs.lemmas.Bool.{agree_below, agree_below_at, and_parts, eqb-true, leb-true}
 use Rattle.std.proofs.lemmas.Bool.Decides.{nat_tests}
 use Rattle.calendar_count.specs.declared.month.Month.{Month}
 use Rattle.calendar_count.specs.declared.weekday.Weekday.{Weekday}
@@ -17,55 +17,25 @@ small_is c lt = eqb-true _ _ (agree_below_at (λ n. eqb (bit_or n 32) (n / 64 * 
 pub small_fits : (c : ℕ) → c < 256 → small c < 256
 small_fits c lt = omega (arith, small_is c lt)
 
-big_letter : (c : ℕ) → 65 ≤ c → c ≤ 90 → to_ascii_lowercase c ≡ small c
-big_letter c low high =
-    let e : to_ascii_lowercase c ≡ c + 32 = grind (arith, nat_tests) in
-    e ∙ omega (arith, small_is c (omega arith))
-
 stays_small : (c : ℕ) → 97 ≤ c → c ≤ 122 → to_ascii_lowercase c ≡ c
 stays_small c low high = grind (arith, nat_tests)
 
-small_letter : (c : ℕ) → 97 ≤ c → c ≤ 122 → to_ascii_lowercase c ≡ small c
-small_letter c low high = stays_small c low high ∙ omega (arith, small_is c (omega arith))
-
-no_letter : (c x : ℕ) → c < 256 → 97 ≤ x → x ≤ 122 → (65 ≤ c → c ≤ 90 → ⊥) → (97 ≤ c → c ≤ 122 → ⊥) → eqb (to_ascii_lowercase c) x ≡ eqb (small c) x
-no_letter c x lt low high big little =
-    let same : to_ascii_lowercase c ≡ c = grind (arith, nat_tests) in
-    let is = small_is c lt in
-    let first : (to_ascii_lowercase c ≡ x → ⊥) = λ e. little (omega (arith, same)) (omega (arith, same)) in
-    let second : (small c ≡ x → ⊥) = λ e. elim (cases_lt c 96) [ inl a ↦ big (omega arith) (omega arith) | inr b ↦ little (omega arith) (omega arith) ] in
-    ne_eqb _ _ first ∙ sym (ne_eqb _ _ second)
-
 -- a small letter is the same as a byte in lower case and as a byte with the bit
+abbrev in_lower_case : ℕ → ℕ → Bool
+in_lower_case c k = eqb (to_ascii_lowercase c) (k + 97)
+
+abbrev with_the_bit : ℕ → ℕ → Bool
+with_the_bit c k = eqb (small c) (k + 97)
+
 same_letter : (c x : ℕ) → c < 256 → 97 ≤ x → x ≤ 122 → eqb (to_ascii_lowercase c) x ≡ eqb (small c) x
 same_letter c x lt low high =
-    elim (cases_lt c 65) [
-      | inl a ↦ no_letter c x lt low high (λ p q. absurd (omega arith)) (λ p q. absurd (omega arith))
-      | inr a ↦ elim (cases_lt 90 c) [
-        | inr b ↦ ap (λ (n : ℕ). eqb n x) (big_letter c a b)
-        | inl b ↦ elim (cases_lt c 97) [
-          | inl d ↦ no_letter c x lt low high (λ p q. absurd (omega arith)) (λ p q. absurd (omega arith))
-          | inr d ↦ elim (cases_lt 122 c) [
-            | inl e ↦ no_letter c x lt low high (λ p q. absurd (omega arith)) (λ p q. absurd (omega arith))
-            | inr e ↦ ap (λ (n : ℕ). eqb n x) (small_letter c d e)
-          ]
-        ]
-      ]
-    ]
+    let all : agree_below (in_lower_case c) (with_the_bit c) 26 ≡ true = agree_below_at (λ d. agree_below (in_lower_case d) (with_the_bit d) 26) (λ d. true) 256 c refl lt in
+    let same : x - 97 + 97 ≡ x = omega arith in
+    rw same at (agree_below_at (in_lower_case c) (with_the_bit c) 26 (x - 97) all (omega arith))
 
 -- three numbers of a byte each are compared as one
 pub three_as_one : (a b c x y z : ℕ) → a < 256 → b < 256 → c < 256 → x < 256 → y < 256 → z < 256 → (eqb a x && (eqb b y && (eqb c z && true))) ≡ eqb (a * 65_536 + b * 256 + c) (x * 65_536 + y * 256 + z)
-three_as_one a b c x y z ha hb hc hx hy hz =
-    elim (cases_eq a x) [
-      | inr n ↦ rw (ne_eqb a x n) (sym (ne_eqb _ _ (λ e. n (omega arith))))
-      | inl e ↦ elim (cases_eq b y) [
-        | inr n ↦ rw (eq-eqb a x e, ne_eqb b y n) (sym (ne_eqb _ _ (λ e. n (omega arith))))
-        | inl f ↦ elim (cases_eq c z) [
-          | inr n ↦ rw (eq-eqb a x e, eq-eqb b y f, ne_eqb c z n) (sym (ne_eqb _ _ (λ e. n (omega arith))))
-          | inl g ↦ rw (eq-eqb a x e, eq-eqb b y f, eq-eqb c z g) (sym (eq-eqb _ _ (omega arith)))
-        ]
-      ]
-    ]
+three_as_one a b c x y z ha hb hc hx hy hz = grind (arith, nat_tests)
 
 abbrev pub are_small : ℕ → ℕ → ℕ → Bool
 are_small x y z = (leb 97 x && leb x 122) && ((leb 97 y && leb y 122) && (leb 97 z && leb z 122))

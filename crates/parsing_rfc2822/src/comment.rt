@@ -45,31 +45,6 @@ fn text(bytes: &[u8]) -> Option<&[u8]>
     }
 }
 
-// A byte that a backslash can quote.
-#[tactic(auto, unfolding(crate::specs::Skips::byte_where))]
-fn quotable(bytes: &[u8]) -> Option<&[u8]>
-    ensures skips { option_map (λ r. r.now) result ≡ Skips.byte_where White.is_quotable bytes.now }
-    ensures shorter { IfSome result (λ r. length r.now < length bytes.now) }
-{
-    match bytes {
-        [b, rest @ ..] if is_quotable(*b) => Some(rest),
-        _ => None,
-    }
-}
-
-// A byte of obsolete text.
-#[tactic(auto, unfolding(crate::specs::Skips::byte_where))]
-fn obsolete_text(bytes: &[u8]) -> Option<&[u8]>
-    ensures skips { option_map (λ r. r.now) result
-        ≡ Skips.byte_where White.is_obsolete_text bytes.now }
-    ensures shorter { IfSome result (λ r. length r.now < length bytes.now) }
-{
-    match bytes {
-        [b, rest @ ..] if is_obsolete_text(*b) => Some(rest),
-        _ => None,
-    }
-}
-
 // Line feeds, then carriage returns, none of them due.
 #[tactic(auto, unfolding(crate::specs::WhiteSpace::past_line_ends))]
 fn past_line_ends(bytes: &[u8]) -> &[u8]
@@ -80,13 +55,15 @@ fn past_line_ends(bytes: &[u8]) -> &[u8]
 }
 
 // A byte of obsolete text, and the line feeds and carriage returns after it.
-#[tactic(auto, unfolding(crate::specs::WhiteSpace::obsolete_byte))]
+#[tactic(auto, unfolding(crate::specs::WhiteSpace::obsolete_byte, crate::specs::Skips::byte_where))]
 fn obsolete_byte(bytes: &[u8]) -> Option<&[u8]>
     ensures skips { option_map (λ r. r.now) result ≡ White.obsolete_byte bytes.now }
     ensures shorter { IfSome result (λ r. length r.now < length bytes.now) }
 {
-    let rest = obsolete_text(bytes)?;
-    Some(past_line_ends(rest))
+    match bytes {
+        [b, rest @ ..] if is_obsolete_text(*b) => Some(past_line_ends(rest)),
+        _ => None,
+    }
 }
 
 // The obsolete text after a backslash: it may be empty.
@@ -103,15 +80,15 @@ fn past_obsolete_text(bytes: &[u8]) -> &[u8]
 }
 
 // A backslash and what it quotes.
-#[tactic(auto, unfolding(crate::specs::WhiteSpace::quoted_pair, crate::specs::WhiteSpace::past_quoted))]
+#[tactic(auto, unfolding(crate::specs::WhiteSpace::quoted_pair, crate::specs::WhiteSpace::past_quoted, crate::specs::Skips::byte_where))]
 fn quoted_pair(bytes: &[u8]) -> Option<&[u8]>
     ensures skips { option_map (λ r. r.now) result ≡ White.quoted_pair bytes.now }
     ensures shorter { IfSome result (λ r. length r.now < length bytes.now) }
 {
     let rest = byte(b'\\', bytes)?;
-    match quotable(rest) {
-        Some(after) => Some(after),
-        None => Some(past_obsolete_text(rest)),
+    match rest {
+        [b, after @ ..] if is_quotable(*b) => Some(after),
+        _ => Some(past_obsolete_text(rest)),
     }
 }
 

@@ -5,7 +5,7 @@ use Rattle.std.specs.Char.{is_ascii_digit}
 use Rattle.std.specs.Option.{unwrap_or}
 use Rattle.std.proofs.lemmas.Bool.{cases_lt}
 use Rattle.std.proofs.lemmas.Bool.Decides.{nat_tests}
-use Rattle.std.proofs.lemmas.List.{drop-drop, get_or-drop, take_rest}
+use Rattle.std.proofs.lemmas.List.{drop-drop, drop_all, get_or-drop, take_rest}
 use Rattle.base.specs.Bytes.{space, colon, hyphen, plus}
 use Rattle.calendar.specs.Time.{time_of}
 use Rattle.calendar_count.specs.Month.{month_number}
@@ -319,11 +319,12 @@ usual_time bytes rest v minutes says ends is =
     let c = says_first second_parts offset_parts bytes rest v says in
     second_time bytes c.0 v (in_digits (v field.Sign) (v field.OffsetHour) (v field.OffsetMinute)) minutes c.1 (offset_read c.0 rest v c.2 ends) is
 
-pub usual_read : (count : ℕ) (text rest : List ℕ) (f : Fields) → (count ≡ 1) ⊎ (count ≡ 2) → SaysDate count usual_parts text rest f → optional comments_and_white_space rest ≡ [] → SaysFields text f
-usual_read count text rest f few d ends = text_read count usual_parts text rest f f (d.said.values field.Second) few d (λ bytes says. usual_time bytes rest d.said.values f.offset says ends d.said.offset_is.1) d.said.numbers
+pub usual_read : (count : ℕ) (text rest : List ℕ) → (count ≡ 1) ⊎ (count ≡ 2) → optional comments_and_white_space rest ≡ [] → (f : Fields) → SaysDate count usual_parts text rest f → SaysFields text f
+usual_read count text rest few ends f d = text_read count usual_parts text rest f f (d.said.values field.Second) few d (λ bytes says. usual_time bytes rest d.said.values f.offset says ends d.said.offset_is.1) d.said.numbers
 
-pub usual_alone : (count : ℕ) (text : List ℕ) (f : Fields) → (count ≡ 1) ⊎ (count ≡ 2) → SaysDate count usual_parts text [] f → SaysFields text f
-usual_alone count text f few d = usual_read count text [] f few d (rw none_of_nothing refl)
+-- a text of at most so many bytes has nothing after them
+pub ended : (n : ℕ) (text : List ℕ) → length text ≤ n → optional comments_and_white_space (drop n text) ≡ []
+ended n text all = rw (drop_all n text all, none_of_nothing) refl
 
 pub second_zone_read : (count : ℕ) (text rest : List ℕ) (date f : Fields) → (count ≡ 1) ⊎ (count ≡ 2) → SaysDate count second_parts text rest date → HasZone date rest f → SaysFields text f
 second_zone_read count text rest date f few d h =
@@ -333,24 +334,24 @@ second_zone_read count text rest date f few d h =
     (λ bytes says. second_time bytes rest v h.zone_is f.offset says h.in_zone h.minutes_are)
     (rw (n.same_year, n.same_month, n.same_day, n.same_minute, n.same_second, n.same_fraction) at h.numbers)
 
-pub minute_zone_read : (count : ℕ) (text : List ℕ) (date f : Fields) → (count ≡ 1) ⊎ (count ≡ 2) → SaysDate count minute_zone_parts text [] date → HaveNumbers f date.year date.month date.day date.minute 0 date.fraction date.offset → SaysFields text f
-minute_zone_read count text date f few d h =
+pub minute_zone_read : (count : ℕ) (text rest : List ℕ) (date f : Fields) → (count ≡ 1) ⊎ (count ≡ 2) → optional comments_and_white_space rest ≡ [] → SaysDate count minute_zone_parts text rest date → HaveNumbers f date.year date.month date.day date.minute 0 date.fraction date.offset → SaysFields text f
+minute_zone_read count text rest date f few ends d h =
     let v = d.said.values in
     let n = d.said.numbers in
-    text_read count minute_zone_parts text [] date f 0 few d
-    (λ bytes says. minute_time bytes [] v f.offset says (rw none_of_nothing refl) (rw h.same_offset d.said.offset_is.1))
+    text_read count minute_zone_parts text rest date f 0 few d
+    (λ bytes says. minute_time bytes rest v f.offset says ends (rw h.same_offset d.said.offset_is.1))
     (rw (n.same_year, n.same_month, n.same_day, n.same_minute, n.same_fraction, ← h.same_offset) at h)
 
-pub short_read : (count : ℕ) (text after : List ℕ) (year number : ℕ) (date f : Fields) → (count ≡ 1) ⊎ (count ≡ 2) → SaysNamed (short_from_day count) number text [] date → HasMonth (drop count text) number → digits 2 (drop (count + 5) text) ≡ Some (year, after)
+pub short_read : (count : ℕ) (text after rest : List ℕ) (year number : ℕ) (date f : Fields) → (count ≡ 1) ⊎ (count ≡ 2) → optional comments_and_white_space rest ≡ [] → SaysNamed (short_from_day count) number text rest date → HasMonth (drop count text) number → digits 2 (drop (count + 5) text) ≡ Some (year, after)
     → HaveNumbers f (if nat_lt year 50 then year + 2000 else year + 1900) date.month date.day date.minute date.second date.fraction date.offset → SaysFields text f
-short_read count text after year number date f few said there two h =
+short_read count text after rest year number date f few ends said there two h =
     let v = said.values in
     let n = said.numbers in
     let says = said.says in
     let cut = (digits_read count text (v field.Day) says.0 says.1).after in
     let m : HasMonth says.0 number = rw cut at there in
-    let split = says_first short_month_parts usual_parts says.0 [] v says.2 in
-    let t = usual_time split.0 [] v f.offset split.2 (rw none_of_nothing refl) (rw h.same_offset said.offset_is.1) in
+    let split = says_first short_month_parts usual_parts says.0 rest v says.2 in
+    let t = usual_time split.0 rest v f.offset split.2 ends (rw h.same_offset said.offset_is.1) in
     let pair : digits 2 (drop 5 (drop count text)) ≡ Some (year, after) = rw (drop-drop 5 count text) two in
     date_read f text says.0 split.0 v _ number (v field.Second) m.month_is (day_read count text says.0 split.1.0 (v field.Day) few says.1 (literal_said _ _ split.1.1))
     (short_month_read says.0 split.0 after v number year m split.1 (rw cut at pair) t.begins) m.number_is t (rw (n.same_month, n.same_day, n.same_minute, n.same_second, n.same_fraction, ← h.same_offset) at h) said.hour_few said.minute_few

@@ -16,8 +16,8 @@ ghost use Rattle.parsing_rfc2822_shapes.specs.Layout.{from_day, short_from_day};
 
 use crate::letters::{has_weekday, month_number};
 use crate::shape::{
-    one_digit, one_digit_short_year, one_digit_with_name, one_digit_without_second, two_digits,
-    two_digits_short_year, two_digits_with_name, two_digits_without_second,
+    ONE_DIGIT_SHORT_YEAR, ONE_DIGIT_USUAL, ONE_DIGIT_WITH_NAME, ONE_DIGIT_WITHOUT_SECOND,
+    TWO_DIGITS_SHORT_YEAR, TWO_DIGITS_USUAL, TWO_DIGITS_WITH_NAME, TWO_DIGITS_WITHOUT_SECOND,
 };
 use parsing_combinator::two_digits as digit_pair;
 use parsing_fields::{Fields, Year, has_day, offset_minutes};
@@ -84,9 +84,9 @@ fn read_usual(text: &[u8]) -> Option<Fields>
     ensures { IfSome result (SaysFields text.now) }
 {
     if text.len() == 25 {
-        return read_shape(&one_digit(), 1, text);
+        return read_shape(&ONE_DIGIT_USUAL, 1, text);
     }
-    read_shape(&two_digits(), 2, text)
+    read_shape(&TWO_DIGITS_USUAL, 2, text)
 }
 
 // The same with white space or comments after the offset.
@@ -99,17 +99,17 @@ fn read_spaced(text: &[u8]) -> Option<Fields>
         if !is_spacing(&text[25..]) {
             return None;
         }
-        return read_shape(&one_digit(), 1, text);
+        return read_shape(&ONE_DIGIT_USUAL, 1, text);
     }
     if !is_spacing(&text[26..]) {
         return None;
     }
-    read_shape(&two_digits(), 2, text)
+    read_shape(&TWO_DIGITS_USUAL, 2, text)
 }
 
 // The fields with the zone that three letters after a space name.
 #[inline(always)]
-fn with_name(fields: Fields, end: &[u8]) -> Option<Fields>
+fn with_name(mut fields: Fields, end: &[u8]) -> Option<Fields>
     requires { length end.now ≡ 4 }
     ensures { IfSome result (HasZone fields end.now) }
 {
@@ -117,15 +117,8 @@ fn with_name(fields: Fields, end: &[u8]) -> Option<Fields>
         return None;
     }
     let hours = zone_of(&end[1..])?;
-    Some(Fields {
-        year: fields.year,
-        month: fields.month,
-        day: fields.day,
-        minute: fields.minute,
-        offset: i32::from(offset_minutes(true, hours, 0)),
-        second: fields.second,
-        fraction: fields.fraction,
-    })
+    fields.offset = i32::from(offset_minutes(true, hours, 0));
+    Some(fields)
 }
 
 // The fields of a text that begins with its day and ends with a zone's name, with single spaces.
@@ -136,28 +129,21 @@ fn read_with_name(text: &[u8]) -> Option<Fields>
     ensures { IfSome result (SaysFields text.now) }
 {
     if text.len() == 23 {
-        let fields = read_shape(&one_digit_with_name(), 1, text)?;
+        let fields = read_shape(&ONE_DIGIT_WITH_NAME, 1, text)?;
         return with_name(fields, &text[19..]);
     }
-    let fields = read_shape(&two_digits_with_name(), 2, text)?;
+    let fields = read_shape(&TWO_DIGITS_WITH_NAME, 2, text)?;
     with_name(fields, &text[20..])
 }
 
 // Fields at the full minute.
 #[inline(always)]
-fn at_minute(fields: Fields) -> Fields
+fn at_minute(mut fields: Fields) -> Fields
     ensures { HaveNumbers result fields.year fields.month fields.day fields.minute 0
         fields.fraction fields.offset }
 {
-    Fields {
-        year: fields.year,
-        month: fields.month,
-        day: fields.day,
-        minute: fields.minute,
-        offset: fields.offset,
-        second: 0,
-        fraction: fields.fraction,
-    }
+    fields.second = 0;
+    fields
 }
 
 // The fields of a text that begins with its day and ends with an offset in digits, with single spaces and no second.
@@ -168,10 +154,10 @@ fn read_without_second(text: &[u8]) -> Option<Fields>
     ensures { IfSome result (SaysFields text.now) }
 {
     if text.len() == 22 {
-        let fields = read_shape(&one_digit_without_second(), 1, text)?;
+        let fields = read_shape(&ONE_DIGIT_WITHOUT_SECOND, 1, text)?;
         return Some(at_minute(fields));
     }
-    let fields = read_shape(&two_digits_without_second(), 2, text)?;
+    let fields = read_shape(&TWO_DIGITS_WITHOUT_SECOND, 2, text)?;
     Some(at_minute(fields))
 }
 
@@ -200,20 +186,13 @@ fn read_short_shape(shape: &Shape, count: usize, text: &[u8]) -> Option<Fields>
 {
     let month = month_number(&text[count..])?;
     let (year, _) = digit_pair(&text[count + 5..])?;
-    let date = read_named_moment(shape, month, text)?;
+    let mut date = read_named_moment(shape, month, text)?;
     let year = full_year(year);
     if !has_day(year, date.month, date.day) {
         return None;
     }
-    Some(Fields {
-        year,
-        month: date.month,
-        day: date.day,
-        minute: date.minute,
-        offset: date.offset,
-        second: date.second,
-        fraction: date.fraction,
-    })
+    date.year = year;
+    Some(date)
 }
 
 // The fields of a text that begins with its day and ends with an offset in digits, with single spaces and a year of two digits.
@@ -224,9 +203,9 @@ fn read_short_year(text: &[u8]) -> Option<Fields>
     ensures { IfSome result (SaysFields text.now) }
 {
     if text.len() == 23 {
-        return read_short_shape(&one_digit_short_year(), 1, text);
+        return read_short_shape(&ONE_DIGIT_SHORT_YEAR, 1, text);
     }
-    read_short_shape(&two_digits_short_year(), 2, text)
+    read_short_shape(&TWO_DIGITS_SHORT_YEAR, 2, text)
 }
 
 // The fields of a text that begins with its day, by how many bytes it has. (The name of a zone ends with a letter.)

@@ -1,8 +1,4 @@
 //! Where lanes take the parts of a text from its day on.
-ghost use Rattle.std.specs.Prelude.{◌≡◌, true};
-ghost use Rattle.parsing_layout.specs.Shape.{fits};
-ghost use Rattle.parsing_rfc2822_shapes.specs.Layout.{IsNamed, from_day, short_from_day};
-ghost use Rattle.parsing_rfc2822_shapes.specs.Layout.{second_parts, minute_zone_parts, usual_parts};
 
 use parsing_layout::Shape;
 use parsing_places::{Moves, Window, Windows};
@@ -35,13 +31,13 @@ const ONE_DIGIT: Window = Window {
 };
 
 // The same with a year of two digits, which lanes leave.
-const TWO_DIGITS_SHORT_YEAR: Window = Window {
+const TWO_DIGITS_AND_SHORT_YEAR: Window = Window {
     low: *b"00 \0\0\0 \0\0 00:00:",
     high: [9, 9, 0, 255, 255, 255, 0, 255, 255, 0, 2, 9, 0, 5, 9, 0],
     taken: DAY_OF_TWO_DIGITS,
 };
 
-const ONE_DIGIT_SHORT_YEAR: Window = Window {
+const ONE_DIGIT_AND_SHORT_YEAR: Window = Window {
     low: *b"0 \0\0\0 \0\0 00:00:0",
     high: [9, 0, 255, 255, 255, 0, 255, 255, 0, 2, 9, 0, 5, 9, 0, 5],
     taken: DAY_OF_ONE_DIGIT,
@@ -81,153 +77,97 @@ const MINUTE_AND_OFFSET: Window = Window {
 };
 
 /// The shape of `01 Jul 2003 10:52:37 +0200`.
-#[inline(always)]
-pub(crate) fn two_digits() -> Shape
-    ensures named { IsNamed result }
-    ensures long { result.length ≡ 26 }
-    ensures fits { fits result (from_day 2 usual_parts) ≡ true }
-{
-    Shape {
-        windows: Windows {
-            prefix: TWO_DIGITS,
-            back: CLOCK_AND_OFFSET,
-            back_at: 10,
-        },
-        length: 26,
-        has_tail: false,
-        year: 7,
-    }
-}
+pub(crate) const TWO_DIGITS_USUAL: Shape = Shape {
+    windows: Windows {
+        prefix: TWO_DIGITS,
+        back: CLOCK_AND_OFFSET,
+        back_at: 10,
+    },
+    length: 26,
+    has_tail: false,
+    year: 7,
+};
 
 /// The shape of `1 Jul 2003 10:52:37 +0200`.
-#[inline(always)]
-pub(crate) fn one_digit() -> Shape
-    ensures named { IsNamed result }
-    ensures long { result.length ≡ 25 }
-    ensures fits { fits result (from_day 1 usual_parts) ≡ true }
-{
-    Shape {
-        windows: Windows {
-            prefix: ONE_DIGIT,
-            back: CLOCK_AND_OFFSET,
-            back_at: 9,
-        },
-        length: 25,
-        has_tail: false,
-        year: 6,
-    }
-}
+pub(crate) const ONE_DIGIT_USUAL: Shape = Shape {
+    windows: Windows {
+        prefix: ONE_DIGIT,
+        back: CLOCK_AND_OFFSET,
+        back_at: 9,
+    },
+    length: 25,
+    has_tail: false,
+    year: 6,
+};
 
 /// The shape of `01 Jul 2003 10:52:37`, before a zone's name.
-#[inline(always)]
-pub(crate) fn two_digits_with_name() -> Shape
-    ensures named { IsNamed result }
-    ensures long { result.length ≡ 20 }
-    ensures fits { fits result (from_day 2 second_parts) ≡ true }
-{
-    Shape {
-        windows: Windows {
-            prefix: TWO_DIGITS,
-            back: CLOCK,
-            back_at: 4,
-        },
-        length: 20,
-        has_tail: false,
-        year: 7,
-    }
-}
+pub(crate) const TWO_DIGITS_WITH_NAME: Shape = Shape {
+    windows: Windows {
+        prefix: TWO_DIGITS,
+        back: CLOCK,
+        back_at: 4,
+    },
+    length: 20,
+    has_tail: false,
+    year: 7,
+};
 
 /// The shape of `1 Jul 2003 10:52:37`, before a zone's name.
-#[inline(always)]
-pub(crate) fn one_digit_with_name() -> Shape
-    ensures named { IsNamed result }
-    ensures long { result.length ≡ 19 }
-    ensures fits { fits result (from_day 1 second_parts) ≡ true }
-{
-    Shape {
-        windows: Windows {
-            prefix: ONE_DIGIT,
-            back: CLOCK,
-            back_at: 3,
-        },
-        length: 19,
-        has_tail: false,
-        year: 6,
-    }
-}
+pub(crate) const ONE_DIGIT_WITH_NAME: Shape = Shape {
+    windows: Windows {
+        prefix: ONE_DIGIT,
+        back: CLOCK,
+        back_at: 3,
+    },
+    length: 19,
+    has_tail: false,
+    year: 6,
+};
 
 /// The shape of `01 Jul 2003 10:52 +0200`.
-#[inline(always)]
-pub(crate) fn two_digits_without_second() -> Shape
-    ensures named { IsNamed result }
-    ensures long { result.length ≡ 23 }
-    ensures fits { fits result (from_day 2 minute_zone_parts) ≡ true }
-{
-    Shape {
-        windows: Windows {
-            prefix: TWO_DIGITS,
-            back: MINUTE_AND_OFFSET,
-            back_at: 7,
-        },
-        length: 23,
-        has_tail: false,
-        year: 7,
-    }
-}
+pub(crate) const TWO_DIGITS_WITHOUT_SECOND: Shape = Shape {
+    windows: Windows {
+        prefix: TWO_DIGITS,
+        back: MINUTE_AND_OFFSET,
+        back_at: 7,
+    },
+    length: 23,
+    has_tail: false,
+    year: 7,
+};
 
 /// The shape of `1 Jul 2003 10:52 +0200`.
-#[inline(always)]
-pub(crate) fn one_digit_without_second() -> Shape
-    ensures named { IsNamed result }
-    ensures long { result.length ≡ 22 }
-    ensures fits { fits result (from_day 1 minute_zone_parts) ≡ true }
-{
-    Shape {
-        windows: Windows {
-            prefix: ONE_DIGIT,
-            back: MINUTE_AND_OFFSET,
-            back_at: 6,
-        },
-        length: 22,
-        has_tail: false,
-        year: 6,
-    }
-}
+pub(crate) const ONE_DIGIT_WITHOUT_SECOND: Shape = Shape {
+    windows: Windows {
+        prefix: ONE_DIGIT,
+        back: MINUTE_AND_OFFSET,
+        back_at: 6,
+    },
+    length: 22,
+    has_tail: false,
+    year: 6,
+};
 
 /// The shape of `01 Jul 03 10:52:37 +0200`. (A shape needs four digits for a year: those of the offset.)
-#[inline(always)]
-pub(crate) fn two_digits_short_year() -> Shape
-    ensures named { IsNamed result }
-    ensures long { result.length ≡ 24 }
-    ensures fits { fits result (short_from_day 2) ≡ true }
-{
-    Shape {
-        windows: Windows {
-            prefix: TWO_DIGITS_SHORT_YEAR,
-            back: CLOCK_AND_OFFSET,
-            back_at: 8,
-        },
-        length: 24,
-        has_tail: false,
-        year: 20,
-    }
-}
+pub(crate) const TWO_DIGITS_SHORT_YEAR: Shape = Shape {
+    windows: Windows {
+        prefix: TWO_DIGITS_AND_SHORT_YEAR,
+        back: CLOCK_AND_OFFSET,
+        back_at: 8,
+    },
+    length: 24,
+    has_tail: false,
+    year: 20,
+};
 
 /// The shape of `1 Jul 03 10:52:37 +0200`. (A shape needs four digits for a year: those of the offset.)
-#[inline(always)]
-pub(crate) fn one_digit_short_year() -> Shape
-    ensures named { IsNamed result }
-    ensures long { result.length ≡ 23 }
-    ensures fits { fits result (short_from_day 1) ≡ true }
-{
-    Shape {
-        windows: Windows {
-            prefix: ONE_DIGIT_SHORT_YEAR,
-            back: CLOCK_AND_OFFSET,
-            back_at: 7,
-        },
-        length: 23,
-        has_tail: false,
-        year: 19,
-    }
-}
+pub(crate) const ONE_DIGIT_SHORT_YEAR: Shape = Shape {
+    windows: Windows {
+        prefix: ONE_DIGIT_AND_SHORT_YEAR,
+        back: CLOCK_AND_OFFSET,
+        back_at: 7,
+    },
+    length: 23,
+    has_tail: false,
+    year: 19,
+};

@@ -1,19 +1,17 @@
 -- A text whose pieces are read one after another, with numbers in range and no leap second, names their moment.
-use Rattle.std.proofs.Common.{◌≡◌, ℕ, ◌+◌, ◌*◌, ◌<◌, ◌≤◌, false, List, [], drop, Option, Some, None, Ok, Err, ℤ, pos, refl, arith}
+use Rattle.std.proofs.Common.{◌≡◌, ℕ, ◌+◌, ◌*◌, ◌<◌, ◌≤◌, false, List, [], Option, Some, None, Ok, Err, ℤ, pos, refl, arith}
 use Rattle.std.specs.Option.{unwrap_or}
-use Rattle.std.proofs.lemmas.Bool.{le-leb}
 use Rattle.std.proofs.lemmas.Bool.Decides.{nat_tests}
 use Rattle.std.specs.Prelude.{◌==◌, codes, ◌*ℤ◌}
 use Rattle.calendar.specs.Time.{time_of}
 use Rattle.datetime_wall.specs.Wall.{wall_clock}
-use Rattle.base.specs.Bytes.{hyphen, colon}
 use Rattle.parsing_combinator.specs.Fault.{component}
-use Rattle.parsing_combinator.specs.Pieces.{any_byte, byte, digits, sign}
+use Rattle.parsing_combinator.specs.Pieces.{any_byte, digits}
 use Rattle.parsing_combinator.specs.declared.zone.Zone.{Zone}
 use Rattle.parsing_values.specs.Resolution.{date_of, permitted_time_of, signed_offset_of}
 use Rattle.parsing_values.specs.StandIn.{leap_checked}
 use Rattle.parsing_rfc3339.specs.declared.parts.Rfc3339Parts.{Rfc3339Parts}
-use Rattle.parsing_rfc3339.specs.Reading.{date, clock, subsecond, signed_offset, offset, rfc3339}
+use Rattle.parsing_rfc3339.specs.Reading.{date, clock, subsecond, offset, rfc3339}
 use Rattle.parsing_rfc3339.specs.Direct.{direct, moment, moment_of}
 use Rattle.parsing_fields.specs.declared.fields.Fields.{Fields}
 use Rattle.parsing_fields.specs.Moment as Moment

@@ -6,10 +6,10 @@ use Rattle.std.proofs.lemmas.Bool.Decides.{nat_tests}
 use Rattle.std.proofs.lemmas.List.{take-append-le, drop-append-le, take-append-drop, drop_all}
 use Rattle.std.proofs.lemmas.List.Folds.{prefix_len-append}
 use Rattle.std.proofs.lemmas.List.Sums.{prefix_len-le-length}
-use Rattle.base.specs.Bytes.{hyphen, dot, upper_z, lower_z}
+use Rattle.base.specs.Bytes.{dot, upper_z, lower_z}
 use Rattle.parsing_combinator.specs.Fault.{Fault, component}
 use Rattle.parsing_combinator.specs.Pieces.{digits, digit_count, digit_run, byte_of, skip_of, fraction}
-use Rattle.parsing_combinator.specs.Readings.{Reading, piece_or, then_read, give, require, within, entered}
+use Rattle.parsing_combinator.specs.Readings.{Reading, piece_or, then_read, give, require, entered}
 use Rattle.parsing_combinator.specs.declared.zone.Zone.{Zone}
 use Rattle.parsing_rfc3339.specs.declared.parts.Rfc3339Parts.{Rfc3339Parts}
 use Rattle.parsing_rfc3339.specs.Reading.{date, clock, due_fraction, subsecond, zulu, signed_offset, offset, rfc3339}
@@ -36,28 +36,19 @@ require_on : (c : Bool) (fault : Fault) (a b : List ℕ) → GoesOn b (require c
 require_on true fault a b = refl
 require_on false fault a b = tt
 
--- a last test, and a value
-last_on : {B : Type 0} (c : Bool) (fault : Fault) (v : B) (a b : List ℕ) → GoesOn b (then_read (require c fault a) (λ _. give v)) (then_read (require c fault (a ++ b)) (λ _. give v))
-last_on true fault v a b = refl
-last_on false fault v a b = tt
+first_on : {A : Type 0} (t : Bool) (x : A) (xs b : List ℕ) → PieceOn b (cond t (Some (x, xs)) None) (cond t (Some (x, xs ++ b)) None)
+first_on true x xs b = refl
+first_on false x xs b = tt
 
 skip_on : (p : ℕ → Bool) (a b : List ℕ) → PieceOn b (skip_of p a) (skip_of p (a ++ b))
 unfolding skip_of
 skip_on p [] b = tt
-skip_on p (x ∷ xs) b =
-    elim (p x) as (λ t. PieceOn {A = Unit {0}} b (cond t (Some (tt, xs)) None) (cond t (Some (tt, xs ++ b)) None)) [
-      | true ↦ refl
-      | false ↦ tt
-    ]
+skip_on p (x ∷ xs) b = first_on (p x) tt xs b
 
 byte_on : (p : ℕ → Bool) (a b : List ℕ) → PieceOn b (byte_of p a) (byte_of p (a ++ b))
 unfolding byte_of
 byte_on p [] b = tt
-byte_on p (x ∷ xs) b =
-    elim (p x) as (λ t. PieceOn b (cond t (Some (x, xs)) None) (cond t (Some (x, xs ++ b)) None)) [
-      | true ↦ refl
-      | false ↦ tt
-    ]
+byte_on p (x ∷ xs) b = first_on (p x) x xs b
 
 no_fewer : (a b : List ℕ) → digit_count a ≤ digit_count (a ++ b)
 no_fewer a b =
@@ -90,38 +81,19 @@ fraction_on a b lt =
       | false ↦ λ e. rw (same, e, take-append-le (digit_count a) a b (omega (arith, lt)), drop-append-le (digit_count a) a b (omega (arith, lt))) refl
     ] refl
 
+ruleset goes_on = (then_on, piece_on, require_on, skip_on, byte_on, digits_on)
+
 date_on : (is : Bool) (a b : List ℕ) → GoesOn b (date is a) (date is (a ++ b))
 unfolding date
-date_on is a b =
-    then_on b _ _ _ (piece_on b _ _ _ (digits_on 4 a b)) (λ year a1.
-    then_on b _ _ _ (piece_on b _ _ _ (skip_on _ a1 b)) (λ skipped a2.
-    then_on b _ _ _ (piece_on b _ _ _ (digits_on 2 a2 b)) (λ month a3.
-    then_on b _ _ _ (require_on _ _ a3 b) (λ some a4.
-    then_on b _ _ _ (piece_on b _ _ _ (skip_on _ a4 b)) (λ again a5.
-    then_on b _ _ _ (piece_on b _ _ _ (digits_on 2 a5 b)) (λ day a6.
-    last_on (within is 1 31 day) (component (codes "day")) (year, month, day) a6 b))))))
+date_on is a b = search goes_on depth 20 fits 5000
 
 clock_on : (is : Bool) (a b : List ℕ) → GoesOn b (clock is a) (clock is (a ++ b))
 unfolding clock
-clock_on is a b =
-    then_on b _ _ _ (piece_on b _ _ _ (digits_on 2 a b)) (λ hour a1.
-    then_on b _ _ _ (require_on _ _ a1 b) (λ some a2.
-    then_on b _ _ _ (piece_on b _ _ _ (skip_on _ a2 b)) (λ skipped a3.
-    then_on b _ _ _ (piece_on b _ _ _ (digits_on 2 a3 b)) (λ minute a4.
-    then_on b _ _ _ (require_on _ _ a4 b) (λ more a5.
-    then_on b _ _ _ (piece_on b _ _ _ (skip_on _ a5 b)) (λ again a6.
-    then_on b _ _ _ (piece_on b _ _ _ (digits_on 2 a6 b)) (λ second a7.
-    last_on (within is 0 60 second) (component (codes "second")) (hour, minute, second) a7 b)))))))
+clock_on is a b = search goes_on depth 20 fits 5000
 
 signed_on : (is : Bool) (a b : List ℕ) → GoesOn b (signed_offset is a) (signed_offset is (a ++ b))
 unfolding signed_offset
-signed_on is a b =
-    then_on b _ _ _ (piece_on b _ _ _ (byte_on _ a b)) (λ s a1.
-    then_on b _ _ _ (piece_on b _ _ _ (digits_on 2 a1 b)) (λ hour a2.
-    then_on b _ _ _ (require_on _ _ a2 b) (λ some a3.
-    then_on b _ _ _ (piece_on b _ _ _ (skip_on _ a3 b)) (λ skipped a4.
-    then_on b _ _ _ (piece_on b _ _ _ (digits_on 2 a4 b)) (λ minute a5.
-    last_on (within is 0 59 minute) (component (codes "offset minute")) (record { is_named = false; is_negative = s == hyphen; hours = hour; minutes = minute }) a5 b)))))
+signed_on is a b = search goes_on depth 20 fits 5000
 
 -- an offset is due
 no_offset : (is : Bool) → offset is [] ≡ Err (component (codes "offset hour"))
@@ -183,11 +155,7 @@ ending_on is make (x ∷ xs) b =
 
 rfc3339_on : (is : Bool) (a b : List ℕ) → GoesOn b (rfc3339 is a) (rfc3339 is (a ++ b))
 unfolding rfc3339
-rfc3339_on is a b =
-    then_on b _ _ _ (date_on is a b) (λ d a1.
-    then_on b _ _ _ (piece_on b _ _ _ (skip_on _ a1 b)) (λ between a2.
-    then_on b _ _ _ (clock_on is a2 b) (λ t a3.
-    ending_on is (λ n z. record { year = d.0; month = d.1; day = d.2; hour = t.0; minute = t.1; second = t.2; subsecond = n; zone = z }) a3 b)))
+rfc3339_on is a b = search (goes_on, date_on, clock_on, ending_on) depth 20 fits 5000
 
 -- so many bytes are read whole
 pub prefix_read : (is : Bool) (bytes : List ℕ) (n : ℕ) (w : Rfc3339Parts) → rfc3339 is (take n bytes) ≡ Ok (w, []) → rfc3339 is bytes ≡ Ok (w, drop n bytes)

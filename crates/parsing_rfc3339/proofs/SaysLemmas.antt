@@ -1,16 +1,14 @@
 -- A text that says the layout of RFC 3339 is read by its definition, and names the moment of its values.
-use Rattle.std.proofs.Common.{◌≡◌, ℕ, zero, suc, ◌+◌, ◌*◌, ◌<◌, ◌≤◌, ◌∙◌, Bool, true, false, List, [], ◌∷◌, ◌++◌, drop, take, Option, Some, None, Result, Ok, ℤ, pos, refl, sym, ap, arith}
+use Rattle.std.proofs.Common.{◌≡◌, ℕ, zero, suc, ◌<◌, ◌≤◌, ◌∙◌, Bool, true, false, List, [], ◌∷◌, ◌++◌, Option, Some, None, Result, Ok, ℤ, pos, refl, sym, ap, arith}
 use Rattle.std.specs.Option.{unwrap_or}
-use Rattle.std.specs.Prelude.{◌==◌, ◌||◌, nat_lt, nat_le, ◌*ℤ◌}
+use Rattle.std.specs.Prelude.{◌==◌, ◌||◌, nat_lt, ◌*ℤ◌}
 use Rattle.std.specs.Char.{is_ascii_digit}
 use Rattle.std.proofs.lemmas.Bool.{le-leb}
 use Rattle.std.proofs.lemmas.Bool.Decides.{nat_tests}
 use Rattle.base.specs.Bytes.{plus, hyphen, dot, upper_z, lower_z}
 use Rattle.parsing_combinator.specs.Fault.{Fault}
-use Rattle.parsing_combinator.specs.Pieces.{digits, byte, byte_of, skip_of, sign, digit_count, digit_run, fraction, nanoseconds_of}
+use Rattle.parsing_combinator.specs.Pieces.{digits, byte, skip_of, fraction}
 use Rattle.parsing_combinator.specs.declared.zone.Zone.{Zone}
-use Rattle.parsing_combinator.proofs.Decimal.{count_drop}
-use Rattle.parsing_combinator.proofs.FractionDigits.{none_there}
 use Rattle.parsing_fields.specs.declared.fields.Fields.{Fields}
 use Rattle.parsing_fields.specs.Moment as Moment
 use Rattle.parsing_layout.specs.Layout.{Values, Says}

@@ -5,17 +5,26 @@ use Rattle.std.specs.Prelude.{◌↔◌, IfOk, codes, nat_le, nat_lt}
 use Rattle.std.specs.Int.{IsInRange}
 use Rattle.std.proofs.lemmas.Bool.{and_parts, leb-true}
 use Rattle.std.proofs.lemmas.Bool.Decides.{nat_tests}
-use Rattle.base.specs.Bytes.{hyphen, colon}
-use Rattle.parsing_combinator.specs.Fault.{literal, component}
+use Rattle.base.specs.Bytes.{colon}
+use Rattle.parsing_combinator.specs.Fault.{Fault, literal, component}
 use Rattle.parsing_combinator.specs.FaultOf.{Gives, reading_fault}
 use Rattle.parsing_combinator.specs.Pieces.{digits, byte, any_byte, sign}
-use Rattle.parsing_combinator.specs.Readings.{piece_or, give, require, within}
+use Rattle.parsing_combinator.specs.Readings.{Reading, then_read, piece_or, give, require, within}
 use Rattle.parsing_combinator.specs.declared.fault.ParseFromDescription.{ParseFromDescription}
 use Rattle.parsing_combinator.specs.declared.zone.Zone.{Zone}
-use Rattle.parsing_combinator.proofs.lemmas.Strict.{Narrows, given, denied, then_misses, then_narrows, same_then, plain_then, checked, entered_narrows, within_yes, within_no, required_says, narrows_iff, strict_passes}
+use Rattle.parsing_combinator.proofs.lemmas.Strict.{Misses, Narrows, given, denied, then_misses, then_narrows, same_then, plain_then, checked, entered_narrows, within_yes, within_no, required_says, narrows_iff, strict_passes}
 use Rattle.parsing_rfc3339.specs.declared.parts.Rfc3339Parts.{Rfc3339Parts}
 use Rattle.parsing_rfc3339.specs.Range.{AreInRange}
 use Rattle.parsing_rfc3339.specs.Reading.{date, clock, subsecond, zulu, signed_offset, offset, rfc3339}
+
+-- a check of the strict reading tells of its number
+most : (n low high : ℕ) → within true low high n ≡ true → n ≤ high
+most n low high e = (within_yes low high n e).1
+
+both : {A B : Type 0} → A → B → A × B
+both a b = (a, b)
+
+ruleset narrows = (plain_then, checked, given, then_misses, entered_narrows, most, within_yes, both)
 
 abbrev is_date : ℕ × ℕ × ℕ → Type 0
 is_date x = IsInRange 1 12 x.1 × IsInRange 1 31 x.2
@@ -24,50 +33,38 @@ is_date x = IsInRange 1 12 x.1 × IsInRange 1 31 x.2
 some_month : (m : ℕ) → (within true 1 12 m && nat_lt 0 m) ≡ true → (IsInRange 1 12 m) × (nat_lt 0 m ≡ true)
 some_month m e = let p = and_parts (within true 1 12 m) (nat_lt 0 m) e in (within_yes 1 12 m p.0, p.1)
 
-no_month : (m : ℕ) → (within true 1 12 m && nat_lt 0 m) ≡ false → ¬ IsInRange 1 12 m
-no_month m e = λ p. grind (arith, nat_tests)
+month_in : (m : ℕ) → (within true 1 12 m && nat_lt 0 m) ≡ true → IsInRange 1 12 m
+month_in m e = (some_month m e).0
+
+-- .. which the other reading does not let pass either
+month_there : {B : Type 0} (Q : B → Type 0) (m : ℕ) (fault : Fault) (bytes : List ℕ) (r : Result (B × List ℕ) Fault) (g : Unit {0} → Reading B) → (within true 1 12 m && nat_lt 0 m) ≡ true → Narrows Q r (g tt bytes) → Narrows Q r (then_read (require (nat_lt 0 m) fault bytes) g)
+month_there Q m fault bytes r g passes n = rw (some_month m passes).1 n
+
+no_month : (y m d : ℕ) (bytes : List ℕ) → (within true 1 12 m && nat_lt 0 m) ≡ false → Misses is_date (Ok ((y, m, d), bytes))
+no_month y m d bytes out = denied _ _ bytes (λ p. let in_year = p.0 in grind (arith, nat_tests))
+
+no_day : (y m d : ℕ) (bytes : List ℕ) → within true 1 31 d ≡ false → Misses is_date (Ok ((y, m, d), bytes))
+no_day y m d bytes out = denied _ _ bytes (λ p. within_no 1 31 d out p.1)
 
 date_narrows : (bytes : List ℕ) → Narrows is_date (date true bytes) (date false bytes)
 unfolding date
-date_narrows b0 =
-    plain_then is_date (piece_or (component (codes "year")) (digits 4 b0)) _ _ (λ y b1.
-    plain_then is_date (piece_or literal (byte hyphen b1)) _ _ (λ first b2.
-    plain_then is_date (piece_or (component (codes "month")) (digits 2 b2)) _ _ (λ m b3.
-    checked is_date (within true 1 12 m && nat_lt 0 m) (component (codes "month")) _ _ b3
-    (λ yes.
-    rw (some_month m yes).1 (
-    plain_then is_date (piece_or literal (byte hyphen b3)) _ _ (λ second b4.
-    plain_then is_date (piece_or (component (codes "day")) (digits 2 b4)) _ _ (λ d b5.
-    checked is_date (within true 1 31 d) (component (codes "day")) _ _ b5 (λ fits. given is_date (y, m, d) b5 ((some_month m yes).0, within_yes 1 31 d fits)) (λ no. denied is_date (y, m, d) b5 (λ p. within_no 1 31 d no p.1))))))
-    (λ no.
-    then_misses is_date (require (nat_lt 0 m) (component (codes "month")) b3) _ (λ some b4.
-    then_misses is_date (piece_or literal (byte hyphen b4)) _ (λ second b5.
-    then_misses is_date (piece_or (component (codes "day")) (digits 2 b5)) _ (λ d b6. denied is_date (y, m, d) b6 (λ p. no_month m no p.0))))))))
+date_narrows b0 = search (narrows, month_in, month_there, no_month, no_day) depth 20 fits 5000
 
 abbrev is_clock : ℕ × ℕ × ℕ → Type 0
 is_clock x = (x.0 ≤ 23) × (x.1 ≤ 59) × (x.2 ≤ 60)
 
+no_hour : (h m s : ℕ) (bytes : List ℕ) → within true 0 23 h ≡ false → Misses is_clock (Ok ((h, m, s), bytes))
+no_hour h m s bytes out = denied _ _ bytes (λ p. within_no 0 23 h out (omega arith, p.0))
+
+no_minute : (h m s : ℕ) (bytes : List ℕ) → within true 0 59 m ≡ false → Misses is_clock (Ok ((h, m, s), bytes))
+no_minute h m s bytes out = denied _ _ bytes (λ p. within_no 0 59 m out (omega arith, p.1))
+
+no_second : (h m s : ℕ) (bytes : List ℕ) → within true 0 60 s ≡ false → Misses is_clock (Ok ((h, m, s), bytes))
+no_second h m s bytes out = denied _ _ bytes (λ p. within_no 0 60 s out (omega arith, p.2))
+
 clock_narrows : (bytes : List ℕ) → Narrows is_clock (clock true bytes) (clock false bytes)
 unfolding clock
-clock_narrows b0 =
-    plain_then is_clock (piece_or (component (codes "hour")) (digits 2 b0)) _ _ (λ h b1.
-    checked is_clock (within true 0 23 h) (component (codes "hour")) _ _ b1
-    (λ in_hour.
-    plain_then is_clock (piece_or literal (byte colon b1)) _ _ (λ first b2.
-    plain_then is_clock (piece_or (component (codes "minute")) (digits 2 b2)) _ _ (λ m b3.
-    checked is_clock (within true 0 59 m) (component (codes "minute")) _ _ b3
-    (λ in_minute.
-    plain_then is_clock (piece_or literal (byte colon b3)) _ _ (λ second b4.
-    plain_then is_clock (piece_or (component (codes "second")) (digits 2 b4)) _ _ (λ s b5.
-    checked is_clock (within true 0 60 s) (component (codes "second")) _ _ b5 (λ in_second. given is_clock (h, m, s) b5 ((within_yes 0 23 h in_hour).1, (within_yes 0 59 m in_minute).1, (within_yes 0 60 s in_second).1)) (λ no. denied is_clock (h, m, s) b5 (λ p. within_no 0 60 s no (omega arith, p.2))))))
-    (λ no.
-    then_misses is_clock (piece_or literal (byte colon b3)) _ (λ second b4.
-    then_misses is_clock (piece_or (component (codes "second")) (digits 2 b4)) _ (λ s b5. denied is_clock (h, m, s) b5 (λ p. within_no 0 59 m no (omega arith, p.1))))))))
-    (λ no.
-    then_misses is_clock (piece_or literal (byte colon b1)) _ (λ first b2.
-    then_misses is_clock (piece_or (component (codes "minute")) (digits 2 b2)) _ (λ m b3.
-    then_misses is_clock (piece_or literal (byte colon b3)) _ (λ second b4.
-    then_misses is_clock (piece_or (component (codes "second")) (digits 2 b4)) _ (λ s b5. denied is_clock (h, m, s) b5 (λ p. within_no 0 23 h no (omega arith, p.0))))))))
+clock_narrows b0 = search (narrows, no_hour, no_minute, no_second) depth 30 fits 9000
 
 abbrev is_zone : Zone → Type 0
 is_zone z = (z.hours ≤ 25) × (z.minutes ≤ 59)

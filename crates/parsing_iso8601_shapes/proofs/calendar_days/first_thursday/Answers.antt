@@ -8,11 +8,6 @@ overflow_sub-result c =
     let there : c.from-3.result ≡ first_thursday_of (year_by c.args.century c.args.last_two) + 48 = c.from-3.ensures ∙ rw (c.from.ensures, c.from-2.ensures) (thursday_by c.args.century c.args.last_two c.requires.last_two) in
     omega (arith, there, c.from-4.ensures)
 
-pub returns-clause-value : goal.returns-clause-value
-returns-clause-value c =
-    let there : c.from-3.result ≡ first_thursday_of (year_by c.args.century c.args.last_two) + 48 = c.from-3.ensures ∙ rw (c.from.ensures, c.from-2.ensures) (thursday_by c.args.century c.args.last_two c.requires.last_two) in
-    omega (arith, there, c.from-4.ensures)
-
 pub returns-clause-bound : goal.returns-clause-bound
 returns-clause-bound c =
     let there : c.from-3.result ≡ first_thursday_of (year_by c.args.century c.args.last_two) + 48 = c.from-3.ensures ∙ rw (c.from.ensures, c.from-2.ensures) (thursday_by c.args.century c.args.last_two c.requires.last_two) in
