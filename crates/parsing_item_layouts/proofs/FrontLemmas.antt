@@ -5,9 +5,9 @@ use Rattle.std.specs.Prelude.{set, IfOk}
 use Rattle.std.specs.Result.{result_ok}
 use Rattle.std.proofs.lemmas.Bool.Decides.{nat_tests}
 use Rattle.std.proofs.lemmas.List.{drop_more, get_or-drop}
-use Rattle.parsing_record.specs.Meaning.{Meaning, Answer}
+use Rattle.parsing_components.specs.Meaning.{Meaning, Answer}
 use Rattle.parsing_components.specs.declared.fields.Record.{Record}
-use Rattle.parsing_record.specs.Whole.{whole, starting, all_read}
+use Rattle.parsing_components.specs.Whole.{whole, starting, all_read}
 use Rattle.parsing_layout.specs.declared.stretch.Stretch.{Stretch}
 use Rattle.parsing_layout.specs.Stretch.{IsCut, exactly, stands}
 use Rattle.parsing_layout.specs.declared.stretch.Kind.TheVariants as kind

@@ -4,7 +4,7 @@ ghost use Rattle.description_items.specs.Tree.{trees, listed};
 ghost use Rattle.description_tree.specs.Description.{v3_tree};
 ghost use Rattle.parsing_components.specs.Component.{reads_component, reads_component_v3};
 ghost use Rattle.parsing_layout.specs.Stretch.{IsCut};
-ghost use Rattle.parsing_record.specs.Reads.{reading, reading_of_all};
+ghost use Rattle.parsing_components.specs.Reads.{reading, reading_of_all};
 ghost use Rattle.parsing_item_layouts.specs.FirstBytes.{AreOf, Fits, bytes_at, can_stand, rule_out};
 
 use crate::front::Front;

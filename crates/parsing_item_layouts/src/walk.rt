@@ -1,12 +1,12 @@
 //! What is known of the first bytes of lines, by the items that read them one after the other.
 ghost use Rattle.std.specs.Prelude.{map};
 ghost use Rattle.description_items.specs.Tree.{First, listed};
-ghost use Rattle.parsing_record.specs.Reads.{reading, reading_of_all};
+ghost use Rattle.parsing_components.specs.Reads.{reading, reading_of_all};
 ghost use Rattle.parsing_item_layouts.specs.Fronts.{Leads};
 
 use crate::forms::form_of;
 use crate::front::{Front, put_form, put_text};
-use parsing_record::{Node, NodeStep};
+use parsing_components::{Node, NodeStep};
 
 /// Puts what a node reads before.
 #[cycle(walk)]

@@ -97,8 +97,8 @@ impl Listed {
     fn of_items(items: Items) -> Option<Listed>
         ensures { IfSome result (λ l. l.items ≡ items) }
     {
-        let certain = Parts::certain_of(items.as_slice())?;
-        let possible = Parts::possible_of(items.as_slice())?;
+        let certain = Parts::of_items(items.as_slice(), false)?;
+        let possible = Parts::of_items(items.as_slice(), true)?;
         let kind = Kind::of_parts(certain.as_slice(), possible.as_slice());
         if !are_apart(possible.as_slice()) {
             return None;

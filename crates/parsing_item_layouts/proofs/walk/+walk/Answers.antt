@@ -1,7 +1,7 @@
 use Rattle.std.proofs.Common.{◌∙◌, ◌-◌, sym, refl, ap, arith, List, ℕ, length}
 use Rattle.std.specs.Prelude.{IfOk}
 use Rattle.parsing_item_layouts.specs.Forms.{IsFormed}
-use Rattle.parsing_record.proofs.lemmas.Sizes.{size, one_of_them}
+use Rattle.parsing_components.proofs.lemmas.Sizes.{size, one_of_them}
 use Rattle.parsing_item_layouts.proofs.WalkLemmas.{literal_leads, part_leads, compound_leads, optional_leads, first_leads, no_choice, each_more, none_leads, back_leads, all_lead}
 use Rattle.parsing_item_layouts.proofs.walk.+walk.Goals as goal
 
