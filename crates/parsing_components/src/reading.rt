@@ -25,31 +25,17 @@ fn offset_piece(component: Component, bytes: &[u8]) -> Option<(Read, &[u8])>
     ensures range { IfSome result (λ x. IsInRange x.0) }
 {
     match component {
-        Component::OffsetHour(m) => hour_of_offset(m.padding, m.sign_is_mandatory, bytes).map(|(
-            (hour, negative),
-            rest,
-        )| (Read::OffsetHour(hour, negative), rest)),
+        Component::OffsetHour(m) => hour_of_offset(m.padding, m.sign_is_mandatory, bytes),
         Component::OffsetMinute(m) => {
             two(m.padding, 0, 59, bytes).map(|(n, rest)| (Read::OffsetMinute(n), rest))
         }
         Component::OffsetSecond(m) => {
             two(m.padding, 0, 59, bytes).map(|(n, rest)| (Read::OffsetSecond(n), rest))
         }
-        Component::UnixTimestampSecond(m) => unix(
-            m.sign_is_mandatory,
-            14,
-            1_000_000_000,
-            bytes,
-        ).map(|(n, rest)| (Read::Unix(n), rest)),
-        Component::UnixTimestampMillisecond(m) => {
-            unix(m.sign_is_mandatory, 17, 1_000_000, bytes).map(|(n, rest)| (Read::Unix(n), rest))
-        }
-        Component::UnixTimestampMicrosecond(m) => {
-            unix(m.sign_is_mandatory, 20, 1_000, bytes).map(|(n, rest)| (Read::Unix(n), rest))
-        }
-        Component::UnixTimestampNanosecond(m) => {
-            unix(m.sign_is_mandatory, 23, 1, bytes).map(|(n, rest)| (Read::Unix(n), rest))
-        }
+        Component::UnixTimestampSecond(m) => unix(m.sign_is_mandatory, 14, 1_000_000_000, bytes),
+        Component::UnixTimestampMillisecond(m) => unix(m.sign_is_mandatory, 17, 1_000_000, bytes),
+        Component::UnixTimestampMicrosecond(m) => unix(m.sign_is_mandatory, 20, 1_000, bytes),
+        Component::UnixTimestampNanosecond(m) => unix(m.sign_is_mandatory, 23, 1, bytes),
         Component::Ignore(m) => ignored(m.count, bytes).map(|rest| (Read::Nothing, rest)),
         _ => None,
     }
@@ -97,55 +83,31 @@ fn year_piece(component: Component, bytes: &[u8]) -> Option<(Read, &[u8])>
 {
     match component {
         Component::CalendarYearFullExtendedRange(m) => {
-            full_year(m.padding, m.sign_is_mandatory, true, bytes).map(|(y, rest)| (
-                Read::Year(y),
-                rest,
-            ))
+            full_year(false, m.padding, m.sign_is_mandatory, true, bytes)
         }
         Component::CalendarYearFullStandardRange(m) => {
-            full_year(m.padding, m.sign_is_mandatory, false, bytes).map(|(y, rest)| (
-                Read::Year(y),
-                rest,
-            ))
+            full_year(false, m.padding, m.sign_is_mandatory, false, bytes)
         }
         Component::CalendarYearCenturyExtendedRange(m) => {
-            full_century(m.padding, m.sign_is_mandatory, true, bytes).map(|((c, negative), rest)| (
-                Read::YearCentury(c, negative),
-                rest,
-            ))
+            full_century(false, m.padding, m.sign_is_mandatory, true, bytes)
         }
         Component::CalendarYearCenturyStandardRange(m) => {
-            full_century(m.padding, m.sign_is_mandatory, false, bytes).map(|((c, negative), rest)| (
-                Read::YearCentury(c, negative),
-                rest,
-            ))
+            full_century(false, m.padding, m.sign_is_mandatory, false, bytes)
         }
         Component::CalendarYearLastTwo(m) => {
             two(m.padding, 0, 99, bytes).map(|(n, rest)| (Read::YearLastTwo(n), rest))
         }
         Component::IsoYearFullExtendedRange(m) => {
-            full_year(m.padding, m.sign_is_mandatory, true, bytes).map(|(y, rest)| (
-                Read::IsoYear(y),
-                rest,
-            ))
+            full_year(true, m.padding, m.sign_is_mandatory, true, bytes)
         }
         Component::IsoYearFullStandardRange(m) => {
-            full_year(m.padding, m.sign_is_mandatory, false, bytes).map(|(y, rest)| (
-                Read::IsoYear(y),
-                rest,
-            ))
+            full_year(true, m.padding, m.sign_is_mandatory, false, bytes)
         }
         Component::IsoYearCenturyExtendedRange(m) => {
-            full_century(m.padding, m.sign_is_mandatory, true, bytes).map(|((c, negative), rest)| (
-                Read::IsoYearCentury(c, negative),
-                rest,
-            ))
+            full_century(true, m.padding, m.sign_is_mandatory, true, bytes)
         }
         Component::IsoYearCenturyStandardRange(m) => {
-            full_century(m.padding, m.sign_is_mandatory, false, bytes).map(|((c, negative), rest)| (
-                Read::IsoYearCentury(c, negative),
-                rest,
-            ))
+            full_century(true, m.padding, m.sign_is_mandatory, false, bytes)
         }
         Component::IsoYearLastTwo(m) => {
             two(m.padding, 0, 99, bytes).map(|(n, rest)| (Read::IsoYearLastTwo(n), rest))

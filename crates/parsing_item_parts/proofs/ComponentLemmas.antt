@@ -5,6 +5,7 @@ use Rattle.std.specs.Char.{is_ascii_digit}
 use Rattle.std.specs.Int.{is_in_range}
 use Rattle.std.specs.Str.Parse.{digits_value}
 use Rattle.std.proofs.lemmas.Bool.Decides.{nat_tests}
+use Rattle.std.proofs.Math.Seq.{take-append_seam, drop-append_seam}
 use Rattle.std.proofs.lemmas.List.Sums.{prefix_len_passes}
 use Rattle.std.proofs.lemmas.Slice.Eq.{bytes_eq-Decides}
 use Rattle.calendar_count.specs.Month.{month_number}
@@ -297,20 +298,12 @@ text_sets : (text : List ℕ) (v : Values) (r : Record) → set_all (map part.By
 text_sets [] v r = refl
 text_sets (c ∷ cs) v r = text_sets cs v r
 
-take_text : (text rest : List ℕ) → take (length text) (text ++ rest) ≡ text
-take_text [] rest = refl
-take_text (c ∷ cs) rest = ap (λ (xs : List ℕ). c ∷ xs) (take_text cs rest)
-
-drop_text : (text rest : List ℕ) → drop (length text) (text ++ rest) ≡ rest
-drop_text [] rest = refl
-drop_text (c ∷ cs) rest = drop_text cs rest
-
 pub literal_item : (language : Language) (text : List ℕ) → IsItem (reading language (Literal text)) (map part.Byte text)
 unfolding reads literally
 literal_item language text line v rest r new says sets =
     let e = text_there text line rest v says in
-    let there : take (length text) line ≡ text = ap (take (length text)) e ∙ take_text text rest in
-    let after : drop (length text) line ≡ rest = ap (drop (length text)) e ∙ drop_text text rest in
+    let there : take (length text) line ≡ text = ap (take (length text)) e ∙ take-append_seam text rest in
+    let after : drop (length text) line ≡ rest = ap (drop (length text)) e ∙ drop-append_seam text rest in
     let same : bytes_eq (take (length text) line) text ≡ true = (bytes_eq-Decides (take (length text) line) text).1 there in
     let kept_record : r ≡ new = inside r new (sym (text_sets text v r) ∙ sets) in
     rw (same, after, kept_record) refl

@@ -12,6 +12,7 @@ use Rattle.parsing_components.specs.Reads.{Language, reading, reading_of_all, re
 use Rattle.parsing_components.specs.declared.fields.Record.{Record}
 use Rattle.parsing_layout.specs.Layout.{Values, Says, piece_of, value_of, field_of}
 use Rattle.parsing_layout.specs.declared.parts.Part.{Part}
+use Rattle.parsing_layout.proofs.ItemsLemmas.{certain_said, said_certain}
 use Rattle.parsing_layout.proofs.LayoutLemmas.{says_first}
 use Rattle.parsing_layout.proofs.PieceLemmas.{inside}
 use Rattle.parsing_layout.specs.Items.{SaysItems, IsThere, all_certain}
@@ -92,20 +93,6 @@ says_split (i ∷ xs) ys line v rest way says =
       by_first = (says.0, says.1, b.first, refl, says.4, b.by_first);
       by_second = b.by_second;
     }
-
-certain_said : (ps : List Part) (line : List ℕ) (v : Values) (rest : List ℕ) (way : List Part) → SaysItems (map item.Part ps) line v rest way
-    → IsThere ps line v rest way
-certain_said [] line v rest way says = says
-certain_said (p ∷ ps) line v rest way says =
-    let others = certain_said ps says.0 v rest says.2 says.5 in
-    let one = says.4.1 in
-    let there : piece_of p line ≡ Some (value_of p v, says.0) = rw one.2 at one.1 in
-    (says.3 ∙ ap (λ (xs : List Part). xs ++ says.2) says.4.0 ∙ ap (λ (xs : List Part). p ∷ xs) others.0, (says.0, there, others.1))
-
-said_certain : (ps : List Part) (line : List ℕ) (v : Values) (rest : List ℕ) → Says ps line v rest → SaysItems (map item.Part ps) line v rest ps
-said_certain [] line v rest says = (refl, says)
-said_certain (p ∷ ps) line v rest says =
-    (says.0, p ∷ [], ps, refl, (refl, (says.0, says.1, refl)), said_certain ps says.0 v rest says.2)
 
 pub items_of_parts : (m : Meaning) (ps : List Part) → IsItem m ps → AreItems m (map item.Part ps)
 items_of_parts m ps is line v rest way r new says sets =

@@ -132,7 +132,7 @@ moment_said assumed has v f hour offset range s h low in_offset numbers =
 
 -- ---- Unix time
 
-in_calendar : (n : ℕ) → n ≤ 20_000_000_000_000_000_000 → is_wall_clock (pos n) ≡ true
+pub in_calendar : (n : ℕ) → n ≤ 20_000_000_000_000_000_000 → is_wall_clock (pos n) ≡ true
 in_calendar n le = grind (arith, nat_tests, ints)
 
 small : (n : ℕ) → n < 1_000_000_000 → nat_lt 999_999_999 n ≡ false

@@ -37,6 +37,7 @@ use Rattle.parsing_plan.specs.UnixTime.{IsUnixOf}
 use Rattle.parsing_layout.proofs.PieceLemmas.{exact_said}
 use Rattle.parsing_layout.proofs.RunLemmas.{exact_taken}
 use Rattle.parsing_item_parts.proofs.ComponentLemmas.{no_sign}
+use Rattle.parsing_item_parts.proofs.MomentLemmas.{in_calendar}
 use Rattle.parsing_item_parts.proofs.ReadingLemmas.{whole_is}
 use Rattle.parsing_plan.proofs.Walk.{was_read}
 
@@ -88,9 +89,6 @@ unix_read c None e = (tt, tt)
 unix_read c (Some finer) e = (unix_component reads_component c finer (λ line. refl) (sym e), unix_component reads_component_v3 c finer (λ line. same_v3 c finer line (sym e)) (sym e))
 
 -- ---- the moment that it names
-
-in_calendar : (n : ℕ) → n ≤ 20_000_000_000_000_000_000 → is_wall_clock (pos n) ≡ true
-in_calendar n le = grind (arith, nat_tests, ints)
 
 unix_named : (assumed : Option ℤ) (n : ℕ) → is_wall_clock (pos n) ≡ true → moment_named (record (beginning assumed) { unix_timestamp_nanos = Some (pos n) }) ≡ Ok (record { wall = pos n; offset = pos 0 })
 unfolding named_moment unix_subsecond unix_instant
