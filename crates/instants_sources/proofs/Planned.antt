@@ -12,7 +12,7 @@ use Rattle.parsing_plan.specs.declared.plan.Plan.{Plan}
 use Rattle.parsing_plan.specs.declared.plan.Plan.TheVariants as plan
 use Rattle.parsing_plan.specs.declared.unix.UnixTime.{UnixTime}
 use Rattle.parsing_record.specs.Whole.{starting}
-use Rattle.instants_sources.specs.Grammar.{Grammar, Described, Rfc2822, Rfc3339, Iso8601}
+use Rattle.instants_sources.specs.Grammar.{Grammar, Described}
 use Rattle.instants_sources.specs.Named.{defaults_of, named}
 use Rattle.instants_sources.specs.Planned.{IsPlanned}
 use Rattle.instants_sources.specs.Written.{reads_written}

@@ -1,15 +1,15 @@
 -- What no line can begin with is refused.
-use Rattle.std.proofs.Common.{◌≡◌, ◌<◌, ◌≤◌, ◌+◌, ◌-◌, ◌∙◌, ◌==◌, ◌&&◌, ℕ, zero, suc, Bool, true, false, not, List, [], ◌∷◌, ◌++◌, length, get_or, drop, replicate, None, Ok, Err, refl, sym, ap, arith}
+use Rattle.std.proofs.Common.{◌≡◌, ◌<◌, ◌≤◌, ◌+◌, ◌-◌, ◌∙◌, ◌==◌, ◌&&◌, ℕ, zero, suc, Bool, true, false, not, List, [], ◌∷◌, length, get_or, replicate, None, Ok, Err, refl, sym, ap, arith}
 use Rattle.parsing_layout.proofs.BoundsLemmas.{set_each}
 use Rattle.std.specs.Prelude.{set, IfOk}
 use Rattle.std.specs.Result.{result_ok}
 use Rattle.std.proofs.lemmas.Bool.Decides.{nat_tests}
-use Rattle.std.proofs.lemmas.List.{drop_more, get_or-drop}
+use Rattle.std.proofs.lemmas.List.{get_or-drop}
 use Rattle.parsing_components.specs.Meaning.{Meaning, Answer}
 use Rattle.parsing_components.specs.declared.fields.Record.{Record}
 use Rattle.parsing_components.specs.Whole.{whole, starting, all_read}
 use Rattle.parsing_layout.specs.declared.stretch.Stretch.{Stretch}
-use Rattle.parsing_layout.specs.Stretch.{IsCut, exactly, stands}
+use Rattle.parsing_layout.specs.Stretch.{IsCut, stands}
 use Rattle.parsing_layout.specs.declared.stretch.Kind.TheVariants as kind
 use Rattle.parsing_item_layouts.specs.Fronts.{Leads}
 use Rattle.parsing_item_layouts.specs.FirstBounds.{IsWithin, AreBoundsOf}

@@ -74,10 +74,10 @@ padded_item : (reading : Reading Read) (fault : Fault) (says_it : ℕ → Option
     → ((line : List ℕ) → reading line ≡ piece_or fault (kept says_it (taken (padded p 2 2) line))) → ((v : Values) → said f v ≡ says_it (v f))
     → IsItem (putting reading) (padded_part p f ∷ [])
 padded_item reading fault says_it p f is same = part_item reading (padded_part p f) (λ line rest v x e k.
-    let as = padded_as p f v in
-    let read : taken (padded p 2 2) line ≡ Some (v f, rest) = sym (padded_is p f line) ∙ rw as.1 at e in
-    let said_it : says_it (v f) ≡ Some x = sym (same v) ∙ rw as.0 at k in
-    rw (is line, read, said_it) refl)
+    let part_is = padded_as p f v in
+    let there : piece_of (padded_part p f) line ≡ Some (v f, rest) = rw part_is.1 at e in
+    let said_it : said_by (Some f) v ≡ Some x = rw part_is.0 at k in
+    rw (is line, sym (padded_is p f line) ∙ there, sym (same v) ∙ said_it) refl)
 
 -- ---- names
 
@@ -203,13 +203,13 @@ hour_item : (reading : Reading Read) (fault : Fault) (p : Padding) (mandatory : 
 hour_item reading fault p false ps is e = absurd cc
 hour_item reading fault p true ps is e = rw (← inside _ ps e) (λ line v rest r new says sets.
     let hour = says.2 in
-    let as = padded_as p field.OffsetHour v in
+    let part_is = padded_as p field.OffsetHour v in
     let c = chosen (said_by (field_of (padded_part p field.OffsetHour)) v) [] v r new sets in
-    let there : piece_of (padded_part p field.OffsetHour) says.0 ≡ Some (v field.OffsetHour, rest) = rw (hour.2, as.1) at hour.1 in
-    let read : taken (padded p 2 2) says.0 ≡ Some (v field.OffsetHour, rest) = sym (padded_is p field.OffsetHour says.0) ∙ there in
-    let says_it : hour_said (v field.Sign == 45, v field.OffsetHour) ≡ Some c.0 = sym (ap (λ (o : Option Field). said_by o v) as.0) ∙ c.1 in
+    let there : piece_of (padded_part p field.OffsetHour) says.0 ≡ Some (v field.OffsetHour, rest) = rw (hour.2, part_is.0) at hour.1 in
+    let taken_is : taken (padded p 2 2) says.0 ≡ Some (v field.OffsetHour, rest) = sym (padded_is p field.OffsetHour says.0) ∙ there in
+    let says_it : hour_said (v field.Sign == 45, v field.OffsetHour) ≡ Some c.0 = sym (ap (λ (o : Option Field). said_by o v) part_is.0) ∙ c.1 in
     let same : put c.0 r ≡ new = inside (put c.0 r) new c.2 in
-    rw (is line, taken_offset_hour p true line, says.1, read, says_it, same) refl)
+    rw (is line, taken_offset_hour p true line, says.1, taken_is, says_it, same) refl)
 
 -- ---- components
 

@@ -10,12 +10,12 @@ use Rattle.parsing_components.specs.declared.said.Read.{Read}
 use Rattle.parsing_components.specs.Meaning.{Meaning, Answer, Counted, then_counted, all_of}
 use Rattle.parsing_components.specs.Reads.{Language, reading, reading_of_all, reads, each_reads}
 use Rattle.parsing_components.specs.declared.fields.Record.{Record}
-use Rattle.parsing_layout.specs.Layout.{Values, Says, piece_of, value_of, field_of}
+use Rattle.parsing_layout.specs.Layout.{Values, field_of}
 use Rattle.parsing_layout.specs.declared.parts.Part.{Part}
 use Rattle.parsing_layout.proofs.ItemsLemmas.{certain_said, said_certain}
 use Rattle.parsing_layout.proofs.LayoutLemmas.{says_first}
 use Rattle.parsing_layout.proofs.PieceLemmas.{inside}
-use Rattle.parsing_layout.specs.Items.{SaysItems, IsThere, all_certain}
+use Rattle.parsing_layout.specs.Items.{SaysItems, all_certain}
 use Rattle.parsing_layout.specs.declared.items.Item.{Item}
 use Rattle.parsing_layout.specs.declared.items.Item.TheVariants as item
 use Rattle.parsing_item_parts.specs.Items.{said_by, set_all, IsItem, AreItems, AddsItem, items_kept, parts_kept, parts_of_item, parts_of_items}

@@ -1,7 +1,6 @@
 -- What is named by a line that says parts.
-use Rattle.std.proofs.Common.{◌≡◌, ◌∙◌, ◌≤◌, ℕ, List, [], length, Option, Some, None, Ok, refl, ap, arith, ℤ}
+use Rattle.std.proofs.Common.{◌≡◌, ℕ, List, [], Option, Some, None, Ok, refl, ℤ}
 use Rattle.std.specs.Prelude.{IfSome}
-use Rattle.std.proofs.lemmas.List.{nil_from_length}
 use Rattle.datetime_wall.specs.Wall.{Shown}
 use Rattle.parsing_components.specs.Meaning.{Meaning}
 use Rattle.parsing_components.specs.declared.fields.Record.{Record}

@@ -4,7 +4,6 @@ use Rattle.std.specs.Prelude.{nat_le, if◌then◌else◌}
 use Rattle.std.specs.Int.{is_in_range}
 use Rattle.std.specs.Option.{option_and_then}
 use Rattle.std.proofs.lemmas.Bool.Decides.{nat_tests}
-use Rattle.calendar_count.specs.Month.{month_number}
 use Rattle.calendar_count.specs.declared.month.Month.{Month}
 use Rattle.calendar_count.specs.declared.month.Month.TheVariants as month
 use Rattle.calendar_count.specs.declared.weekday.Weekday.{Weekday}
