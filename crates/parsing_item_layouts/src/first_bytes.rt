@@ -68,6 +68,7 @@ impl FirstBytes {
     }
 
     // The bytes of a place, where a stretch stands before the lines that these are the bytes of.
+    #[tactic(auto, using(crate::proofs::FrontLemmas::stands_there, crate::proofs::FrontLemmas::after_stretch))]
     fn bytes_after(&self, stretch: Stretch, place: usize) -> [bool; 256]
         ensures { (line rest : List ℕ) → IsCut stretch line rest → Fits self.now rest
             → get_or result (get_or line place 0) true ≡ true }
