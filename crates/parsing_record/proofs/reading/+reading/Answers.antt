@@ -2,7 +2,6 @@ use Rattle.std.proofs.Common.{rules, ◌≡◌, ◌+◌, arith, refl, ◌∙◌,
 use Rattle.std.specs.Prelude.{option_map}
 use Rattle.parsing_combinator.specs.FaultOf.{reading_fault}
 use Rattle.parsing_components.specs.Reads.{reading, tried}
-use Rattle.parsing_components.proofs.lemmas.Sizes.{size, one_of_them}
 use Rattle.parsing_record.proofs.lemmas.Steps.{all_on, all_stop, all_end, still_refused, still_read, still_none, still_some, kept_new, kept_old, first_fault}
 use Rattle.parsing_record.proofs.reading.+reading.Goals as goal
 use Rattle.parsing_record.proofs.reading.+reading.Goals.{read_first-then-is_none, read_first-else-is_none}
@@ -86,29 +85,3 @@ pub read_first-returns-in-Some-clause-tally : goal.read_first-returns-in-Some-cl
 read_first-returns-in-Some-clause-tally g t c =
     let ended = still_some g.N.Node.language g.N.Node.tree c.args.nodes.now c.loop-node.node-index c.args.parsed.now c.args.input.now c.loop-node.fault c.in-Some.refused c.loop-node-test.false c.in-Some.is in
     subst (λ n. g.T.Tally.grows c.args.tally.now c.loop-node.tally n) (omega (arith, ap (λ x. x.1) ended, c.loop-node.invariant.5)) c.loop-node.invariant.4
-
--- ---- the nodes inside a node are smaller
-
-pub read_node-read_nodes-requires : goal.read_node-read_nodes-requires
-unfolding size
-read_node-read_nodes-requires g t c κs within = let inside = ap size c.in-Compound.ensures in (omega (arith, inside, c.decreases), within)
-
-pub read_node-read_optional-requires : goal.read_node-read_optional-requires
-unfolding size
-read_node-read_optional-requires g t c κs within = let inside = ap size c.in-Optional.ensures in (omega (arith, inside, c.decreases), within)
-
-pub read_node-read_first-requires : goal.read_node-read_first-requires
-unfolding size
-read_node-read_first-requires g t c κs within = let inside = ap size c.in-First.ensures in (omega (arith, inside, c.decreases), within)
-
-pub read_nodes-read_one-requires : goal.read_nodes-read_one-requires
-read_nodes-read_one-requires g t c κs within =
-    let one = one_of_them g.N.Node.tree c.args.nodes.now c.loop-node.node-index c.node-item.result c.loop-node-test.true in
-    let same = ap (λ node. size (g.N.Node.tree node)) c.node-item.is in
-    (omega (arith, one, same, c.decreases), within)
-
-pub read_first-read_node-requires : goal.read_first-read_node-requires
-read_first-read_node-requires g t c κs within =
-    let one = one_of_them g.N.Node.tree c.args.nodes.now c.loop-node.node-index c.node-item.result c.loop-node-test.true in
-    let same = ap (λ node. size (g.N.Node.tree node)) c.node-item.is in
-    (omega (arith, one, same, c.decreases), within)
