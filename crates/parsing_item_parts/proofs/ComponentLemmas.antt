@@ -169,7 +169,8 @@ year_item : (reading : Reading Read) (fault : Fault) (extended : Bool) (p : Padd
 year_item reading fault extended padding.Zero false ps is e =
     rw (← inside _ ps e)
     (part_item reading (part.Digits field.Year 4) (λ line rest v x s k. is line ∙ year_read fault extended line rest (v field.Year) x s k))
-year_item reading fault extended p mandatory ps is e = absurd cc
+year_item reading fault extended p true ps is e = absurd cc
+year_item reading fault extended p false ps is e = absurd cc
 
 some_digits_there : (b : Bool) (most : ℕ) (line rest : List ℕ) (n : ℕ) → 1 ≤ most → nat_le 1 (digit_count line) ≡ b
     → taken (digits_between 1 most) line ≡ Some (n, rest) → 0 < digit_count line

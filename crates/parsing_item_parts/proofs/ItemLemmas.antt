@@ -98,8 +98,8 @@ pub items_of_parts : (m : Meaning) (ps : List Part) → IsItem m ps → AreItems
 items_of_parts m ps is line v rest way r new says sets =
     let there = certain_said ps line v rest way says in is line v rest r new there.1 (rw there.0 at sets)
 
-pub parts_of_items : (m : Meaning) (ps : List Part) → AreItems m (map item.Part ps) → IsItem m ps
-parts_of_items m ps are line v rest r new says sets = are line v rest ps r new (said_certain ps line v rest says) sets
+parts_alone : (m : Meaning) (ps : List Part) → AreItems m (map item.Part ps) → IsItem m ps
+parts_alone m ps are line v rest r new says sets = are line v rest ps r new (said_certain ps line v rest says) sets
 
 -- ---- an item more
 
@@ -184,4 +184,4 @@ node_added language t more old (Some new) are h = record { more = more; read = a
 pub alone_read : (m : Meaning) (is : List Item) (o : Option Parts) → AreItems m is → IfSome o (λ l. map item.Part (parts_kept l) ≡ is)
     → IfSome o (λ l. IsItem m (parts_kept l))
 alone_read m is None are same = tt
-alone_read m is (Some l) are same = parts_of_items m (parts_kept l) (rw same are)
+alone_read m is (Some l) are same = parts_alone m (parts_kept l) (rw same are)

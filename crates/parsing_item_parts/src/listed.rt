@@ -6,7 +6,7 @@ ghost use Rattle.parsing_layout.specs.Said.{are_apart, fields_of};
 ghost use Rattle.parsing_layout.specs.declared.parts.Field.TheVariants as field;
 ghost use Rattle.parsing_strides.specs.Found.{values_in};
 ghost use Rattle.parsing_strides.specs.Strides.{made};
-ghost use Rattle.parsing_item_parts.specs.Items.{items_kept, parts_kept};
+ghost use Rattle.parsing_item_parts.specs.Items.{items_kept};
 ghost use Rattle.parsing_item_parts.specs.Kind.{SayDate};
 
 use crate::list::{Items, Parts};

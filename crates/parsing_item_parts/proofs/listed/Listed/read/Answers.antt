@@ -1,4 +1,4 @@
-use Rattle.std.proofs.Common.{◌≤◌, length, arith}
+use Rattle.std.proofs.Common.{arith}
 use Rattle.std.proofs.lemmas.List.{nil_from_length}
 use Rattle.parsing_layout.specs.Said.{fields_of}
 use Rattle.parsing_strides.specs.Found.{values_in}

@@ -1,5 +1,4 @@
 use Rattle.std.proofs.Common.{Some}
-use Rattle.parsing_fields.specs.Moment.{moment_of}
 use Rattle.parsing_layout.specs.Said.{fields_of}
 use Rattle.parsing_strides.specs.Found.{values_in}
 use Rattle.parsing_item_parts.specs.Listed.{IsWay, items_listed}
