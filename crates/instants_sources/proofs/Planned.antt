@@ -3,6 +3,7 @@ use Rattle.std.proofs.Common.{◌≡◌, ℕ, List, Option, Some, None, Ok, refl
 use Rattle.std.specs.Prelude.{IfSome}
 use Rattle.parsing_fields.specs.Moment.{moment_of}
 use Rattle.parsing_fields.specs.declared.fields.Fields.{Fields}
+use Rattle.parsing_item_parts.specs.Listed.{NamesWhole}
 use Rattle.parsing_plan.specs.Places.{ArePlacesOf, IsUnixTimeOf}
 use Rattle.parsing_plan.specs.declared.places.Places.{Places}
 use Rattle.parsing_plan.specs.Plan.{IsPlanOf}
@@ -10,10 +11,8 @@ use Rattle.parsing_record.specs.Prefix.{beginning}
 use Rattle.parsing_plan.specs.declared.plan.Plan.{Plan}
 use Rattle.parsing_plan.specs.declared.plan.Plan.TheVariants as plan
 use Rattle.parsing_plan.specs.declared.unix.UnixTime.{UnixTime}
-use Rattle.parsing_record.specs.Meaning.{Meaning}
-use Rattle.parsing_components.specs.declared.fields.Record.{Record}
-use Rattle.parsing_record.specs.Whole.{starting, whole, names, moment_named}
-use Rattle.instants_sources.specs.Grammar.{Grammar, Described, Rfc2822, Rfc3339, Iso8601}
+use Rattle.parsing_record.specs.Whole.{starting}
+use Rattle.instants_sources.specs.Grammar.{Grammar, Described}
 use Rattle.instants_sources.specs.Named.{defaults_of, named}
 use Rattle.instants_sources.specs.Planned.{IsPlanned}
 use Rattle.instants_sources.specs.Written.{reads_written}
@@ -24,20 +23,15 @@ beginning_of (Some offset) = refl
 
 -- what a plan finds is what the description names
 pub planned_named : (grammar : Grammar) (plan : Plan) (line : List ℕ) (assumed : Option ℤ) (result : Option Fields) → IsPlanned grammar plan
-    → ((m : Meaning) (defaults : Option Record) → IsPlanOf m plan → starting defaults ≡ beginning assumed → IfSome result (λ f. names moment_named (whole m defaults line) ≡ Ok (moment_of f)))
-    → IfSome result (λ f. named assumed grammar line ≡ Ok (moment_of f))
+    → NamesWhole (λ m. IsPlanOf m plan) line assumed result → IfSome result (λ f. named assumed grammar line ≡ Ok (moment_of f))
 planned_named (Described written) plan line assumed result is read = read (reads_written written) (defaults_of assumed) is (beginning_of assumed)
-planned_named Rfc2822 plan line assumed result is read = absurd is
-planned_named Rfc3339 plan line assumed result is read = absurd is
-planned_named Iso8601 plan line assumed result is read = absurd is
+planned_named grammar plan line assumed result is read = absurd is
 
 -- what places, or Unix time alone, find
 pub places_named : (grammar : Grammar) (places : Places) (line : List ℕ) (assumed : Option ℤ) (result : Option Fields) → IsPlanned grammar (plan.Places places)
-    → ((m : Meaning) (defaults : Option Record) → ArePlacesOf m places → starting defaults ≡ beginning assumed → IfSome result (λ f. names moment_named (whole m defaults line) ≡ Ok (moment_of f)))
-    → IfSome result (λ f. named assumed grammar line ≡ Ok (moment_of f))
+    → NamesWhole (λ m. ArePlacesOf m places) line assumed result → IfSome result (λ f. named assumed grammar line ≡ Ok (moment_of f))
 places_named grammar places line assumed result is read = planned_named grammar (plan.Places places) line assumed result is (λ m defaults of starts. read m defaults (of.0 places refl) starts)
 
 pub unix_named : (grammar : Grammar) (unix : UnixTime) (line : List ℕ) (assumed : Option ℤ) (result : Option Fields) → IsPlanned grammar (plan.Unix unix)
-    → ((m : Meaning) (defaults : Option Record) (assumed : Option ℤ) → IsUnixTimeOf m unix → starting defaults ≡ beginning assumed → IfSome result (λ f. names moment_named (whole m defaults line) ≡ Ok (moment_of f)))
-    → IfSome result (λ f. named assumed grammar line ≡ Ok (moment_of f))
-unix_named grammar unix line assumed result is read = planned_named grammar (plan.Unix unix) line assumed result is (λ m defaults of starts. read m defaults assumed (of.1 unix refl) starts)
+    → ((assumed : Option ℤ) → NamesWhole (λ m. IsUnixTimeOf m unix) line assumed result) → IfSome result (λ f. named assumed grammar line ≡ Ok (moment_of f))
+unix_named grammar unix line assumed result is read = planned_named grammar (plan.Unix unix) line assumed result is (λ m defaults of starts. read assumed m defaults (of.1 unix refl) starts)

@@ -49,6 +49,14 @@ offset_piece (component.UnixTimestampNanosecond m) = says (since_epoch read.Unix
 offset_piece (component.Ignore m) = ignored m.count
 offset_piece other = λ bytes. None
 
+-- the digits below a second of a timestamp that needs no sign
+abbrev pub unix_digits : Component → Option ℕ
+unix_digits (component.UnixTimestampSecond m) = if m.sign_is_mandatory then None else Some 0
+unix_digits (component.UnixTimestampMillisecond m) = if m.sign_is_mandatory then None else Some 3
+unix_digits (component.UnixTimestampMicrosecond m) = if m.sign_is_mandatory then None else Some 6
+unix_digits (component.UnixTimestampNanosecond m) = if m.sign_is_mandatory then None else Some 9
+unix_digits other = None
+
 -- the parts of a time
 unfoldable pub time_piece : Component → Piece Read
 time_piece (component.Hour12 m) = says (between 1 12 read.Hour12) (taken (padded m.padding 2 2))

@@ -2,7 +2,6 @@ pub mod Ranged
 pub mod Record
 pub mod Component
 pub mod Put
-pub mod Slot
 pub mod Parts
 pub mod Meaning
 pub mod Reads

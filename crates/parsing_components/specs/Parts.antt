@@ -4,7 +4,7 @@ use Rattle.parsing_values.specs.declared.date_parts.DateParts.{DateParts}
 use Rattle.parsing_values.specs.declared.parts.TimeParts.{TimeParts}
 use Rattle.parsing_values.specs.declared.parts.OffsetParts.{OffsetParts}
 use Rattle.parsing_values.specs.declared.parts.MomentParts.{MomentParts}
-use Rattle.parsing_components.specs.Record.{Record}
+use Rattle.parsing_components.specs.declared.fields.Record.{Record}
 
 abbrev pub date_parts : Record → DateParts
 date_parts r = record { year = record { year = r.year; century = r.year_century; century_is_negative = r.year_century_is_negative; last_two = r.year_last_two }; iso_year = record { year = r.iso_year; century = r.iso_year_century; century_is_negative = r.iso_year_century_is_negative; last_two = r.iso_year_last_two }; ordinal = r.ordinal; month = r.month; day = r.day; weekday = r.weekday; iso_week = r.iso_week_number; sunday_week = r.sunday_week_number; monday_week = r.monday_week_number }

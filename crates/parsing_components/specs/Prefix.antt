@@ -2,7 +2,8 @@
 use Rattle.std.specs.Prelude.{◌≡◌, ℕ, List, Option, Some, None, Ok, ℤ, pos, int_div, int_rem}
 use Rattle.datetime_wall.specs.Wall.{Shown}
 use Rattle.parsing_components.specs.Meaning.{Meaning}
-use Rattle.parsing_components.specs.Record.{Record, empty}
+use Rattle.parsing_components.specs.declared.fields.Record.{Record}
+use Rattle.parsing_components.specs.Record.{empty}
 use Rattle.parsing_components.specs.Whole.{moment_named}
 
 -- the record that a reading begins with where an offset is assumed: its hour and its minute

@@ -43,6 +43,11 @@ from_sunday = weekday.Sunday ∷ weekday.Monday ∷ weekday.Tuesday ∷ weekday.
 abbrev pub from_monday : List Weekday
 from_monday = weekday.Monday ∷ weekday.Tuesday ∷ weekday.Wednesday ∷ weekday.Thursday ∷ weekday.Friday ∷ weekday.Saturday ∷ weekday.Sunday ∷ []
 
+-- the days of the week, from Sunday or from Monday
+abbrev pub week : Bool → List Weekday
+week true = from_sunday
+week false = from_monday
+
 -- the place that a number counts from 1 or from 0
 abbrev pub counted : {A : Type 0} → Bool → List A → ℕ → Option A
 counted true xs zero = None

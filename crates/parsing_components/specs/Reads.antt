@@ -4,7 +4,7 @@ use Rattle.description_items.specs.declared.component.Component.{Component}
 use Rattle.description_items.specs.Tree.{Tree, Trees, Literal, Part, Compound, Optional, First, none, also}
 use Rattle.parsing_combinator.specs.Readings.{Reading}
 use Rattle.parsing_components.specs.declared.said.Read.{Read}
-use Rattle.parsing_components.specs.Record.{Record}
+use Rattle.parsing_components.specs.declared.fields.Record.{Record}
 use Rattle.parsing_components.specs.Meaning.{Meaning, Counted, meaning, alone, more, literally, unchanged, all_of, optionally, first_of}
 pub use Rattle.parsing_components.specs.Put.{putting}
 

@@ -3,7 +3,7 @@ use Rattle.std.specs.Prelude.{ℕ, ◌≤◌, ℤ, pos, neg_ℤ, ◌≤ℤ◌, �
 use Rattle.std.specs.Ordering.{int_eq}
 use Rattle.calendar_count.specs.Range.{greatest_year}
 use Rattle.parsing_components.specs.Ranged.{greatest_century, nanoseconds_before_epoch, nanoseconds_after_epoch}
-pub use Rattle.parsing_components.specs.declared.fields.Record.{Record}
+use Rattle.parsing_components.specs.declared.fields.Record.{Record}
 use Rattle.parsing_components.specs.declared.said.Read.{Read}
 use Rattle.parsing_components.specs.declared.said.Read.TheVariants as read
 

@@ -8,7 +8,8 @@ use Rattle.parsing_combinator.specs.declared.fault.Parse.{Parse}
 use Rattle.parsing_values.specs.NamedDate.{named_date}
 use Rattle.parsing_values.specs.NamedTime.{named_time, named_offset}
 use Rattle.parsing_values.specs.NamedMoment.{named_wall, named_moment, named_utc, named_timestamp}
-use Rattle.parsing_components.specs.Record.{Record, empty}
+use Rattle.parsing_components.specs.declared.fields.Record.{Record}
+use Rattle.parsing_components.specs.Record.{empty}
 use Rattle.parsing_components.specs.Parts.{date_parts, time_parts, offset_parts, moment_parts}
 use Rattle.parsing_components.specs.Meaning.{Answer, Meaning}
 

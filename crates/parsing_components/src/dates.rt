@@ -1,10 +1,10 @@
 //! Months and weekdays by their numbers.
-ghost use Rattle.std.specs.Prelude.{◌≡◌, ℕ, List, true, option_and_then};
+ghost use Rattle.std.specs.Prelude.{◌≡◌, List, true, option_and_then};
 ghost use Rattle.parsing_combinator.specs.Pieces.{cut_view};
 ghost use Rattle.parsing_combinator.specs.Shape.{taken, digits_between};
 ghost use Rattle.parsing_combinator.specs.Numbers.{padded};
 ghost use Rattle.calendar_count.specs.declared.weekday.Weekday.{Weekday};
-ghost use Rattle.parsing_components.specs.Ranged.{says, entry, counted, months, from_sunday, from_monday};
+ghost use Rattle.parsing_components.specs.Ranged.{says, entry, counted, months, week};
 
 use crate::ranged::two;
 use calendar_count::{Month, Weekday};
@@ -24,38 +24,16 @@ pub(crate) fn month_number(padding: Padding, bytes: &[u8]) -> Option<(Month, &[u
     Some((Month::from_number(n), rest))
 }
 
-// The day of the week so many days after Sunday.
-#[tactic(auto, using(crate::proofs::Entries::past_sunday))]
-fn after_sunday(n: u32) -> Option<Weekday>
-    ensures { result ≡ entry from_sunday n }
+// The day of the week so many days after its first one, Sunday or Monday.
+#[tactic(auto, using(crate::proofs::Entries::week_entry, crate::proofs::Entries::past_week))]
+fn day_after(is_from_sunday: bool, n: u32) -> Option<Weekday>
+    ensures { result ≡ entry (week is_from_sunday) n }
 {
-    match n {
-        0 => Some(Weekday::Sunday),
-        1 => Some(Weekday::Monday),
-        2 => Some(Weekday::Tuesday),
-        3 => Some(Weekday::Wednesday),
-        4 => Some(Weekday::Thursday),
-        5 => Some(Weekday::Friday),
-        6 => Some(Weekday::Saturday),
-        _ => None,
+    if n > 6 {
+        return None;
     }
-}
-
-// The day of the week so many days after Monday.
-#[tactic(auto, using(crate::proofs::Entries::past_monday))]
-fn after_monday(n: u32) -> Option<Weekday>
-    ensures { result ≡ entry from_monday n }
-{
-    match n {
-        0 => Some(Weekday::Monday),
-        1 => Some(Weekday::Tuesday),
-        2 => Some(Weekday::Wednesday),
-        3 => Some(Weekday::Thursday),
-        4 => Some(Weekday::Friday),
-        5 => Some(Weekday::Saturday),
-        6 => Some(Weekday::Sunday),
-        _ => None,
-    }
+    let after_monday = if is_from_sunday { (n + 6) % 7 } else { n };
+    Some(Weekday::from_number(after_monday as u8))
 }
 
 // The days after the first one of the week that a number counts from 1 or from 0.
@@ -70,22 +48,17 @@ fn days_counted(one_indexed: bool, n: u32) -> Option<u32>
     if n == 0 { None } else { Some(n - 1) }
 }
 
-/// The weekday of a number that counts from Sunday.
+/// The weekday of a number that counts from Sunday, or from Monday.
 #[inline(always)]
-pub(crate) fn sunday_number(one_indexed: bool, bytes: &[u8]) -> Option<(Weekday, &[u8])>
-    ensures { cut_view result ≡ says (counted one_indexed from_sunday) (taken (digits_between 1 1)) bytes.now }
+pub(crate) fn weekday_number(
+    is_from_sunday: bool,
+    one_indexed: bool,
+    bytes: &[u8],
+) -> Option<(Weekday, &[u8])>
+    ensures { cut_view result
+        ≡ says (counted one_indexed (week is_from_sunday)) (taken (digits_between 1 1)) bytes.now }
 {
     let (n, rest) = digits_between(1, 1, bytes)?;
-    let weekday = after_sunday(days_counted(one_indexed, n)?)?;
-    Some((weekday, rest))
-}
-
-/// The weekday of a number that counts from Monday.
-#[inline(always)]
-pub(crate) fn monday_number(one_indexed: bool, bytes: &[u8]) -> Option<(Weekday, &[u8])>
-    ensures { cut_view result ≡ says (counted one_indexed from_monday) (taken (digits_between 1 1)) bytes.now }
-{
-    let (n, rest) = digits_between(1, 1, bytes)?;
-    let weekday = after_monday(days_counted(one_indexed, n)?)?;
+    let weekday = day_after(is_from_sunday, days_counted(one_indexed, n)?)?;
     Some((weekday, rest))
 }

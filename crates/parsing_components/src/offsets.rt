@@ -3,11 +3,13 @@ ghost use Rattle.std.specs.Prelude.{◌≡◌, ◌≤◌, ◌<◌, ◌*◌, ◌^
 ghost use Rattle.parsing_combinator.specs.Pieces.{cut_view};
 ghost use Rattle.parsing_combinator.specs.Shape.{taken};
 ghost use Rattle.parsing_combinator.specs.Numbers as Numbers;
-ghost use Rattle.parsing_components.specs.Record.{InSigned, Reaches};
+ghost use Rattle.parsing_components.specs.Record.{InSigned, IsInRange};
+ghost use Rattle.parsing_components.specs.declared.said.Read.TheVariants as read;
 ghost use Rattle.parsing_components.specs.Put.{passed};
 ghost use Rattle.parsing_components.specs.Ranged.{nanoseconds_before_epoch, nanoseconds_after_epoch, says, up_to, since_epoch};
 ghost use Rattle.parsing_components.specs.Component as Components;
 
+use crate::said::Read;
 use description_items::modifier::Padding;
 use parsing_combinator::{offset_hour, timestamp};
 
@@ -17,17 +19,19 @@ pub(crate) fn hour_of_offset(
     padding: Padding,
     mandatory: bool,
     bytes: &[u8],
-) -> Option<((i8, bool), &[u8])>
-    ensures reads { cut_view result ≡ says (up_to 25 (λ negative hour. (hour, negative)))
+) -> Option<(Read, &[u8])>
+    ensures reads { cut_view result
+        ≡ says (up_to 25 (λ negative hour. read.OffsetHour hour negative))
         (taken (Numbers.offset_hour padding mandatory)) bytes.now }
-    ensures range { IfSome result (λ x. Reaches 25 (Some x.0.0)) }
+    ensures range { IfSome result (λ x. IsInRange x.0) }
 {
     let ((negative, n), rest) = offset_hour(padding, mandatory, bytes)?;
     if n > 25 {
         return None;
     }
     let n = n as i8;
-    Some(((if negative { -n } else { n }, negative), rest))
+    let hour = if negative { -n } else { n };
+    Some((Read::OffsetHour(hour, negative), rest))
 }
 
 // The nanoseconds of so many units before or after 1970, if the calendar has them.
@@ -52,18 +56,17 @@ fn nanoseconds(is_negative: bool, count: u128, unit: u32) -> Option<i128>
 
 /// Unix time in a unit, as nanoseconds.
 #[tactic(auto, using(crate::proofs::Timestamps::product_fits))]
-pub(crate) fn unix(mandatory: bool, most: usize, unit: u32, bytes: &[u8]) -> Option<(i128, &[u8])>
+pub(crate) fn unix(mandatory: bool, most: usize, unit: u32, bytes: &[u8]) -> Option<(Read, &[u8])>
     requires some { 1 ≤ most }
     requires fits { most ≤ 23 }
     requires small { unit ≤ 1_000_000_000 }
     ensures reads { cut_view result
-        ≡ says (since_epoch (λ n. n) unit) (taken (Numbers.timestamp mandatory most)) bytes.now }
-    ensures range { IfSome result (λ x. InSigned (neg_ℤ (pos nanoseconds_before_epoch))
-        (pos nanoseconds_after_epoch) (Some x.0)) }
+        ≡ says (since_epoch read.Unix unit) (taken (Numbers.timestamp mandatory most)) bytes.now }
+    ensures range { IfSome result (λ x. IsInRange x.0) }
 {
     let ((is_negative, count), rest) = timestamp(mandatory, most, bytes)?;
     let nanoseconds = nanoseconds(is_negative, count, unit)?;
-    Some((nanoseconds, rest))
+    Some((Read::Unix(nanoseconds), rest))
 }
 
 /// What follows so many bytes.

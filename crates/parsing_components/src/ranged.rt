@@ -1,14 +1,16 @@
 //! Numbers in their ranges.
-ghost use Rattle.std.specs.Prelude.{◌≡◌, ◌≤◌, ◌<◌, Some, IfSome};
+ghost use Rattle.std.specs.Prelude.{◌≡◌, ◌≤◌, ◌<◌, Some, IfSome, if◌then◌else◌};
 ghost use Rattle.calendar_count.specs.Range.{greatest_year};
 ghost use Rattle.parsing_combinator.specs.Pieces.{cut_view};
 ghost use Rattle.parsing_combinator.specs.Shape.{taken};
 ghost use Rattle.parsing_combinator.specs.Numbers as Numbers;
-ghost use Rattle.parsing_components.specs.Record.{Reaches};
+ghost use Rattle.parsing_components.specs.Record.{IsInRange};
+ghost use Rattle.parsing_components.specs.declared.said.Read.TheVariants as read;
 ghost use Rattle.parsing_components.specs.Ranged.{greatest_century, says, between, up_to};
 ghost use Rattle.parsing_components.specs.Ranged as Ranged;
 ghost use Rattle.parsing_components.specs.Component as Components;
 
+use crate::said::Read;
 use description_items::modifier::{Padding, SubsecondDigits};
 use parsing_combinator::{century, fraction_between, padded, padded_two, year};
 
@@ -52,34 +54,54 @@ fn under(negative: bool, n: u32) -> i32
 /// A year, with the sign that it may have.
 #[inline(always)]
 pub(crate) fn full_year(
+    is_iso: bool,
     padding: Padding,
     mandatory: bool,
     extended: bool,
     bytes: &[u8],
-) -> Option<(i32, &[u8])>
-    ensures reads { cut_view result ≡ says (up_to greatest_year (λ negative y. y))
+) -> Option<(Read, &[u8])>
+    ensures reads { cut_view result
+        ≡ says (up_to greatest_year (λ negative y. if is_iso then read.IsoYear y else read.Year y))
         (taken (Numbers.year padding mandatory extended)) bytes.now }
-    ensures range { IfSome result (λ x. Reaches greatest_year (Some x.0)) }
+    ensures range { IfSome result (λ x. IsInRange x.0) }
 {
     let ((negative, n), rest) = year(padding, mandatory, extended, bytes)?;
-    Some((under(negative, n), rest))
+    let year = under(negative, n);
+    Some((
+        if is_iso {
+            Read::IsoYear(year)
+        } else {
+            Read::Year(year)
+        },
+        rest,
+    ))
 }
 
 /// A century, with the sign that it may have, and whether that is a minus.
 #[inline(always)]
 pub(crate) fn full_century(
+    is_iso: bool,
     padding: Padding,
     mandatory: bool,
     extended: bool,
     bytes: &[u8],
-) -> Option<((i16, bool), &[u8])>
-    ensures reads { cut_view result ≡ says (up_to greatest_century (λ negative c. (c, negative)))
+) -> Option<(Read, &[u8])>
+    ensures reads { cut_view result
+        ≡ says (up_to greatest_century (λ negative c. if is_iso then read.IsoYearCentury c negative else read.YearCentury c negative))
         (taken (Numbers.century padding mandatory extended)) bytes.now }
-    ensures range { IfSome result (λ x. Reaches greatest_century (Some x.0.0)) }
+    ensures range { IfSome result (λ x. IsInRange x.0) }
 {
     let ((negative, n), rest) = century(padding, mandatory, extended, bytes)?;
     let n = n as i16;
-    Some(((if negative { -n } else { n }, negative), rest))
+    let century = if negative { -n } else { n };
+    Some((
+        if is_iso {
+            Read::IsoYearCentury(century, negative)
+        } else {
+            Read::YearCentury(century, negative)
+        },
+        rest,
+    ))
 }
 
 /// The nanoseconds of the digits of a fraction of a second.

@@ -1,15 +1,21 @@
 //! What each component reads.
-ghost use Rattle.std.specs.Prelude.{◌≡◌, IfSome};
+ghost use Rattle.std.specs.Prelude.{◌≡◌, ◌≤◌, IfSome};
+ghost use Rattle.parsing_combinator.specs.FaultOf.{Gives, reading_fault};
 ghost use Rattle.parsing_combinator.specs.Pieces.{cut_view};
-ghost use Rattle.parsing_components.specs.Record.{IsInRange};
+ghost use Rattle.parsing_components.specs.Put.{Reads, passed, putting};
+ghost use Rattle.parsing_components.specs.Record.{IsInRange, IsWithin};
 ghost use Rattle.parsing_components.specs.Component as Components;
 
-use crate::dates::{monday_number, month_number, sunday_number};
-use crate::offsets::{hour_of_offset, ignored, unix};
+use crate::dates::{month_number, weekday_number};
+use crate::fields::Record;
+use crate::offsets::{hour_of_offset, ignored, ignored_characters, unix};
 use crate::ranged::{full_century, full_year, subsecond, three, two};
 use crate::said::Read;
 use description_items::Component;
-use parsing_combinator::{long_month, long_weekday, period, short_month, short_weekday};
+use description_items::modifier::TrailingInput;
+use parsing_combinator::{
+    ParseFromDescription, long_month, long_weekday, period, short_month, short_weekday,
+};
 
 // What the parts of an offset, timestamps and passed bytes say.
 #[tactic(auto, unfolding(crate::specs::Component::offset_piece))]
@@ -19,31 +25,17 @@ fn offset_piece(component: Component, bytes: &[u8]) -> Option<(Read, &[u8])>
     ensures range { IfSome result (λ x. IsInRange x.0) }
 {
     match component {
-        Component::OffsetHour(m) => hour_of_offset(m.padding, m.sign_is_mandatory, bytes).map(|(
-            (hour, negative),
-            rest,
-        )| (Read::OffsetHour(hour, negative), rest)),
+        Component::OffsetHour(m) => hour_of_offset(m.padding, m.sign_is_mandatory, bytes),
         Component::OffsetMinute(m) => {
             two(m.padding, 0, 59, bytes).map(|(n, rest)| (Read::OffsetMinute(n), rest))
         }
         Component::OffsetSecond(m) => {
             two(m.padding, 0, 59, bytes).map(|(n, rest)| (Read::OffsetSecond(n), rest))
         }
-        Component::UnixTimestampSecond(m) => unix(
-            m.sign_is_mandatory,
-            14,
-            1_000_000_000,
-            bytes,
-        ).map(|(n, rest)| (Read::Unix(n), rest)),
-        Component::UnixTimestampMillisecond(m) => {
-            unix(m.sign_is_mandatory, 17, 1_000_000, bytes).map(|(n, rest)| (Read::Unix(n), rest))
-        }
-        Component::UnixTimestampMicrosecond(m) => {
-            unix(m.sign_is_mandatory, 20, 1_000, bytes).map(|(n, rest)| (Read::Unix(n), rest))
-        }
-        Component::UnixTimestampNanosecond(m) => {
-            unix(m.sign_is_mandatory, 23, 1, bytes).map(|(n, rest)| (Read::Unix(n), rest))
-        }
+        Component::UnixTimestampSecond(m) => unix(m.sign_is_mandatory, 14, 1_000_000_000, bytes),
+        Component::UnixTimestampMillisecond(m) => unix(m.sign_is_mandatory, 17, 1_000_000, bytes),
+        Component::UnixTimestampMicrosecond(m) => unix(m.sign_is_mandatory, 20, 1_000, bytes),
+        Component::UnixTimestampNanosecond(m) => unix(m.sign_is_mandatory, 23, 1, bytes),
         Component::Ignore(m) => ignored(m.count, bytes).map(|rest| (Read::Nothing, rest)),
         _ => None,
     }
@@ -91,55 +83,31 @@ fn year_piece(component: Component, bytes: &[u8]) -> Option<(Read, &[u8])>
 {
     match component {
         Component::CalendarYearFullExtendedRange(m) => {
-            full_year(m.padding, m.sign_is_mandatory, true, bytes).map(|(y, rest)| (
-                Read::Year(y),
-                rest,
-            ))
+            full_year(false, m.padding, m.sign_is_mandatory, true, bytes)
         }
         Component::CalendarYearFullStandardRange(m) => {
-            full_year(m.padding, m.sign_is_mandatory, false, bytes).map(|(y, rest)| (
-                Read::Year(y),
-                rest,
-            ))
+            full_year(false, m.padding, m.sign_is_mandatory, false, bytes)
         }
         Component::CalendarYearCenturyExtendedRange(m) => {
-            full_century(m.padding, m.sign_is_mandatory, true, bytes).map(|((c, negative), rest)| (
-                Read::YearCentury(c, negative),
-                rest,
-            ))
+            full_century(false, m.padding, m.sign_is_mandatory, true, bytes)
         }
         Component::CalendarYearCenturyStandardRange(m) => {
-            full_century(m.padding, m.sign_is_mandatory, false, bytes).map(|((c, negative), rest)| (
-                Read::YearCentury(c, negative),
-                rest,
-            ))
+            full_century(false, m.padding, m.sign_is_mandatory, false, bytes)
         }
         Component::CalendarYearLastTwo(m) => {
             two(m.padding, 0, 99, bytes).map(|(n, rest)| (Read::YearLastTwo(n), rest))
         }
         Component::IsoYearFullExtendedRange(m) => {
-            full_year(m.padding, m.sign_is_mandatory, true, bytes).map(|(y, rest)| (
-                Read::IsoYear(y),
-                rest,
-            ))
+            full_year(true, m.padding, m.sign_is_mandatory, true, bytes)
         }
         Component::IsoYearFullStandardRange(m) => {
-            full_year(m.padding, m.sign_is_mandatory, false, bytes).map(|(y, rest)| (
-                Read::IsoYear(y),
-                rest,
-            ))
+            full_year(true, m.padding, m.sign_is_mandatory, false, bytes)
         }
         Component::IsoYearCenturyExtendedRange(m) => {
-            full_century(m.padding, m.sign_is_mandatory, true, bytes).map(|((c, negative), rest)| (
-                Read::IsoYearCentury(c, negative),
-                rest,
-            ))
+            full_century(true, m.padding, m.sign_is_mandatory, true, bytes)
         }
         Component::IsoYearCenturyStandardRange(m) => {
-            full_century(m.padding, m.sign_is_mandatory, false, bytes).map(|((c, negative), rest)| (
-                Read::IsoYearCentury(c, negative),
-                rest,
-            ))
+            full_century(true, m.padding, m.sign_is_mandatory, false, bytes)
         }
         Component::IsoYearLastTwo(m) => {
             two(m.padding, 0, 99, bytes).map(|(n, rest)| (Read::IsoYearLastTwo(n), rest))
@@ -177,10 +145,13 @@ pub fn read(component: Component, bytes: &[u8]) -> Option<(Read, &[u8])>
             long_weekday(m.case_sensitive, bytes).map(|(day, rest)| (Read::Weekday(day), rest))
         }
         Component::WeekdaySunday(m) => {
-            sunday_number(m.one_indexed, bytes).map(|(day, rest)| (Read::Weekday(day), rest))
+            weekday_number(true, m.one_indexed, bytes).map(|(day, rest)| (Read::Weekday(day), rest))
         }
         Component::WeekdayMonday(m) => {
-            monday_number(m.one_indexed, bytes).map(|(day, rest)| (Read::Weekday(day), rest))
+            weekday_number(false, m.one_indexed, bytes).map(|(day, rest)| (
+                Read::Weekday(day),
+                rest,
+            ))
         }
         Component::WeekNumberIso(m) => {
             two(m.padding, 1, 53, bytes).map(|(n, rest)| (Read::IsoWeek(n), rest))
@@ -192,5 +163,147 @@ pub fn read(component: Component, bytes: &[u8]) -> Option<(Read, &[u8])>
             two(m.padding, 0, 53, bytes).map(|(n, rest)| (Read::MondayWeek(n), rest))
         }
         other => year_piece(other, bytes),
+    }
+}
+
+/// How many digits below a second the timestamp has that a component is, where it needs no sign.
+pub fn unix_digits(component: &Component) -> Option<usize>
+    ensures digits { result ≡ Components.unix_digits component.now }
+    ensures few { IfSome result (λ digits. digits ≤ 9) }
+{
+    match component {
+        Component::UnixTimestampSecond(m) if !m.sign_is_mandatory => Some(0),
+        Component::UnixTimestampMillisecond(m) if !m.sign_is_mandatory => Some(3),
+        Component::UnixTimestampMicrosecond(m) if !m.sign_is_mandatory => Some(6),
+        Component::UnixTimestampNanosecond(m) if !m.sign_is_mandatory => Some(9),
+        _ => None,
+    }
+}
+
+// The name of a part of a time in a fault, else that of years.
+#[tactic(auto, unfolding(crate::specs::Component::time_name))]
+fn time_name(component: Component) -> &'static str
+    ensures { result.now ≡ Components.time_name component }
+{
+    match component {
+        Component::Hour12(_) | Component::Hour24(_) => "hour",
+        Component::Minute(_) => "minute",
+        Component::Period(_) => "period",
+        Component::Second(_) => "second",
+        Component::Subsecond(_) => "subsecond",
+        Component::OffsetHour(_) => "offset hour",
+        Component::OffsetMinute(_) => "offset minute",
+        Component::OffsetSecond(_) => "offset second",
+        Component::Ignore(_) => "ignore",
+        Component::UnixTimestampSecond(_)
+        | Component::UnixTimestampMillisecond(_)
+        | Component::UnixTimestampMicrosecond(_)
+        | Component::UnixTimestampNanosecond(_) => "unix_timestamp",
+        _ => "year",
+    }
+}
+
+// The name of a component in a fault.
+#[cold]
+#[tactic(auto, unfolding(crate::specs::Component::component_name))]
+fn component_name(component: Component) -> &'static str
+    ensures { result.now ≡ Components.component_name component }
+{
+    match component {
+        Component::MonthShort(_) | Component::MonthLong(_) | Component::MonthNumerical(_) =>
+            "month",
+        Component::Day(_) => "day",
+        Component::Ordinal(_) => "ordinal",
+        Component::WeekdayShort(_)
+        | Component::WeekdayLong(_)
+        | Component::WeekdaySunday(_)
+        | Component::WeekdayMonday(_) => "weekday",
+        Component::WeekNumberIso(_)
+        | Component::WeekNumberSunday(_)
+        | Component::WeekNumberMonday(_) => "week number",
+        other => time_name(other),
+    }
+}
+
+// The end of the bytes, or all that remains.
+#[inline(always)]
+fn at_end(trailing: TrailingInput, bytes: &[u8]) -> Result<&[u8], ParseFromDescription>
+    ensures { Gives passed reading_fault result (Components.at_end trailing bytes.now) }
+{
+    match trailing {
+        TrailingInput::Discard => Ok(&[]),
+        TrailingInput::Prohibit if bytes.is_empty() => Ok(bytes),
+        TrailingInput::Prohibit => Err(ParseFromDescription::UnexpectedTrailingCharacters),
+    }
+}
+
+// What a component of a newer form reads.
+#[tactic(auto, unfolding(crate::specs::Component::reads_modern))]
+#[inline(always)]
+fn read_modern<'a>(
+    component: Component,
+    bytes: &'a [u8],
+    fields: &mut Record,
+) -> Result<&'a [u8], ParseFromDescription>
+    requires within { IsWithin fields.old }
+    ensures reads { Reads result fields.old fields.new
+        (putting (Components.reads_modern component) fields.old bytes.now) }
+    ensures within { IsWithin fields.new }
+{
+    if let Component::End(end) = component {
+        return at_end(end.trailing_input, bytes);
+    }
+    match read(component, bytes) {
+        Some((said, rest)) => {
+            fields.put(said);
+            Ok(rest)
+        }
+        None => Err(ParseFromDescription::InvalidComponent(component_name(component))),
+    }
+}
+
+/// Sets what the component says at the start of the bytes, and returns the bytes after it.
+#[tactic(auto, unfolding(crate::specs::Component::reads_component))]
+#[inline(always)]
+pub fn read_component<'a>(
+    component: Component,
+    bytes: &'a [u8],
+    fields: &mut Record,
+) -> Result<&'a [u8], ParseFromDescription>
+    requires within { IsWithin fields.old }
+    ensures reads { Reads result fields.old fields.new
+        (putting (Components.reads_component component) fields.old bytes.now) }
+    ensures within { IsWithin fields.new }
+{
+    let newer = match component {
+        Component::Month(_)
+        | Component::Weekday(_)
+        | Component::WeekNumber(_)
+        | Component::Year(_)
+        | Component::Hour(_)
+        | Component::UnixTimestamp(_) => component.modern(),
+        newer => newer,
+    };
+    read_modern(newer, bytes, fields)
+}
+
+/// Sets what the component says as version 3 reads: no character may go on after ignored bytes.
+#[tactic(auto, unfolding(crate::specs::Component::reads_component_v3))]
+#[inline(always)]
+pub fn read_component_v3<'a>(
+    component: Component,
+    bytes: &'a [u8],
+    fields: &mut Record,
+) -> Result<&'a [u8], ParseFromDescription>
+    requires within { IsWithin fields.old }
+    ensures reads { Reads result fields.old fields.new
+        (putting (Components.reads_component_v3 component) fields.old bytes.now) }
+    ensures within { IsWithin fields.new }
+{
+    match component {
+        Component::Ignore(ignore) => ignored_characters(ignore.count, bytes).ok_or(
+            ParseFromDescription::InvalidComponent("ignore"),
+        ),
+        other => read_component(other, bytes, fields),
     }
 }

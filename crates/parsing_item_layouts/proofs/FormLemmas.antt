@@ -95,10 +95,9 @@ digits_cut most = taken_cuts (λ place c. is_ascii_digit c) 1 false (digits_betw
 one_digit : Cuts (piece.Bytes (exactly kind.Digit 1)) (taken (digits_between 1 1))
 one_digit = taken_cuts (λ place c. is_ascii_digit c) 1 true (digits_between 1 1) (digits_hold (digits_value 10) 1 1 1 true (omega arith) (λ e. (refl, refl)))
 
-padded_is : (p : Padding) (f : Field) (line : List ℕ) → piece_of (padded_part p f) line ≡ taken (padded p 2 2) line
+pub padded_is : (p : Padding) (f : Field) (line : List ℕ) → piece_of (padded_part p f) line ≡ taken (padded p 2 2) line
 padded_is padding.Zero f line = sym (taken_padded_exactly padding.Zero 2 line)
-padded_is padding.Space f line = sym (taken_padded_exactly padding.Space 2 line)
-padded_is padding.None f line = sym (taken_padded_exactly padding.None 2 line)
+padded_is p f line = sym (taken_padded_exactly p 2 line)
 
 two_cut : (p : Padding) (f : Field) → Cuts (piece.Part (padded_part p f)) (taken (padded p 2 2))
 two_cut p f line = part_goes (padded_part p f) line (taken (padded p 2 2) line) (padded_is p f line)
@@ -114,16 +113,8 @@ taken_fraction n bytes = taken_digits nanoseconds_of n n bytes (omega arith) ∙
 ]
 
 fraction_cut : (d : SubsecondDigits) → Cuts (piece.Part (fraction_part d)) (taken (parsed.fraction_of d))
-fraction_cut digits_of.One line = part_goes (part.Fraction 1) line (taken (fraction_between 1 1) line) (sym (taken_fraction 1 line))
-fraction_cut digits_of.Two line = part_goes (part.Fraction 2) line (taken (fraction_between 2 2) line) (sym (taken_fraction 2 line))
-fraction_cut digits_of.Three line = part_goes (part.Fraction 3) line (taken (fraction_between 3 3) line) (sym (taken_fraction 3 line))
-fraction_cut digits_of.Four line = part_goes (part.Fraction 4) line (taken (fraction_between 4 4) line) (sym (taken_fraction 4 line))
-fraction_cut digits_of.Five line = part_goes (part.Fraction 5) line (taken (fraction_between 5 5) line) (sym (taken_fraction 5 line))
-fraction_cut digits_of.Six line = part_goes (part.Fraction 6) line (taken (fraction_between 6 6) line) (sym (taken_fraction 6 line))
-fraction_cut digits_of.Seven line = part_goes (part.Fraction 7) line (taken (fraction_between 7 7) line) (sym (taken_fraction 7 line))
-fraction_cut digits_of.Eight line = part_goes (part.Fraction 8) line (taken (fraction_between 8 8) line) (sym (taken_fraction 8 line))
-fraction_cut digits_of.Nine line = part_goes (part.Fraction 9) line (taken (fraction_between 9 9) line) (sym (taken_fraction 9 line))
 fraction_cut digits_of.OneOrMore line = part_goes part.OpenFraction line (taken (fraction_between 1 32) line) refl
+fraction_cut d line = part_goes (fraction_part d) line (taken (parsed.fraction_of d) line) (sym (taken_fraction _ line))
 
 -- ---- with a sign or without
 
@@ -153,8 +144,7 @@ after_century p false = exact_cut p 2
 
 full_year_cut : (p : Padding) → Cuts (full_year p) (taken (padded p 4 4))
 full_year_cut padding.Zero line = part_goes (part.Digits field.Year 4) line (taken (padded padding.Zero 4 4) line) (sym (taken_padded_exactly padding.Zero 4 line))
-full_year_cut padding.Space line = exact_cut padding.Space 4 line
-full_year_cut padding.None line = exact_cut padding.None 4 line
+full_year_cut p line = exact_cut p 4 line
 
 -- ---- components
 
@@ -201,12 +191,8 @@ ignored_goes : (fault : Fault) (count : ℕ) (line : List ℕ) (enough : Bool) �
 ignored_goes fault count line true = any_cut count line
 ignored_goes fault count line false = tt
 
-if_begins : (fault : Fault) (count : ℕ) (line : List ℕ) (begins : Bool) → IfOk (piece_or fault (if begins then Some (read.Nothing, drop count line) else None)) (λ x. IsFormed (some_bytes (exactly kind.Any count)) line x.1)
-if_begins fault count line true = any_cut count line
-if_begins fault count line false = tt
-
 whole_goes : (fault : Fault) (count : ℕ) (line : List ℕ) (enough : Bool) → IfOk (piece_or fault (if_whole (if enough then Some (read.Nothing, drop count line) else None))) (λ x. IsFormed (some_bytes (exactly kind.Any count)) line x.1)
-whole_goes fault count line true = if_begins fault count line (begins_character (drop count line))
+whole_goes fault count line true = ignored_goes fault count line (begins_character (drop count line))
 whole_goes fault count line false = tt
 
 -- anything at all

@@ -1,37 +1,21 @@
--- One byte of a text more before what follows it; and what no line can begin with is refused.
-use Rattle.std.proofs.Common.{◌≡◌, ◌<◌, ◌≤◌, ◌+◌, ◌-◌, ◌∙◌, ◌==◌, ◌&&◌, ℕ, zero, suc, Bool, true, false, not, List, [], ◌∷◌, ◌++◌, length, get_or, drop, replicate, None, Ok, Err, refl, sym, ap, arith}
+-- What no line can begin with is refused.
+use Rattle.std.proofs.Common.{◌≡◌, ◌<◌, ◌≤◌, ◌+◌, ◌-◌, ◌∙◌, ◌==◌, ◌&&◌, ℕ, zero, suc, Bool, true, false, not, List, [], ◌∷◌, length, get_or, replicate, None, Ok, Err, refl, sym, ap, arith}
 use Rattle.parsing_layout.proofs.BoundsLemmas.{set_each}
 use Rattle.std.specs.Prelude.{set, IfOk}
 use Rattle.std.specs.Result.{result_ok}
 use Rattle.std.proofs.lemmas.Bool.Decides.{nat_tests}
-use Rattle.std.proofs.lemmas.List.{drop_more, get_or-drop}
-use Rattle.parsing_record.specs.Meaning.{Meaning, Answer}
+use Rattle.std.proofs.lemmas.List.{get_or-drop}
+use Rattle.parsing_components.specs.Meaning.{Meaning, Answer}
 use Rattle.parsing_components.specs.declared.fields.Record.{Record}
-use Rattle.parsing_record.specs.Whole.{whole, starting, all_read}
+use Rattle.parsing_components.specs.Whole.{whole, starting, all_read}
 use Rattle.parsing_layout.specs.declared.stretch.Stretch.{Stretch}
-use Rattle.parsing_layout.specs.Stretch.{IsCut, exactly, stands}
+use Rattle.parsing_layout.specs.Stretch.{IsCut, stands}
 use Rattle.parsing_layout.specs.declared.stretch.Kind.TheVariants as kind
 use Rattle.parsing_item_layouts.specs.Fronts.{Leads}
 use Rattle.parsing_item_layouts.specs.FirstBounds.{IsWithin, AreBoundsOf}
 use Rattle.parsing_item_layouts.specs.FirstBytes.{AreOf, Fits, bytes_at, fits_at, rule_out}
 use Rattle.parsing_item_layouts.specs.declared.first_bounds.FirstBounds.{FirstBounds}
 use Rattle.parsing_item_layouts.specs.declared.first_bytes.FirstBytes.{FirstBytes}
-
--- ---- the bytes of a text, from its last one
-
-byte_is : (b place : ℕ) (xs : List ℕ) → place < 1 → (get_or (b ∷ xs) place 0 == b) ≡ true
-byte_is b zero xs lt = grind (arith, nat_tests)
-byte_is b (suc place) xs lt = absurd (omega (arith, lt))
-
-byte_cut : (b : ℕ) (xs : List ℕ) → IsCut (exactly (kind.Only b) 1) (b ∷ xs) xs
-byte_cut b xs = ((λ place lt. byte_is b place xs lt), λ e. refl)
-
--- the text from a place on, with the byte before it
-pub byte_before : (text rest : List ℕ) (i at : ℕ) → i < length text → at ≡ length text - 1 - i → IsCut (exactly (kind.Only (get_or text at 0)) 1) (drop (length text - (i + 1)) text ++ rest) (drop (length text - i) text ++ rest)
-byte_before text rest i at lt place =
-    let here : length text - (i + 1) ≡ at = omega (arith, lt, place) in
-    let next : length text - i ≡ at + 1 = omega (arith, lt, place) in
-    rw (here, next, drop_more text at 0 (omega (arith, lt, place))) (byte_cut (get_or text at 0) (drop (at + 1) text ++ rest))
 
 -- ---- what does not fit is refused
 

@@ -12,8 +12,8 @@ use Rattle.parsing_combinator.specs.Fault.{Fault, literal}
 use Rattle.parsing_combinator.specs.Readings.{then_read, give}
 use Rattle.parsing_components.specs.Put.{put}
 use Rattle.parsing_components.specs.declared.said.Read.{Read}
-use Rattle.parsing_record.specs.Meaning.{Meaning, Answer, Counted, then_counted, all_of, or_unchanged, optionally, or_next, first_success, found_or, or_found, first_of, literally}
-use Rattle.parsing_record.specs.Reads.{Language, reading, reading_of_all, reads, each_reads}
+use Rattle.parsing_components.specs.Meaning.{Meaning, Answer, Counted, then_counted, all_of, or_unchanged, optionally, or_next, first_success, found_or, or_found, first_of, literally}
+use Rattle.parsing_components.specs.Reads.{Language, reading, reading_of_all, reads, each_reads}
 use Rattle.parsing_components.specs.declared.fields.Record.{Record}
 use Rattle.parsing_item_layouts.specs.Forms.{Form, IsFormed}
 use Rattle.parsing_item_layouts.specs.Fronts.{Leads}

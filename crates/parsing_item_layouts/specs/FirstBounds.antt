@@ -2,9 +2,9 @@
 use Rattle.std.specs.Prelude.{◌≡◌, ◌⊎◌, ℕ, Bool, true, false, List, Option, None}
 use Rattle.std.specs.Result.{result_ok}
 use Rattle.parsing_layout.specs.Bounds.{Admits}
-use Rattle.parsing_record.specs.Meaning.{Meaning}
+use Rattle.parsing_components.specs.Meaning.{Meaning}
 use Rattle.parsing_components.specs.declared.fields.Record.{Record}
-use Rattle.parsing_record.specs.Whole.{whole}
+use Rattle.parsing_components.specs.Whole.{whole}
 use Rattle.parsing_item_layouts.specs.declared.first_bounds.FirstBounds.{FirstBounds}
 
 -- a line is within the one bounds or the other

@@ -1,7 +1,7 @@
 -- Lines that begin otherwise than all that is read.
 use Rattle.std.specs.Prelude.{◌≡◌, ◌&&◌, ℕ, zero, suc, Bool, true, not, List, [], None, get_or}
 use Rattle.std.specs.Result.{result_ok}
-use Rattle.parsing_record.specs.Meaning.{Meaning}
+use Rattle.parsing_components.specs.Meaning.{Meaning}
 use Rattle.parsing_components.specs.declared.fields.Record.{Record}
 use Rattle.parsing_item_layouts.specs.declared.first_bytes.FirstBytes.{FirstBytes}
 

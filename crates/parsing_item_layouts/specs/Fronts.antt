@@ -1,6 +1,6 @@
 -- What is known of the first bytes of lines, from that of what is left of them.
 use Rattle.std.specs.Prelude.{ℕ, Bool, List, IfOk}
-use Rattle.parsing_record.specs.Meaning.{Meaning}
+use Rattle.parsing_components.specs.Meaning.{Meaning}
 use Rattle.parsing_components.specs.declared.fields.Record.{Record}
 
 -- where a line is read, and what is left fits the one, the line fits the other

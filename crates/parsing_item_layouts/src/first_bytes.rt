@@ -4,7 +4,7 @@ ghost use Rattle.description_items.specs.Tree.{trees, listed};
 ghost use Rattle.description_tree.specs.Description.{v3_tree};
 ghost use Rattle.parsing_components.specs.Component.{reads_component, reads_component_v3};
 ghost use Rattle.parsing_layout.specs.Stretch.{IsCut};
-ghost use Rattle.parsing_record.specs.Reads.{reading, reading_of_all};
+ghost use Rattle.parsing_components.specs.Reads.{reading, reading_of_all};
 ghost use Rattle.parsing_item_layouts.specs.FirstBytes.{AreOf, Fits, bytes_at, can_stand, rule_out};
 
 use crate::front::Front;
@@ -68,6 +68,7 @@ impl FirstBytes {
     }
 
     // The bytes of a place, where a stretch stands before the lines that these are the bytes of.
+    #[tactic(auto, using(crate::proofs::FrontLemmas::stands_there, crate::proofs::FrontLemmas::after_stretch))]
     fn bytes_after(&self, stretch: Stretch, place: usize) -> [bool; 256]
         ensures { (line rest : List ℕ) → IsCut stretch line rest → Fits self.now rest
             → get_or result (get_or line place 0) true ≡ true }

@@ -112,6 +112,7 @@ fn century_form(padding: Padding, is_mandatory: bool, is_extended: bool) -> Form
 }
 
 /// The form of all texts that a component reads, in all versions.
+#[tactic(auto, using(crate::proofs::FormLemmas::component_formed, crate::proofs::FormLemmas::component_formed_v3))]
 pub fn form_of(component: &Component) -> Form
     ensures form { result ≡ form_of component.now }
     ensures all { HasForm component.now result }

@@ -1,14 +1,15 @@
 //! What is known of the first bytes of lines, by the items that read them one after the other.
 ghost use Rattle.std.specs.Prelude.{map};
 ghost use Rattle.description_items.specs.Tree.{First, listed};
-ghost use Rattle.parsing_record.specs.Reads.{reading, reading_of_all};
+ghost use Rattle.parsing_components.specs.Reads.{reading, reading_of_all};
 ghost use Rattle.parsing_item_layouts.specs.Fronts.{Leads};
 
 use crate::forms::form_of;
 use crate::front::{Front, put_form, put_text};
-use parsing_record::{Node, NodeStep};
+use parsing_components::{Node, NodeStep};
 
 /// Puts what a node reads before.
+#[tactic(auto, unfolding(parsing_components::proofs::lemmas::Sizes::size))]
 #[cycle(walk)]
 pub(crate) fn put_node<N: Node, F: Front>(front: &mut F, node: &N)
     ensures { Leads F.fits (reading N.language (N.tree node.now)) front.old front.new }
@@ -27,6 +28,7 @@ pub(crate) fn put_node<N: Node, F: Front>(front: &mut F, node: &N)
 }
 
 /// Puts what all nodes read before, one after the other.
+#[tactic(auto, using(parsing_components::proofs::lemmas::Sizes::one_of_them, crate::proofs::WalkLemmas::none_leads))]
 #[cycle(walk)]
 pub(crate) fn put_nodes<N: Node, F: Front>(front: &mut F, nodes: &[N])
     ensures { Leads F.fits (reading_of_all N.language (listed (map N.tree nodes.now))) front.old
@@ -38,6 +40,7 @@ pub(crate) fn put_nodes<N: Node, F: Front>(front: &mut F, nodes: &[N])
 }
 
 // Puts what the first node reads before that reads; where there is none, nothing.
+#[tactic(auto, using(parsing_components::proofs::lemmas::Sizes::one_of_them, crate::proofs::WalkLemmas::no_choice, crate::proofs::WalkLemmas::first_leads))]
 #[cycle(walk)]
 fn put_first<N: Node, F: Front>(front: &mut F, nodes: &[N])
     ensures { Leads F.fits (reading N.language (First (listed (map N.tree nodes.now)))) front.old

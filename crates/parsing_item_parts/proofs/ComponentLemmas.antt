@@ -5,6 +5,7 @@ use Rattle.std.specs.Char.{is_ascii_digit}
 use Rattle.std.specs.Int.{is_in_range}
 use Rattle.std.specs.Str.Parse.{digits_value}
 use Rattle.std.proofs.lemmas.Bool.Decides.{nat_tests}
+use Rattle.std.proofs.Math.Seq.{take-append_seam, drop-append_seam}
 use Rattle.std.proofs.lemmas.List.Sums.{prefix_len_passes}
 use Rattle.std.proofs.lemmas.Slice.Eq.{bytes_eq-Decides}
 use Rattle.calendar_count.specs.Month.{month_number}
@@ -50,7 +51,7 @@ use Rattle.parsing_layout.proofs.LayoutLemmas.{numbered}
 use Rattle.parsing_layout.proofs.PieceLemmas.{inside, literal_said, byte_is}
 use Rattle.parsing_item_layouts.specs.Forms.{padded_part, fraction_part, full_year, year_form, hour_form, signed_form, timestamp_form}
 use Rattle.parsing_item_layouts.specs.declared.forms.Piece.TheVariants as piece
-use Rattle.parsing_item_layouts.proofs.FormLemmas.{taken_fraction}
+use Rattle.parsing_item_layouts.proofs.FormLemmas.{padded_is, taken_fraction}
 use Rattle.parsing_item_parts.specs.Items.{said, said_by, set_all, IsItem, parts_in, parts_of}
 use Rattle.parsing_item_parts.proofs.ItemLemmas.{chosen}
 
@@ -65,24 +66,18 @@ part_item reading p h line v rest r new says sets =
 
 -- ---- numbers of two digits
 
-padded_read : (fault : Fault) (says_it : ℕ → Option Read) (p : Padding) (f : Field) (line rest : List ℕ) (n : ℕ) (x : Read)
-    → piece_of (padded_part p f) line ≡ Some (n, rest) → says_it n ≡ Some x → piece_or fault (kept says_it (taken (padded p 2 2) line)) ≡ Ok (x, rest)
-padded_read fault says_it padding.Zero f line rest n x e k = rw (taken_padded_exactly padding.Zero 2 line, e, k) refl
-padded_read fault says_it padding.Space f line rest n x e k = rw (taken_padded_exactly padding.Space 2 line, e, k) refl
-padded_read fault says_it padding.None f line rest n x e k = rw (taken_padded_exactly padding.None 2 line, e, k) refl
+padded_as : (p : Padding) (f : Field) (v : Values) → (field_of (padded_part p f) ≡ Some f) × (value_of (padded_part p f) v ≡ v f)
+padded_as padding.Zero f v = (refl, refl)
+padded_as p f v = (refl, refl)
 
 padded_item : (reading : Reading Read) (fault : Fault) (says_it : ℕ → Option Read) (p : Padding) (f : Field)
     → ((line : List ℕ) → reading line ≡ piece_or fault (kept says_it (taken (padded p 2 2) line))) → ((v : Values) → said f v ≡ says_it (v f))
     → IsItem (putting reading) (padded_part p f ∷ [])
-padded_item reading fault says_it padding.Zero f is same =
-    part_item reading (padded_part padding.Zero f)
-    (λ line rest v x e k. is line ∙ padded_read fault says_it padding.Zero f line rest (v f) x e (sym (same v) ∙ k))
-padded_item reading fault says_it padding.Space f is same =
-    part_item reading (padded_part padding.Space f)
-    (λ line rest v x e k. is line ∙ padded_read fault says_it padding.Space f line rest (v f) x e (sym (same v) ∙ k))
-padded_item reading fault says_it padding.None f is same =
-    part_item reading (padded_part padding.None f)
-    (λ line rest v x e k. is line ∙ padded_read fault says_it padding.None f line rest (v f) x e (sym (same v) ∙ k))
+padded_item reading fault says_it p f is same = part_item reading (padded_part p f) (λ line rest v x e k.
+    let part_is = padded_as p f v in
+    let there : piece_of (padded_part p f) line ≡ Some (v f, rest) = rw part_is.1 at e in
+    let said_it : said_by (Some f) v ≡ Some x = rw part_is.0 at k in
+    rw (is line, sym (padded_is p f line) ∙ there, sym (same v) ∙ said_it) refl)
 
 -- ---- names
 
@@ -136,27 +131,19 @@ exact_item reading fault n is =
 fraction_item : (reading : Reading Read) (fault : Fault) (d : SubsecondDigits)
     → ((line : List ℕ) → reading line ≡ piece_or fault (kept subsecond_said (taken (parsed.fraction_of d) line)))
     → IsItem (putting reading) (fraction_part d ∷ [])
-fraction_item reading fault digits_of.One is = exact_item reading fault 1 is
-fraction_item reading fault digits_of.Two is = exact_item reading fault 2 is
-fraction_item reading fault digits_of.Three is = exact_item reading fault 3 is
-fraction_item reading fault digits_of.Four is = exact_item reading fault 4 is
-fraction_item reading fault digits_of.Five is = exact_item reading fault 5 is
-fraction_item reading fault digits_of.Six is = exact_item reading fault 6 is
-fraction_item reading fault digits_of.Seven is = exact_item reading fault 7 is
-fraction_item reading fault digits_of.Eight is = exact_item reading fault 8 is
-fraction_item reading fault digits_of.Nine is = exact_item reading fault 9 is
 fraction_item reading fault digits_of.OneOrMore is =
     part_item reading part.OpenFraction (λ line rest v x s k. is line ∙ rw (s, inside (read.Subsecond (v field.Nanosecond)) x k) refl)
+fraction_item reading fault d is = exact_item reading fault _ is
 
 -- ---- digits without a sign
 
-digit_no_sign : (c : ℕ) → is_ascii_digit c ≡ true → ((c == 43) || (c == 45)) ≡ false
-digit_no_sign c e = grind (arith, nat_tests)
-
-no_sign : (line : List ℕ) → 0 < digit_count line → sign line ≡ None
+pub no_sign : (line : List ℕ) → 0 < digit_count line → sign line ≡ None
 unfolding byte_of
 no_sign [] some = refl
-no_sign (c ∷ cs) some = rw (digit_no_sign c (prefix_len_passes is_ascii_digit (c ∷ cs) 0 0 some)) refl
+no_sign (c ∷ cs) some =
+    let digit = prefix_len_passes is_ascii_digit (c ∷ cs) 0 0 some in
+    let same : ((c == 43) || (c == 45)) ≡ false = grind (arith, nat_tests, digit) in
+    rw same refl
 
 small_year : (n : ℕ) → is_in_range 0 9999 n ≡ true → nat_le n greatest_year ≡ true
 small_year n e = grind (arith, nat_tests)
@@ -182,11 +169,8 @@ year_item : (reading : Reading Read) (fault : Fault) (extended : Bool) (p : Padd
 year_item reading fault extended padding.Zero false ps is e =
     rw (← inside _ ps e)
     (part_item reading (part.Digits field.Year 4) (λ line rest v x s k. is line ∙ year_read fault extended line rest (v field.Year) x s k))
-year_item reading fault extended padding.Zero true ps is e = absurd cc
-year_item reading fault extended padding.Space false ps is e = absurd cc
-year_item reading fault extended padding.Space true ps is e = absurd cc
-year_item reading fault extended padding.None false ps is e = absurd cc
-year_item reading fault extended padding.None true ps is e = absurd cc
+year_item reading fault extended p true ps is e = absurd cc
+year_item reading fault extended p false ps is e = absurd cc
 
 some_digits_there : (b : Bool) (most : ℕ) (line rest : List ℕ) (n : ℕ) → 1 ≤ most → nat_le 1 (digit_count line) ≡ b
     → taken (digits_between 1 most) line ≡ Some (n, rest) → 0 < digit_count line
@@ -211,22 +195,8 @@ unix_item reading fault true ps is e = absurd cc
 
 -- ---- offsets
 
-hour_there : (p : Padding) (line after rest : List ℕ) (mark n : ℕ) → sign line ≡ Some (mark, after)
-    → piece_of (padded_part p field.OffsetHour) after ≡ Some (n, rest) → taken (offset_hour p true) line ≡ Some ((mark == 45, n), rest)
-hour_there padding.Zero line after rest mark n s e =
-    rw (taken_offset_hour padding.Zero true line, s, taken_padded_exactly padding.Zero 2 after, e) refl
-hour_there padding.Space line after rest mark n s e =
-    rw (taken_offset_hour padding.Space true line, s, taken_padded_exactly padding.Space 2 after, e) refl
-hour_there padding.None line after rest mark n s e =
-    rw (taken_offset_hour padding.None true line, s, taken_padded_exactly padding.None 2 after, e) refl
-
 abbrev hour_said : Bool × ℕ → Option Read
 hour_said = up_to 25 (λ negative hour. read.OffsetHour hour negative)
-
-hour_field : (p : Padding) → field_of (padded_part p field.OffsetHour) ≡ Some field.OffsetHour
-hour_field padding.Zero = refl
-hour_field padding.Space = refl
-hour_field padding.None = refl
 
 hour_item : (reading : Reading Read) (fault : Fault) (p : Padding) (mandatory : Bool) (ps : List Part)
     → ((line : List ℕ) → reading line ≡ piece_or fault (kept hour_said (taken (offset_hour p mandatory) line)))
@@ -234,13 +204,13 @@ hour_item : (reading : Reading Read) (fault : Fault) (p : Padding) (mandatory : 
 hour_item reading fault p false ps is e = absurd cc
 hour_item reading fault p true ps is e = rw (← inside _ ps e) (λ line v rest r new says sets.
     let hour = says.2 in
+    let part_is = padded_as p field.OffsetHour v in
     let c = chosen (said_by (field_of (padded_part p field.OffsetHour)) v) [] v r new sets in
-    let there : piece_of (padded_part p field.OffsetHour) says.0 ≡ Some (v field.OffsetHour, rest) = rw (hour.2, hour_field p) at hour.1 in
-    let says_it : said_by (field_of (padded_part p field.OffsetHour)) v ≡ hour_said (v field.Sign == 45, v field.OffsetHour) =
-    ap (λ (o : Option Field). said_by o v) (hour_field p) in
-    let x : hour_said (v field.Sign == 45, v field.OffsetHour) ≡ Some c.0 = sym says_it ∙ c.1 in
+    let there : piece_of (padded_part p field.OffsetHour) says.0 ≡ Some (v field.OffsetHour, rest) = rw (hour.2, part_is.0) at hour.1 in
+    let taken_is : taken (padded p 2 2) says.0 ≡ Some (v field.OffsetHour, rest) = sym (padded_is p field.OffsetHour says.0) ∙ there in
+    let says_it : hour_said (v field.Sign == 45, v field.OffsetHour) ≡ Some c.0 = sym (ap (λ (o : Option Field). said_by o v) part_is.0) ∙ c.1 in
     let same : put c.0 r ≡ new = inside (put c.0 r) new c.2 in
-    rw (is line, hour_there p line says.0 rest (v field.Sign) (v field.OffsetHour) says.1 there, x, same) refl)
+    rw (is line, taken_offset_hour p true line, says.1, taken_is, says_it, same) refl)
 
 -- ---- components
 
@@ -329,20 +299,12 @@ text_sets : (text : List ℕ) (v : Values) (r : Record) → set_all (map part.By
 text_sets [] v r = refl
 text_sets (c ∷ cs) v r = text_sets cs v r
 
-take_text : (text rest : List ℕ) → take (length text) (text ++ rest) ≡ text
-take_text [] rest = refl
-take_text (c ∷ cs) rest = ap (λ (xs : List ℕ). c ∷ xs) (take_text cs rest)
-
-drop_text : (text rest : List ℕ) → drop (length text) (text ++ rest) ≡ rest
-drop_text [] rest = refl
-drop_text (c ∷ cs) rest = drop_text cs rest
-
 pub literal_item : (language : Language) (text : List ℕ) → IsItem (reading language (Literal text)) (map part.Byte text)
 unfolding reads literally
 literal_item language text line v rest r new says sets =
     let e = text_there text line rest v says in
-    let there : take (length text) line ≡ text = ap (take (length text)) e ∙ take_text text rest in
-    let after : drop (length text) line ≡ rest = ap (drop (length text)) e ∙ drop_text text rest in
+    let there : take (length text) line ≡ text = ap (take (length text)) e ∙ take-append_seam text rest in
+    let after : drop (length text) line ≡ rest = ap (drop (length text)) e ∙ drop-append_seam text rest in
     let same : bytes_eq (take (length text) line) text ≡ true = (bytes_eq-Decides (take (length text) line) text).1 there in
     let kept_record : r ≡ new = inside r new (sym (text_sets text v r) ∙ sets) in
     rw (same, after, kept_record) refl

@@ -1,5 +1,5 @@
 -- Items read what their parts say, one after the other.
-use Rattle.std.proofs.Common.{◌≡◌, ◌∙◌, ◌+◌, ℕ, List, [], ◌∷◌, ◌++◌, map, take, Option, Some, None, Ok, Err, refl, sym, ap, append_assoc}
+use Rattle.std.proofs.Common.{◌≡◌, ◌∙◌, ◌+◌, ◌≤◌, ℕ, Bool, true, false, List, [], ◌∷◌, ◌++◌, length, map, take, Option, Some, None, Ok, Err, refl, sym, ap, arith, append_assoc}
 use Rattle.std.specs.Prelude.{IfSome}
 use Rattle.std.specs.Option.{option_and_then}
 use Rattle.std.proofs.lemmas.List.{append-nil}
@@ -10,14 +10,15 @@ use Rattle.parsing_components.specs.declared.said.Read.{Read}
 use Rattle.parsing_components.specs.Meaning.{Meaning, Answer, Counted, then_counted, all_of}
 use Rattle.parsing_components.specs.Reads.{Language, reading, reading_of_all, reads, each_reads}
 use Rattle.parsing_components.specs.declared.fields.Record.{Record}
-use Rattle.parsing_layout.specs.Layout.{Values, Says, piece_of, value_of, field_of}
+use Rattle.parsing_layout.specs.Layout.{Values, field_of}
 use Rattle.parsing_layout.specs.declared.parts.Part.{Part}
+use Rattle.parsing_layout.proofs.ItemsLemmas.{certain_said, said_certain}
 use Rattle.parsing_layout.proofs.LayoutLemmas.{says_first}
 use Rattle.parsing_layout.proofs.PieceLemmas.{inside}
-use Rattle.parsing_layout.specs.Items.{SaysItems, IsThere}
+use Rattle.parsing_layout.specs.Items.{SaysItems, all_certain}
 use Rattle.parsing_layout.specs.declared.items.Item.{Item}
 use Rattle.parsing_layout.specs.declared.items.Item.TheVariants as item
-use Rattle.parsing_item_parts.specs.Items.{said_by, set_all, IsItem, AreItems, AddsItem, items_kept, parts_kept}
+use Rattle.parsing_item_parts.specs.Items.{said_by, set_all, IsItem, AreItems, AddsItem, items_kept, parts_kept, parts_of_item, parts_of_items}
 use Rattle.parsing_item_parts.specs.declared.list.Items.{Items}
 use Rattle.parsing_item_parts.specs.declared.list.Parts.{Parts}
 
@@ -50,7 +51,7 @@ counted_read : (x : Answer) (n : ℕ) (next : Counted) (new : Record) (rest : Li
     → (then_counted x n next).0 ≡ (next new rest).0
 counted_read x n next new rest e = rw e refl
 
-first_read : (language : Language) (t : Tree) (ts : List Tree) (r new : Record) (line rest : List ℕ) → reading language t r line ≡ Ok (new, rest)
+pub first_read : (language : Language) (t : Tree) (ts : List Tree) (r new : Record) (line rest : List ℕ) → reading language t r line ≡ Ok (new, rest)
     → reading_of_all language (listed (t ∷ ts)) r line ≡ reading_of_all language (listed ts) new rest
 unfolding each_reads all_of
 first_read language t ts r new line rest e =
@@ -93,26 +94,12 @@ says_split (i ∷ xs) ys line v rest way says =
       by_second = b.by_second;
     }
 
-certain_said : (ps : List Part) (line : List ℕ) (v : Values) (rest : List ℕ) (way : List Part) → SaysItems (map item.Part ps) line v rest way
-    → IsThere ps line v rest way
-certain_said [] line v rest way says = says
-certain_said (p ∷ ps) line v rest way says =
-    let others = certain_said ps says.0 v rest says.2 says.5 in
-    let one = says.4.1 in
-    let there : piece_of p line ≡ Some (value_of p v, says.0) = rw one.2 at one.1 in
-    (says.3 ∙ ap (λ (xs : List Part). xs ++ says.2) says.4.0 ∙ ap (λ (xs : List Part). p ∷ xs) others.0, (says.0, there, others.1))
-
-said_certain : (ps : List Part) (line : List ℕ) (v : Values) (rest : List ℕ) → Says ps line v rest → SaysItems (map item.Part ps) line v rest ps
-said_certain [] line v rest says = (refl, says)
-said_certain (p ∷ ps) line v rest says =
-    (says.0, p ∷ [], ps, refl, (refl, (says.0, says.1, refl)), said_certain ps says.0 v rest says.2)
-
 pub items_of_parts : (m : Meaning) (ps : List Part) → IsItem m ps → AreItems m (map item.Part ps)
 items_of_parts m ps is line v rest way r new says sets =
     let there = certain_said ps line v rest way says in is line v rest r new there.1 (rw there.0 at sets)
 
-pub parts_of_items : (m : Meaning) (ps : List Part) → AreItems m (map item.Part ps) → IsItem m ps
-parts_of_items m ps are line v rest r new says sets = are line v rest ps r new (said_certain ps line v rest says) sets
+parts_alone : (m : Meaning) (ps : List Part) → AreItems m (map item.Part ps) → IsItem m ps
+parts_alone m ps are line v rest r new says sets = are line v rest ps r new (said_certain ps line v rest says) sets
 
 -- ---- an item more
 
@@ -125,7 +112,7 @@ unfolding each_reads all_of
 refused language t ts r line f e =
     counted_refused (reads language t r line).0 (reads language t r line).1 (all_of (each_reads language (listed ts))) f e
 
-nothing_left : (language : Language) (r : Record) (rest : List ℕ) → reading_of_all language (listed []) r rest ≡ Ok (r, rest)
+pub nothing_left : (language : Language) (r : Record) (rest : List ℕ) → reading_of_all language (listed []) r rest ≡ Ok (r, rest)
 unfolding each_reads all_of
 nothing_left language r rest = refl
 
@@ -160,26 +147,34 @@ item_more language ts t xs ys all one line v rest way r new says sets =
 
 -- ---- lists that grow
 
-pub two_added : (ps mid new : List Part) (p q : Part) → mid ≡ ps ++ p ∷ [] → new ≡ mid ++ q ∷ [] → new ≡ ps ++ p ∷ q ∷ []
-two_added ps mid new p q first second = second ∙ ap (λ (xs : List Part). xs ++ q ∷ []) first ∙ append_assoc ps (p ∷ []) (q ∷ [])
+pub no_items : (is_all : Bool) → parts_of_items is_all [] ≡ []
+no_items true = refl
+no_items false = refl
 
--- what each item has, one after the other
-pub each_more : (each : Item → List Part) (all : List Item → List Part) → all [] ≡ [] → ((i : Item) (is : List Item) → all (i ∷ is) ≡ each i ++ all is)
-    → (is : List Item) (i : Item) → all (is ++ i ∷ []) ≡ all is ++ each i
-each_more each all none more [] i = more i [] ∙ ap (λ (xs : List Part). each i ++ xs) none ∙ append-nil (each i) ∙ sym (ap (λ (xs : List Part). xs ++ each i) none)
-each_more each all none more (j ∷ is) i =
-    more j (is ++ i ∷ []) ∙ ap (λ (xs : List Part). each j ++ xs) (each_more each all none more is i) ∙ sym (append_assoc (each j) (all is) (each i))
-    ∙ sym (ap (λ (xs : List Part). xs ++ each i) (more j is))
+an_item : (is_all : Bool) (i : Item) (is : List Item) → parts_of_items is_all (i ∷ is) ≡ parts_of_item is_all i ++ parts_of_items is_all is
+an_item true i is = refl
+an_item false i is = refl
 
-pub grown : (each : Item → List Part) (all : List Item → List Part) → all [] ≡ [] → ((i : Item) (is : List Item) → all (i ∷ is) ≡ each i ++ all is)
-    → (is : List Item) (k : ℕ) (i : Item) (old new : List Part) → take (k + 1) is ≡ take k is ++ i ∷ [] → old ≡ all (take k is) → new ≡ old ++ each i
-    → new ≡ all (take (k + 1) is)
-grown each all none more is k i old new cut so_far added =
-    rw cut (added ∙ ap (λ (xs : List Part). xs ++ each i) so_far ∙ sym (each_more each all none more (take k is) i))
+item_after : (is_all : Bool) (is : List Item) (i : Item) → parts_of_items is_all (is ++ i ∷ []) ≡ parts_of_items is_all is ++ parts_of_item is_all i
+item_after is_all [] i = rw (an_item is_all i [], no_items is_all) (append-nil (parts_of_item is_all i))
+item_after is_all (j ∷ is) i =
+    rw (an_item is_all j (is ++ i ∷ []), an_item is_all j is, item_after is_all is i) (sym (append_assoc (parts_of_item is_all j) (parts_of_items is_all is) (parts_of_item is_all i)))
 
-pub alone_grown : (is : List Item) (k : ℕ) (i : Item) (old new : List Item) → take (k + 1) is ≡ take k is ++ i ∷ [] → old ≡ take k is
-    → new ≡ old ++ i ∷ [] → new ≡ take (k + 1) is
-alone_grown is k i old new cut so_far added = rw cut (added ∙ ap (λ (xs : List Item). xs ++ i ∷ []) so_far)
+pub grown : (is_all : Bool) (is : List Item) (k : ℕ) (i : Item) (old new : List Part) → take (k + 1) is ≡ take k is ++ i ∷ []
+    → old ≡ parts_of_items is_all (take k is) → new ≡ old ++ parts_of_item is_all i → new ≡ parts_of_items is_all (take (k + 1) is)
+grown is_all is k i old new cut so_far added =
+    rw cut (added ∙ ap (λ (xs : List Part). xs ++ parts_of_item is_all i) so_far ∙ sym (item_after is_all (take k is) i))
+
+few_certain : (is : List Item) → length (all_certain is) ≤ length is
+few_certain [] = omega arith
+few_certain (item.Part p ∷ is) = let few = few_certain is in omega (arith, few)
+few_certain (item.Optional b p ∷ is) = let few = few_certain is in omega (arith, few)
+
+-- where each item is a part
+pub all_alone : (is : List Item) → length (all_certain is) ≡ length is → map item.Part (all_certain is) ≡ is
+all_alone [] e = refl
+all_alone (item.Part p ∷ is) e = ap (λ (xs : List Item). item.Part p ∷ xs) (all_alone is (omega (arith, e)))
+all_alone (item.Optional b p ∷ is) e = absurd (let few = few_certain is in omega (arith, e, few))
 
 pub node_added : (language : Language) (t : Tree) (more : List Item) (old : Items) (o : Option Items) → AreItems (reading language t) more
     → IfSome o (λ l. items_kept l ≡ items_kept old ++ more) → IfSome o (AddsItem language t old)
@@ -189,4 +184,4 @@ node_added language t more old (Some new) are h = record { more = more; read = a
 pub alone_read : (m : Meaning) (is : List Item) (o : Option Parts) → AreItems m is → IfSome o (λ l. map item.Part (parts_kept l) ≡ is)
     → IfSome o (λ l. IsItem m (parts_kept l))
 alone_read m is None are same = tt
-alone_read m is (Some l) are same = parts_of_items m (parts_kept l) (rw same are)
+alone_read m is (Some l) are same = parts_alone m (parts_kept l) (rw same are)

@@ -31,7 +31,7 @@ use Rattle.parsing_layout.specs.declared.parts.Field.TheVariants as field
 use Rattle.parsing_layout.specs.Range.{AreInRange}
 use Rattle.parsing_layout.specs.Said.{Said}
 use Rattle.parsing_item_parts.specs.Recorded.{recorded, said_or}
-use Rattle.parsing_item_parts.proofs.RecordLemmas.{numbered}
+use Rattle.parsing_components.proofs.Entries.{month_with}
 use Rattle.parsing_item_parts.proofs.SaidLemmas.{SayDay, SayHalf}
 
 -- ---- the hour
@@ -118,21 +118,21 @@ moment_said assumed has v f hour offset range s h low in_offset numbers =
     let nanosecond = said_or has v field.Nanosecond 0 in
     let month = range field.Month s.month in
     let minute = range field.Minute s.minute in
-    let m = numbered (v field.Month) month.0 month.1 in
-    let in_day : calendar_date_of (pos (v field.Year)) (month_number m.month) (v field.Day) ≡ Ok (day_of_fields f) =
-    rw m.number_is
+    let m = month_with (v field.Month) month.0 month.1 in
+    let in_day : calendar_date_of (pos (v field.Year)) (month_number m.is) (v field.Day) ≡ Ok (day_of_fields f) =
+    rw m.number
     (calendar_date (pos (v field.Year)) (v field.Month) (v field.Day) (day_of_fields f) (fields_date f (v field.Year) (v field.Month) (v field.Day) (hour * 60 + v field.Minute) second nanosecond offset numbers)) in
     let few : nanosecond ≤ 999_999_999 = few_said (has field.Nanosecond) (v field.Nanosecond) 999_999_999 (λ there. (range field.Nanosecond there).1) in
     let in_time : time_of hour (v field.Minute) second nanosecond ≡ Ok (time_of_fields f) =
     fields_time f (v field.Year) (v field.Month) (v field.Day) hour (v field.Minute) second nanosecond offset numbers low minute.1 (omega (arith, few)) in
-    dated assumed has v s hour (day_of_fields f) (time_of_fields f) m.month (pos 60 *ℤ offset) h m.entry in_day in_time in_offset
+    dated assumed has v s hour (day_of_fields f) (time_of_fields f) m.is (pos 60 *ℤ offset) h m.counted in_day in_time in_offset
     ∙ ap (λ (z : ℤ). Ok (record { wall = wall_clock (day_of_fields f) (time_of_fields f); offset = z }))
     (let back : pos 60 *ℤ offset ≡ pos 60 *ℤ f.offset = rw numbers.same_offset refl in back)
     ∙ ap (λ (x : Shown). Ok x) (moment_is f)
 
 -- ---- Unix time
 
-in_calendar : (n : ℕ) → n ≤ 20_000_000_000_000_000_000 → is_wall_clock (pos n) ≡ true
+pub in_calendar : (n : ℕ) → n ≤ 20_000_000_000_000_000_000 → is_wall_clock (pos n) ≡ true
 in_calendar n le = grind (arith, nat_tests, ints)
 
 small : (n : ℕ) → n < 1_000_000_000 → nat_lt 999_999_999 n ≡ false

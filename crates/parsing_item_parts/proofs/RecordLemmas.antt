@@ -4,12 +4,12 @@ use Rattle.std.specs.Prelude.{nat_le, if◌then◌else◌}
 use Rattle.std.specs.Int.{is_in_range}
 use Rattle.std.specs.Option.{option_and_then}
 use Rattle.std.proofs.lemmas.Bool.Decides.{nat_tests}
-use Rattle.calendar_count.specs.Month.{month_number}
 use Rattle.calendar_count.specs.declared.month.Month.{Month}
 use Rattle.calendar_count.specs.declared.month.Month.TheVariants as month
 use Rattle.calendar_count.specs.declared.weekday.Weekday.{Weekday}
 use Rattle.calendar_count.specs.declared.weekday.Weekday.TheVariants as weekday
 use Rattle.parsing_components.specs.Put.{put}
+use Rattle.parsing_components.proofs.Entries.{month_with}
 use Rattle.parsing_components.specs.Ranged.{between, counted, months, from_monday, under, nanoseconds_after_epoch}
 use Rattle.parsing_components.specs.declared.said.Read.{Read}
 use Rattle.parsing_components.specs.declared.said.Read.TheVariants as read
@@ -28,30 +28,6 @@ use Rattle.parsing_item_parts.specs.Recorded.{recorded}
 
 within : (low high n : ℕ) (make : ℕ → Read) → low ≤ n → n ≤ high → between low high make n ≡ Some (make n)
 within low high n make some few = let there : is_in_range low high n ≡ true = grind (arith, nat_tests) in rw there refl
-
--- the month with a number
-pub record Numbered (n : ℕ) : Type 0 where
-  pub month : Month
-  pub entry : counted true months n ≡ Some month
-  pub number_is : month_number month ≡ n
-
-pub numbered : (n : ℕ) → 1 ≤ n → n ≤ 12 → Numbered n
-numbered zero some few = absurd (omega (arith, some))
-numbered (suc zero) some few = record { month = month.January; entry = refl; number_is = refl }
-numbered (suc (suc zero)) some few = record { month = month.February; entry = refl; number_is = refl }
-numbered (suc (suc (suc zero))) some few = record { month = month.March; entry = refl; number_is = refl }
-numbered (suc (suc (suc (suc zero)))) some few = record { month = month.April; entry = refl; number_is = refl }
-numbered (suc (suc (suc (suc (suc zero))))) some few = record { month = month.May; entry = refl; number_is = refl }
-numbered (suc (suc (suc (suc (suc (suc zero)))))) some few = record { month = month.June; entry = refl; number_is = refl }
-numbered (suc (suc (suc (suc (suc (suc (suc zero))))))) some few = record { month = month.July; entry = refl; number_is = refl }
-numbered (suc (suc (suc (suc (suc (suc (suc (suc zero)))))))) some few = record { month = month.August; entry = refl; number_is = refl }
-numbered (suc (suc (suc (suc (suc (suc (suc (suc (suc zero))))))))) some few = record { month = month.September; entry = refl; number_is = refl }
-numbered (suc (suc (suc (suc (suc (suc (suc (suc (suc (suc zero)))))))))) some few = record { month = month.October; entry = refl; number_is = refl }
-numbered (suc (suc (suc (suc (suc (suc (suc (suc (suc (suc (suc zero))))))))))) some few =
-    record { month = month.November; entry = refl; number_is = refl }
-numbered (suc (suc (suc (suc (suc (suc (suc (suc (suc (suc (suc (suc zero)))))))))))) some few =
-    record { month = month.December; entry = refl; number_is = refl }
-numbered (suc (suc (suc (suc (suc (suc (suc (suc (suc (suc (suc (suc (suc n))))))))))))) some few = absurd (omega (arith, few))
 
 weekday_with : (n : ℕ) → 1 ≤ n → n ≤ 7 → (w : Weekday) × (counted true from_monday n ≡ Some w)
 weekday_with zero some few = absurd (omega (arith, some))
@@ -101,11 +77,11 @@ goes (Some field.Year) ps v has r d others =
     put_first _ _ ps v has r others (within 0 9999 (v field.Year) (λ y. read.Year (pos y)) (omega arith) d.1)
     ∙ ap (λ (y : Option ℤ). Some (record (recorded has v r) { year = y })) (same (has field.Year) (Some (pos (v field.Year))))
 goes (Some field.Month) ps v has r d others =
-    let m = numbered (v field.Month) d.0 d.1 in
-    let there : said field.Month v ≡ Some (read.Month m.month) = rw m.entry refl in
+    let m = month_with (v field.Month) d.0 d.1 in
+    let there : said field.Month v ≡ Some (read.Month m.is) = rw m.counted refl in
     put_first _ _ ps v has r others there
     ∙ ap (λ (y : Option Month). Some (record (recorded has v r) { month = y }))
-    (either (has field.Month) (counted true months (v field.Month)) (Some m.month) m.entry)
+    (either (has field.Month) (counted true months (v field.Month)) (Some m.is) m.counted)
 goes (Some field.Day) ps v has r d others =
     put_first _ _ ps v has r others (within 1 31 (v field.Day) read.Day d.0 d.1)
     ∙ ap (λ (y : Option ℕ). Some (record (recorded has v r) { day = y })) (same (has field.Day) (Some (v field.Day)))

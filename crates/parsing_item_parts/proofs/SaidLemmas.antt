@@ -1,5 +1,6 @@
 -- What a text says by items, from what has to be there and what may be.
 use Rattle.std.proofs.Common.{◌≡◌, ◌∙◌, ◌<◌, ◌||◌, ◌++◌, ℕ, Bool, true, false, List, [], ◌∷◌, refl, sym, ap, arith, inl, inr}
+use Rattle.std.proofs.Math.Bool.{or_assoc}
 use Rattle.parsing_layout.specs.Items.{SaysItem, SaysItems, certain, possible, all_certain, all_possible}
 use Rattle.parsing_layout.specs.Layout.{Values, field_of}
 use Rattle.parsing_layout.specs.declared.parts.Field.{Field}
@@ -15,10 +16,6 @@ use Rattle.parsing_item_parts.specs.Recorded.{said_or}
 use Rattle.parsing_item_parts.specs.declared.listed.Listed.{Listed}
 
 -- ---- the fields of two lists
-
-or_assoc : (a b c : Bool) → ((a || b) || c) ≡ (a || (b || c))
-or_assoc true b c = refl
-or_assoc false b c = refl
 
 said_by_both : (ps qs : List Part) (f : Field) → fields_of (ps ++ qs) f ≡ (fields_of ps f || fields_of qs f)
 said_by_both [] qs f = refl

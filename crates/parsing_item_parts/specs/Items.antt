@@ -14,7 +14,7 @@ use Rattle.parsing_components.specs.declared.fields.Record.{Record}
 use Rattle.parsing_layout.specs.Layout.{Values, Says, field_of}
 use Rattle.parsing_layout.specs.declared.parts.Field.{Field}
 use Rattle.parsing_layout.specs.declared.parts.Part.{Part}
-use Rattle.parsing_layout.specs.Items.{SaysItems}
+use Rattle.parsing_layout.specs.Items.{SaysItems, certain, possible, all_certain, all_possible}
 use Rattle.parsing_layout.specs.declared.items.Item.{Item}
 use Rattle.parsing_layout.specs.declared.items.Item.TheVariants as item
 use Rattle.parsing_components.specs.Reads.{Language, reading}
@@ -92,6 +92,15 @@ literal_items text = map (λ b. item.Part (part.Byte b)) text
 -- an item of a description reads what a text that has these items sets
 abbrev pub AreItems : Meaning → List Item → Type 0
 AreItems m is = (line : List ℕ) (v : Values) (rest : List ℕ) (way : List Part) (r new : Record) → SaysItems is line v rest way → set_all way v r ≡ Some new → m r line ≡ Ok (new, rest)
+
+-- the parts of an item, and of items one after the other: all, or those that have to be there
+abbrev pub parts_of_item : Bool → Item → List Part
+parts_of_item true = possible
+parts_of_item false = certain
+
+abbrev pub parts_of_items : Bool → List Item → List Part
+parts_of_items true = all_possible
+parts_of_items false = all_certain
 
 -- a component that is one part
 pub record IsOnePart (t : Tree) (p : Part) : Type 0 where

@@ -16,9 +16,8 @@ pub struct Parts {
 
 impl Parts {
     ghost use Rattle.std.specs.Prelude.{◌≡◌, ◌∷◌, ◌++◌, [], map, IfSome};
-    ghost use Rattle.parsing_layout.specs.Items.{all_certain, all_possible, certain, possible};
     ghost use Rattle.parsing_layout.specs.declared.items.Item.TheVariants as item;
-    ghost use Rattle.parsing_item_parts.specs.Items.{parts_kept};
+    ghost use Rattle.parsing_item_parts.specs.Items.{parts_kept, parts_of_item, parts_of_items};
 
     // No parts.
     fn new() -> Parts
@@ -53,55 +52,24 @@ impl Parts {
         })
     }
 
-    // With the parts of an item that have to be there.
-    fn with_certain(self, item: Item) -> Option<Parts>
-        ensures { IfSome result (λ l. parts_kept l ≡ parts_kept self ++ certain item) }
+    // With the parts of an item: all, or those that have to be there.
+    fn with_item(self, item: Item, is_all: bool) -> Option<Parts>
+        ensures { IfSome result (λ l. parts_kept l ≡ parts_kept self ++ parts_of_item is_all item) }
     {
         match item {
             Item::Part(part) => self.with(part),
+            Item::Optional(byte, part) if is_all => self.with(Part::Byte(byte))?.with(part),
             Item::Optional(_, _) => Some(self),
         }
     }
 
-    // With the parts of an item that may be there.
-    fn with_possible(self, item: Item) -> Option<Parts>
-        ensures { IfSome result (λ l. parts_kept l ≡ parts_kept self ++ possible item) }
-    {
-        match item {
-            Item::Part(part) => self.with(part),
-            Item::Optional(byte, part) => self.with(Part::Byte(byte))?.with(part),
-        }
-    }
-
-    // With the part of an item that has to be there.
-    fn with_alone(self, one: Item) -> Option<Parts>
-        ensures { IfSome result
-            (λ l. map item.Part (parts_kept l) ≡ map item.Part (parts_kept self) ++ one ∷ []) }
-    {
-        match one {
-            Item::Part(part) => self.with(part),
-            Item::Optional(_, _) => None,
-        }
-    }
-
-    /// The parts of items that have to be there.
-    pub(crate) fn certain_of(items: &[Item]) -> Option<Parts>
-        ensures { IfSome result (λ l. parts_kept l ≡ all_certain items.now) }
+    /// The parts of items: all, or those that have to be there.
+    pub(crate) fn of_items(items: &[Item], is_all: bool) -> Option<Parts>
+        ensures { IfSome result (λ l. parts_kept l ≡ parts_of_items is_all items.now) }
     {
         let mut parts = Parts::new();
         for item in items {
-            parts = parts.with_certain(*item)?;
-        }
-        Some(parts)
-    }
-
-    /// All parts of items.
-    pub(crate) fn possible_of(items: &[Item]) -> Option<Parts>
-        ensures { IfSome result (λ l. parts_kept l ≡ all_possible items.now) }
-    {
-        let mut parts = Parts::new();
-        for item in items {
-            parts = parts.with_possible(*item)?;
+            parts = parts.with_item(*item, is_all)?;
         }
         Some(parts)
     }
@@ -110,9 +78,9 @@ impl Parts {
     pub(crate) fn alone_of(items: &[Item]) -> Option<Parts>
         ensures { IfSome result (λ l. map item.Part (parts_kept l) ≡ items.now) }
     {
-        let mut parts = Parts::new();
-        for item in items {
-            parts = parts.with_alone(*item)?;
+        let parts = Parts::of_items(items, false)?;
+        if parts.as_slice().len() != items.len() {
+            return None;
         }
         Some(parts)
     }

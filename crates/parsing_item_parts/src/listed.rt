@@ -6,7 +6,7 @@ ghost use Rattle.parsing_layout.specs.Said.{are_apart, fields_of};
 ghost use Rattle.parsing_layout.specs.declared.parts.Field.TheVariants as field;
 ghost use Rattle.parsing_strides.specs.Found.{values_in};
 ghost use Rattle.parsing_strides.specs.Strides.{made};
-ghost use Rattle.parsing_item_parts.specs.Items.{items_kept, parts_kept};
+ghost use Rattle.parsing_item_parts.specs.Items.{items_kept};
 ghost use Rattle.parsing_item_parts.specs.Kind.{SayDate};
 
 use crate::list::{Items, Parts};
@@ -97,8 +97,8 @@ impl Listed {
     fn of_items(items: Items) -> Option<Listed>
         ensures { IfSome result (λ l. l.items ≡ items) }
     {
-        let certain = Parts::certain_of(items.as_slice())?;
-        let possible = Parts::possible_of(items.as_slice())?;
+        let certain = Parts::of_items(items.as_slice(), false)?;
+        let possible = Parts::of_items(items.as_slice(), true)?;
         let kind = Kind::of_parts(certain.as_slice(), possible.as_slice());
         if !are_apart(possible.as_slice()) {
             return None;

@@ -8,10 +8,9 @@ ghost use Rattle.parsing_strides.specs.Found.{values_in};
 ghost use Rattle.parsing_components.specs.Meaning.{Meaning};
 ghost use Rattle.parsing_components.specs.Parts.{time_parts};
 ghost use Rattle.parsing_components.specs.Prefix.{NamesPrefix, beginning};
-ghost use Rattle.parsing_components.specs.declared.fields.Record.{Record};
-ghost use Rattle.parsing_components.specs.Whole.{whole, names, moment_named, offset_named, starting};
+ghost use Rattle.parsing_components.specs.Whole.{whole, moment_named, offset_named};
 ghost use Rattle.parsing_values.specs.NamedTime.{hour_of};
-ghost use Rattle.parsing_item_parts.specs.Listed.{IsListOf, IsWay};
+ghost use Rattle.parsing_item_parts.specs.Listed.{IsListOf, IsWay, NamesWhole};
 ghost use Rattle.parsing_item_parts.specs.Recorded.{recorded};
 
 use crate::listed::Listed;
@@ -113,10 +112,7 @@ impl Listed {
     /// the line.
     #[inline(never)]
     pub fn read(&self, line: &[u8], assumed: Option<UtcOffset>) -> Option<Fields>
-        ensures { (m : Meaning) (defaults : Option Record) → IsListOf m self.now
-            → starting defaults ≡ beginning assumed
-            → IfSome result
-            (λ f. names moment_named (whole m defaults line.now) ≡ Ok (moment_of f)) }
+        ensures { NamesWhole (λ m. IsListOf m self.now) line.now assumed result }
     {
         let mut found = self.unread;
         let rest = self.strides.read(line, &mut found)?;

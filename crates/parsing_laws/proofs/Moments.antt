@@ -38,7 +38,8 @@ use Rattle.parsing_laws.proofs.SameOffsets.{SameOffset, same_zone}
 use Rattle.parsing_laws.proofs.SameTimes.{no_time, designated, run_of, SameFraction, same_fraction, rounded_cut, cut_is, same_time, refused_time}
 use Rattle.parsing_laws.proofs.NearTimes.{same_leap, next_time}
 use Rattle.parsing_values.proofs.lemmas.Ranges.{date_ranges, TimeRanges, time_ranges}
-use Rattle.parsing_parsable.proofs.RoadNumbers.{month_with, same_date}
+use Rattle.parsing_components.proofs.Entries.{month_with}
+use Rattle.parsing_parsable.proofs.RoadNumbers.{same_date}
 
 -- a text whose date alone is read has a rest
 no_time_trails : (bytes : List ℕ) (d : WrittenDate) (c : ℕ) (cs : List ℕ) → dated bytes ≡ Ok ((Ok d, Extended), c ∷ cs) → time Extended true (c ∷ cs) ≡ None → value_read (whole bytes) ≡ Err trailing

@@ -21,7 +21,8 @@ use Rattle.parsing_parsable.specs.Put.{put_rfc3339}
 use Rattle.parsing_parsable.specs.Staged.{reads_rfc3339}
 use Rattle.parsing_parsable.specs.TwoRoads.{holding, AgreeOn}
 use Rattle.parsing_parsable.proofs.RoadParts.{of_parts, named_parts, offset_first, AreNamed, none_or_named}
-use Rattle.parsing_parsable.proofs.RoadNumbers.{not_all, Numbered, month_with, same_date, same_offset, no_more}
+use Rattle.parsing_components.proofs.Entries.{Numbered, month_with}
+use Rattle.parsing_parsable.proofs.RoadNumbers.{not_all, same_date, same_offset, no_more}
 
 abbrev date : Rfc3339Parts → Result ℕ ComponentRange
 date w = date_of (pos w.year) w.month w.day

@@ -1,5 +1,5 @@
 -- The numbers of a date and of an offset, as both ways resolve them.
-use Rattle.std.proofs.Common.{◌≡◌, ℕ, zero, suc, ◌≤◌, ◌==◌, Bool, true, false, cond, List, ◌∷◌, length, Option, Some, None, refl, arith}
+use Rattle.std.proofs.Common.{◌≡◌, ℕ, ◌==◌, Bool, true, false, cond, List, ◌∷◌, length, Option, Some, None, refl, arith}
 use Rattle.std.proofs.lemmas.Bool.Decides.{nat_tests}
 use Rattle.std.specs.Prelude.{pos}
 use Rattle.std.specs.Int.{is_in_range}
@@ -8,46 +8,13 @@ use Rattle.calendar.specs.UtcOffset.{offset_of}
 use Rattle.calendar_count.specs.Month.{month_number}
 use Rattle.calendar_count.specs.declared.month.Month.{Month}
 use Rattle.calendar_count.specs.declared.month.Month.TheVariants as month
-use Rattle.parsing_components.specs.Ranged.{under, counted, months}
+use Rattle.parsing_components.specs.Ranged.{under}
 use Rattle.parsing_values.specs.NamedDay.{calendar_date_of}
 use Rattle.parsing_values.specs.Resolution.{date_of, signed_offset_of}
 
--- the month with a number
-pub record Numbered (n : ℕ) : Type 0 where
-  pub is : Month
-  pub number : month_number is ≡ n
-  pub counted : counted true months n ≡ Some is
-  pub in_range : is_in_range 1 12 n ≡ true
-
-pub month_with : (n : ℕ) → 1 ≤ n → n ≤ 12 → Numbered n
-month_with zero some most = absurd (omega arith)
-month_with (suc zero) some most = record { is = month.January; number = refl; counted = refl; in_range = refl }
-month_with (suc (suc zero)) some most = record { is = month.February; number = refl; counted = refl; in_range = refl }
-month_with (suc (suc (suc zero))) some most = record { is = month.March; number = refl; counted = refl; in_range = refl }
-month_with (suc (suc (suc (suc zero)))) some most = record { is = month.April; number = refl; counted = refl; in_range = refl }
-month_with (suc (suc (suc (suc (suc zero))))) some most = record { is = month.May; number = refl; counted = refl; in_range = refl }
-month_with (suc (suc (suc (suc (suc (suc zero)))))) some most = record { is = month.June; number = refl; counted = refl; in_range = refl }
-month_with (suc (suc (suc (suc (suc (suc (suc zero))))))) some most = record { is = month.July; number = refl; counted = refl; in_range = refl }
-month_with (suc (suc (suc (suc (suc (suc (suc (suc zero)))))))) some most = record { is = month.August; number = refl; counted = refl; in_range = refl }
-month_with (suc (suc (suc (suc (suc (suc (suc (suc (suc zero))))))))) some most = record { is = month.September; number = refl; counted = refl; in_range = refl }
-month_with (suc (suc (suc (suc (suc (suc (suc (suc (suc (suc zero)))))))))) some most = record { is = month.October; number = refl; counted = refl; in_range = refl }
-month_with (suc (suc (suc (suc (suc (suc (suc (suc (suc (suc (suc zero))))))))))) some most = record { is = month.November; number = refl; counted = refl; in_range = refl }
-month_with (suc (suc (suc (suc (suc (suc (suc (suc (suc (suc (suc (suc zero)))))))))))) some most = record { is = month.December; number = refl; counted = refl; in_range = refl }
-month_with (suc (suc (suc (suc (suc (suc (suc (suc (suc (suc (suc (suc (suc n))))))))))))) some most = absurd (omega arith)
-
 pub month_in_range : (m : Month) → is_in_range 1 12 (month_number m) ≡ true
 month_in_range month.January = refl
-month_in_range month.February = refl
-month_in_range month.March = refl
-month_in_range month.April = refl
-month_in_range month.May = refl
-month_in_range month.June = refl
-month_in_range month.July = refl
-month_in_range month.August = refl
-month_in_range month.September = refl
-month_in_range month.October = refl
-month_in_range month.November = refl
-month_in_range month.December = refl
+month_in_range m = refl
 
 pub same_date : (y n d : ℕ) (m : Month) → month_number m ≡ n → is_in_range 1 12 n ≡ true → calendar_date_of (pos y) (month_number m) d ≡ date_of (pos y) n d
 unfolding calendar_date_of date_of
@@ -61,9 +28,7 @@ no_more (Some n) = refl
 pub same_offset : (is_named is_negative : Bool) (hours minutes : ℕ) → offset_of (under is_negative hours) (under is_negative minutes) (unwrap_or (cond is_named (Some (pos 0)) None) (pos 0)) ≡ signed_offset_of is_negative hours minutes
 unfolding signed_offset_of
 same_offset true true hours minutes = refl
-same_offset true false hours minutes = refl
-same_offset false true hours minutes = refl
-same_offset false false hours minutes = refl
+same_offset is_named is_negative hours minutes = refl
 
 -- bytes that are there
 pub not_all : (c : ℕ) (cs : List ℕ) → (length (c ∷ cs) == 0) ≡ false

@@ -1,14 +1,13 @@
 -- The moment that parts say whose fields are those of sums of lanes.
 use Rattle.std.proofs.Common.{◌≡◌, ◌∙◌, ◌≤◌, ◌<◌, ◌+◌, ◌-◌, ◌*◌, ◌/◌, ◌%◌, ◌==◌, ◌||◌, ℕ, Bool, true, false, List, [], get_or, length, drop, Option, Some, None, Ok, refl, sym, ap, arith, pos, ℤ}
-use Rattle.std.specs.Prelude.{◌*ℤ◌, nat_eq, IfSome, is_some, if◌then◌else◌}
+use Rattle.std.specs.Prelude.{◌*ℤ◌, nat_eq, IfSome, IsSome, is_some, if◌then◌else◌}
 use Rattle.std.specs.Option.{ForSome}
 use Rattle.std.proofs.lemmas.Bool.Decides.{nat_tests}
 use Rattle.std.proofs.lemmas.List.{drop-drop}
 use Rattle.calendar_count.specs.Calendar.{days_in_month}
 use Rattle.datetime_wall.specs.Wall.{Shown}
-use Rattle.parsing_components.specs.Meaning.{Meaning}
-use Rattle.parsing_components.specs.Prefix.{NamesPrefix, beginning}
-use Rattle.parsing_components.specs.Whole.{whole, names, moment_named, offset_named, starting}
+use Rattle.parsing_components.specs.Prefix.{beginning}
+use Rattle.parsing_components.specs.Whole.{moment_named, offset_named}
 use Rattle.parsing_components.specs.declared.fields.Record.{Record}
 use Rattle.parsing_fields.specs.Moment.{moment_of}
 use Rattle.parsing_fields.specs.Numbers.{HaveNumbers}
@@ -32,22 +31,18 @@ use Rattle.parsing_layout.proofs.FrontLemmas.{front_says, front_values}
 use Rattle.parsing_layout.proofs.MomentLemmas.{signed_said}
 use Rattle.parsing_layout.proofs.TailLemmas.{exact_there}
 use Rattle.parsing_plan.specs.Fields.{AreFieldsOf, IsOffset}
+use Rattle.parsing_plan.specs.Parts.{SayMoment}
 use Rattle.parsing_plan.specs.declared.places.Back.{Back}
-use Rattle.parsing_plan.proofs.SaidLemmas.{SayMoment, neither, there}
-
--- ---- a prefix that is all of the line
-
-pub whole_is : (m : Meaning) (defaults : Option Record) (line : List ℕ) (r : Record) → m (starting defaults) line ≡ Ok (r, []) → whole m defaults line ≡ Ok r
-unfolding whole
-whole_is m defaults line r e = rw e refl
-
-pub if_whole_named : (m : Meaning) (defaults : Option Record) (line rest : List ℕ) (assumed : Option ℤ) (o : Option Fields) → rest ≡ [] → starting defaults ≡ beginning assumed → IfSome o (λ f. NamesPrefix m (beginning assumed) line rest (moment_of f)) → IfSome o (λ f. names moment_named (whole m defaults line) ≡ Ok (moment_of f))
-if_whole_named m defaults line rest assumed None nothing start prefix = tt
-if_whole_named m defaults line rest assumed (Some f) nothing start prefix =
-    let all : m (starting defaults) line ≡ Ok (prefix.set, []) = rw (start, ← nothing) prefix.reads in
-    rw (whole_is m defaults line prefix.set all) prefix.names
 
 -- ---- what fields say
+
+pub neither : (a b : Bool) → (a || b) ≡ false → (a ≡ false) × (b ≡ false)
+neither true b e = absurd cc
+neither false b e = (refl, e)
+
+pub there : {A : Type 0} (o : Option A) → is_some o ≡ true → IsSome o
+there None e = absurd cc
+there (Some x) e = refl
 
 short_months : (y : ℤ) (m d : ℕ) → d ≤ days_in_month y m → d ≤ 31
 short_months y m d le = grind (arith, nat_tests)
@@ -88,19 +83,19 @@ module _ (s : Shape) (b : Beside) (text : List ℕ) (d m o t : ℕ) (x : AreSums
     in_range field.Month e = let day = f.day_is_there in (day.1, day.2)
     in_range field.Day e = let day = f.day_is_there in (day.3, short_months (pos f.year) f.month f.day day.4)
     in_range field.Weekday e = y.weekday_few (there b.weekday (sym say.weekday ∙ e))
-    in_range field.IsoWeek e = absurd (never (has field.IsoWeek) say.week e)
-    in_range field.OrdinalTens e = absurd (never (has field.OrdinalTens) say.tens e)
-    in_range field.OrdinalOnes e = absurd (never (has field.OrdinalOnes) say.ones e)
+    in_range field.IsoWeek e = absurd (never (has field.IsoWeek) say.others.week e)
+    in_range field.OrdinalTens e = absurd (never (has field.OrdinalTens) say.others.tens e)
+    in_range field.OrdinalOnes e = absurd (never (has field.OrdinalOnes) say.others.ones e)
     in_range field.Hour e = (omega arith, hour_few)
-    in_range field.HourOfHalf e = absurd (never (has field.HourOfHalf) say.half_hour e)
-    in_range field.Half e = absurd (never (has field.Half) say.half e)
+    in_range field.HourOfHalf e = absurd (never (has field.HourOfHalf) say.others.half_hour e)
+    in_range field.Half e = absurd (never (has field.Half) say.others.half e)
     in_range field.Minute e = (omega arith, x.few.minute)
     in_range field.Second e = (omega arith, x.few.second)
     in_range field.Nanosecond e = (omega arith, omega (arith, y.fraction_few))
     in_range field.Sign e = (omega arith, omega (arith, x.few.sign))
     in_range field.OffsetHour e = (omega arith, omega (arith, x.few.offset_hour))
     in_range field.OffsetMinute e = (omega arith, x.few.offset_minute)
-    in_range field.Unix e = absurd (never (has field.Unix) say.unix e)
+    in_range field.Unix e = absurd (never (has field.Unix) say.others.unix e)
 
     fraction_is : (there : Bool) → has field.Nanosecond ≡ there → (is_some back ≡ false → found ≡ None) → f.fraction ≡ said_or has values field.Nanosecond 0
     fraction_is true is alone = rw is refl
@@ -115,14 +110,14 @@ module _ (s : Shape) (b : Beside) (text : List ℕ) (d m o t : ℕ) (x : AreSums
     pub names_moment : (is_some back ≡ false → found ≡ None) → moment_named (recorded has values (beginning assumed)) ≡ Ok (moment_of f)
     names_moment alone =
         moment_said assumed has values f (get_or x.n 4 0) f.offset in_range
-        (record { year = say.year; month = say.month; day = say.day; minute = say.minute; unix = say.unix; finer = λ none. absurd (never (has field.Second) none say.second) })
-        (hour_said assumed has values say.hour) hour_few (offset_is b.has_offset refl y.offset_is)
+        (record { year = say.clock.year; month = say.clock.month; day = say.clock.day; minute = say.clock.minute; unix = say.others.unix; finer = λ none. absurd (never (has field.Second) none say.clock.second) })
+        (hour_said assumed has values say.clock.hour) hour_few (offset_is b.has_offset refl y.offset_is)
         (record {
           same_year = refl;
           same_month = refl;
           same_day = refl;
           same_minute = omega (arith, y.minute_is, x.minutes_are);
-          same_second = rw say.second (omega (arith, y.second_is, x.seconds_are, x.few.sign));
+          same_second = rw say.clock.second (omega (arith, y.second_is, x.seconds_are, x.few.sign));
           same_fraction = fraction_is (has field.Nanosecond) refl alone;
           same_offset = refl;
         })

@@ -1,6 +1,5 @@
 mod FieldLemmas
 mod PlaceLemmas
-mod SaidLemmas
 mod SplitLemmas
 mod Timestamps
 mod Walk

@@ -16,15 +16,11 @@ use Rattle.parsing_plan.specs.Fields.{AreFieldsOf}
 use Rattle.parsing_plan.specs.Places.{ArePlacesOf}
 use Rattle.parsing_plan.specs.declared.places.Back.{Back}
 use Rattle.parsing_plan.specs.declared.places.Places.{Places}
-use Rattle.parsing_plan.proofs.FieldLemmas.{values, front_said, in_range, names_moment}
+use Rattle.parsing_plan.proofs.FieldLemmas.{values, front_said, in_range, names_moment, neither}
 use Rattle.parsing_layout.specs.declared.front.Beside.{Beside}
 use Rattle.parsing_layout.proofs.WindowLemmas.{both, is_not}
 use Rattle.parsing_plan.specs.Parts.{is_plain}
-use Rattle.parsing_plan.proofs.SaidLemmas.{SayMoment, moment_there, neither}
-use Rattle.parsing_plan.proofs.SplitLemmas.{split_said, sums}
-
-said : (p : Places) → SayMoment p.front.beside p.back (fields_of (parts_kept p.parts))
-said p = moment_there p.front.beside p.back (fields_of (parts_kept p.parts)) p.says
+use Rattle.parsing_plan.proofs.SplitLemmas.{no_place, split_said, sums}
 
 -- all parts have fixed widths
 pub whole_read : (p : Places) (line : List ℕ) (d m o t : ℕ) (x : AreSums p.front.shape line d m o t) → ((k : ℕ) → get_or line k 0 < 256) → p.front.shape.length ≤ length line → (assumed : Option ℤ) (fs : Option Fields) → p.back ≡ None
@@ -37,8 +33,8 @@ whole_read p line d m o t x small long assumed (Some f) alone y meaning is =
     let v = values s b line d m o t x small long None assumed f y in
     prefix_named meaning ps v assumed line (drop s.length line) (moment_of f) is
     (front_said s b line d m o t x small long None assumed f y (λ n e. absurd cc) ps (p.whole alone))
-    (in_range s b line d m o t x small long None assumed f y p.back (fields_of ps) (said p))
-    (names_moment s b line d m o t x small long None assumed f y p.back (fields_of ps) (said p) (λ e. refl))
+    (in_range s b line d m o t x small long None assumed f y p.back (fields_of ps) p.says)
+    (names_moment s b line d m o t x small long None assumed f y p.back (fields_of ps) p.says (λ e. refl))
 
 some_back : (o : Option Back) (back : Back) → o ≡ Some back → is_some o ≡ true
 some_back o back e = rw e refl
@@ -57,14 +53,10 @@ split_read p back line end count d m o t nanosecond small is_back x all sixteen 
     let v = values s b line d m o t z small long (Some nanosecond) assumed f y in
     prefix_named meaning ps v assumed line (drop end line) (moment_of f) is
     (split_said p.front back.count back.last ps split line end count d m o t nanosecond small x all sixteen within some few ends written assumed f y)
-    (in_range s b line d m o t z small long (Some nanosecond) assumed f y p.back (fields_of ps) (said p))
-    (names_moment s b line d m o t z small long (Some nanosecond) assumed f y p.back (fields_of ps) (said p) (λ e. absurd (let bad : true ≡ false = sym (some_back p.back back is_back) ∙ e in cc)))
+    (in_range s b line d m o t z small long (Some nanosecond) assumed f y p.back (fields_of ps) p.says)
+    (names_moment s b line d m o t z small long (Some nanosecond) assumed f y p.back (fields_of ps) p.says (λ e. absurd (let bad : true ≡ false = sym (some_back p.back back is_back) ∙ e in cc)))
 
 -- ---- places of plain lines
-
-no_place : {A : Type 0} (o : Option A) → is_some o ≡ false → o ≡ None
-no_place None e = refl
-no_place (Some x) e = absurd cc
 
 pub plain_beside : (b : Beside) → is_plain b ≡ true → record { month = b.month; day = None; weekday = None; fraction = None; has_offset = true } ≡ b
 plain_beside b e =

@@ -72,7 +72,7 @@ sums_taken s w line end d m o t tail is_end x small = record {
 
 -- ---- what the line says
 
-no_place : (o : Option (ℕ × ℕ)) → is_some o ≡ false → o ≡ None
+pub no_place : {A : Type 0} (o : Option A) → is_some o ≡ false → o ≡ None
 no_place None e = refl
 no_place (Some x) e = absurd cc
 

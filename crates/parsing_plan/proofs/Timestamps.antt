@@ -1,16 +1,15 @@
 -- Unix time: what its components read, and the moment that it names.
-use Rattle.std.proofs.Common.{◌≡◌, ◌==◌, ◌≤◌, ◌<◌, ◌+◌, ◌-◌, ◌*◌, ◌^◌, ◌∙◌, ℕ, Bool, true, false, List, [], ◌∷◌, take, drop, length, min, leb, Option, Some, None, Ok, refl, sym, ap, arith, pos, ℤ}
-use Rattle.std.specs.Prelude.{nat_le, IfSome}
-use Rattle.std.specs.Char.{is_ascii_digit}
+use Rattle.std.proofs.Common.{◌≡◌, ◌==◌, ◌≤◌, ◌<◌, ◌+◌, ◌-◌, ◌*◌, ◌^◌, ◌∙◌, ℕ, Bool, true, false, List, [], take, drop, length, min, leb, Option, Some, None, Ok, refl, sym, ap, arith, pos, ℤ}
+use Rattle.std.specs.Prelude.{nat_le, IfSome, if◌then◌else◌}
 use Rattle.std.specs.Str.Parse.{digits_value}
 use Rattle.std.proofs.lemmas.Bool.Decides.{nat_tests}
-use Rattle.std.proofs.lemmas.Int.{ints}
 use Rattle.std.proofs.lemmas.List.{length-drop, length-take-le, take_all, drop_all}
-use Rattle.std.proofs.lemmas.List.Sums.{prefix_len_passes}
 use Rattle.std.proofs.lemmas.Nat.{pow-add}
 use Rattle.datetime_wall.specs.Wall.{is_wall_clock, second_nanos}
 use Rattle.description_items.specs.declared.component.Component.{Component}
+use Rattle.description_items.specs.declared.component.Component.TheVariants as component
 use Rattle.description_items.specs.Tree.{Part}
+use Rattle.parsing_components.specs.Component.{reads_component, reads_component_v3, reads_modern, date_piece, year_piece, time_piece, offset_piece, unix_digits}
 use Rattle.parsing_components.specs.Ranged.{kept, since_epoch, nanoseconds_after_epoch}
 use Rattle.parsing_components.specs.declared.said.Read.TheVariants as read
 use Rattle.parsing_fields.specs.declared.fields.Fields.{Fields}
@@ -18,7 +17,7 @@ use Rattle.parsing_fields.specs.Moment.{moment_of}
 use Rattle.parsing_fields.specs.Written.{WriteFraction}
 use Rattle.parsing_values.specs.NamedMoment.{named_moment, unix_subsecond, unix_instant}
 use Rattle.parsing_combinator.specs.Fault.{Fault}
-use Rattle.parsing_combinator.specs.Pieces.{digits, digit_count, fraction, sign, byte_of}
+use Rattle.parsing_combinator.specs.Pieces.{digits, digit_count, fraction, sign}
 use Rattle.parsing_combinator.specs.Readings.{piece_or}
 use Rattle.parsing_combinator.proofs.Decimal.{digit_count_within}
 use Rattle.parsing_combinator.proofs.Fixed.{digits_add}
@@ -36,16 +35,12 @@ use Rattle.parsing_components.specs.Prefix.{beginning}
 use Rattle.parsing_plan.specs.UnixTime.{IsUnixOf}
 use Rattle.parsing_layout.proofs.PieceLemmas.{exact_said}
 use Rattle.parsing_layout.proofs.RunLemmas.{exact_taken}
-use Rattle.parsing_components.proofs.Slots.{digit_no_sign}
+use Rattle.parsing_item_parts.proofs.ComponentLemmas.{no_sign}
+use Rattle.parsing_item_parts.proofs.MomentLemmas.{in_calendar}
+use Rattle.parsing_item_parts.proofs.ReadingLemmas.{whole_is}
 use Rattle.parsing_plan.proofs.Walk.{was_read}
-use Rattle.parsing_plan.proofs.FieldLemmas.{whole_is}
 
 -- ---- what a component reads
-
-bare_sign : (line : List ℕ) → 0 < digit_count line → sign line ≡ None
-unfolding byte_of
-bare_sign [] some = refl
-bare_sign (c ∷ cs) some = rw (digit_no_sign c (prefix_len_passes is_ascii_digit (c ∷ cs) 0 0 some)) refl
 
 all_counted : (n number : ℕ) (line : List ℕ) → Read n line number [] → digit_count line ≡ n
 all_counted n number line d = omega (arith, d.enough, digit_count_within line, length-drop n line, ap length d.after)
@@ -59,24 +54,40 @@ all_taken n most number line some few d =
 
 bare_taken : (mandatory : Bool) (n most number : ℕ) (line : List ℕ) → mandatory ≡ false → 1 ≤ n → n ≤ most → Read n line number [] → taken (timestamp mandatory most) line ≡ Some ((false, number), [])
 bare_taken mandatory n most number line bare some few d =
-    let none : sign line ≡ None = bare_sign line (omega (arith, all_counted n number line d)) in
+    let none : sign line ≡ None = no_sign line (omega (arith, all_counted n number line d)) in
     rw bare (taken_timestamp false most line ∙ rw none (ap (under false) (all_taken n most number line some few d)))
 
 in_epoch : (n : ℕ) → n ≤ 20_000_000_000_000_000_000 → nat_le n nanoseconds_after_epoch ≡ true
 in_epoch n le = grind (arith, nat_tests)
 
-pub unix_part : (language : Language) (c : Component) (fault : Fault) (mandatory : Bool) (finer most unit : ℕ) → mandatory ≡ false → 10 + finer ≤ most → 10 ^ (9 - finer) ≡ unit → ((line : List ℕ) → language c line ≡ piece_or fault (kept (since_epoch read.Unix unit) (taken (timestamp mandatory most) line))) → IsUnixOf (reading language (Part c)) finer
+unix_part : (language : Language) (c : Component) (fault : Fault) (mandatory : Bool) (n most unit finer : ℕ) → (if mandatory then None else Some n) ≡ Some finer → 10 + n ≤ most → 10 ^ (9 - n) ≡ unit → ((line : List ℕ) → language c line ≡ piece_or fault (kept (since_epoch read.Unix unit) (taken (timestamp mandatory most) line))) → IsUnixOf (reading language (Part c)) finer
 unfolding reads
-unix_part language c fault mandatory finer most unit bare room power is line number e few r =
-    let d : Read (10 + finer) line number [] = digits_read (10 + finer) line number [] e in
-    let here : taken (timestamp mandatory most) line ≡ Some ((false, number), []) = bare_taken mandatory (10 + finer) most number line bare (omega arith) room d in
+unix_part language c fault true n most unit finer bare room power is = absurd cc
+unix_part language c fault false n most unit finer bare room power is = let same : n ≡ finer = cc in rw (← same) (λ line number e few r.
+    let d : Read (10 + n) line number [] = digits_read (10 + n) line number [] e in
+    let here : taken (timestamp false most) line ≡ Some ((false, number), []) = bare_taken false (10 + n) most number line refl (omega arith) room d in
     let within : nat_le (number * unit) nanoseconds_after_epoch ≡ true = in_epoch (number * unit) (rw power at few) in
-    rw (is line, here, within, power) refl
+    rw (is line, here, within, power) refl)
+
+unix_component : (language : Language) (c : Component) (finer : ℕ) → ((line : List ℕ) → language c line ≡ reads_component c line) → unix_digits c ≡ Some finer → IsUnixOf (reading language (Part c)) finer
+unfolding reads_component reads_modern date_piece year_piece time_piece offset_piece
+unix_component language (component.UnixTimestampSecond m) finer same e = unix_part language _ _ m.sign_is_mandatory 0 14 1_000_000_000 finer e (omega arith) refl same
+unix_component language (component.UnixTimestampMillisecond m) finer same e = unix_part language _ _ m.sign_is_mandatory 3 17 1_000_000 finer e (omega arith) refl same
+unix_component language (component.UnixTimestampMicrosecond m) finer same e = unix_part language _ _ m.sign_is_mandatory 6 20 1_000 finer e (omega arith) refl same
+unix_component language (component.UnixTimestampNanosecond m) finer same e = unix_part language _ _ m.sign_is_mandatory 9 23 1 finer e (omega arith) refl same
+unix_component language c finer same e = absurd cc
+
+-- version 3 reads them alike
+same_v3 : (c : Component) (finer : ℕ) (line : List ℕ) → unix_digits c ≡ Some finer → reads_component_v3 c line ≡ reads_component c line
+unfolding reads_component_v3
+same_v3 (component.Ignore m) finer line e = absurd cc
+same_v3 c finer line e = refl
+
+pub unix_read : (c : Component) (o : Option ℕ) → o ≡ unix_digits c → IfSome o (IsUnixOf (reading reads_component (Part c))) × IfSome o (IsUnixOf (reading reads_component_v3 (Part c)))
+unix_read c None e = (tt, tt)
+unix_read c (Some finer) e = (unix_component reads_component c finer (λ line. refl) (sym e), unix_component reads_component_v3 c finer (λ line. same_v3 c finer line (sym e)) (sym e))
 
 -- ---- the moment that it names
-
-in_calendar : (n : ℕ) → n ≤ 20_000_000_000_000_000_000 → is_wall_clock (pos n) ≡ true
-in_calendar n le = grind (arith, nat_tests, ints)
 
 unix_named : (assumed : Option ℤ) (n : ℕ) → is_wall_clock (pos n) ≡ true → moment_named (record (beginning assumed) { unix_timestamp_nanos = Some (pos n) }) ≡ Ok (record { wall = pos n; offset = pos 0 })
 unfolding named_moment unix_subsecond unix_instant

@@ -1,19 +1,18 @@
 -- Plans of places, of Unix time and of lists of parts.
-use Rattle.std.proofs.Common.{◌≡◌, ◌∙◌, ◌≤◌, ℕ, List, [], ◌∷◌, Option, Some, None, Ok, Err, refl, ap}
+use Rattle.std.proofs.Common.{◌≡◌, ◌∙◌, ℕ, List, [], ◌∷◌, Option, Some, None, Ok, Err, ap}
 use Rattle.std.specs.Prelude.{IfSome}
 use Rattle.std.specs.Result.{result_ok}
-use Rattle.description_items.specs.declared.component.Component.{Component}
-use Rattle.description_items.specs.Tree.{Tree, Compound, Part, listed}
-use Rattle.parsing_components.specs.Component.{reads_component, reads_component_v3}
-use Rattle.parsing_components.specs.Meaning.{Meaning, Answer, Counted, then_counted, all_of}
+use Rattle.description_items.specs.Tree.{Tree, Compound, listed}
+use Rattle.parsing_components.specs.Meaning.{Meaning, Answer}
 use Rattle.parsing_components.specs.Reads.{Language, reading, reading_of_all, reads, each_reads}
 use Rattle.parsing_components.specs.declared.fields.Record.{Record}
 use Rattle.parsing_item_parts.specs.Items.{IsItem, parts_kept}
 use Rattle.parsing_item_parts.specs.Listed.{IsListOf}
 use Rattle.parsing_item_parts.specs.declared.list.Parts.{Parts}
 use Rattle.parsing_item_parts.specs.declared.listed.Listed.{Listed}
+use Rattle.parsing_item_parts.proofs.ItemLemmas.{first_read, nothing_left}
 use Rattle.parsing_plan.specs.Places.{ArePlacesOf}
-use Rattle.parsing_plan.specs.UnixTime.{IsUnixOf, IsUnixPart}
+use Rattle.parsing_plan.specs.UnixTime.{IsUnixOf}
 use Rattle.parsing_plan.specs.declared.places.Places.{Places}
 use Rattle.parsing_plan.specs.declared.plan.Plan.{Plan}
 use Rattle.parsing_plan.specs.declared.plan.Plan.TheVariants as plan
@@ -49,17 +48,6 @@ places_read m parts (Some places) is same = rw same is
 
 -- ---- Unix time alone
 
-counted_read : (x : Answer) (n : ℕ) (next : Counted) (new : Record) (rest : List ℕ) → x ≡ Ok (new, rest) → (then_counted x n next).0 ≡ (next new rest).0
-counted_read x n next new rest e = rw e refl
-
-first_read : (language : Language) (t : Tree) (ts : List Tree) (r new : Record) (line rest : List ℕ) → reading language t r line ≡ Ok (new, rest) → reading_of_all language (listed (t ∷ ts)) r line ≡ reading_of_all language (listed ts) new rest
-unfolding each_reads all_of
-first_read language t ts r new line rest e = counted_read (reads language t r line).0 (reads language t r line).1 (all_of (each_reads language (listed ts))) new rest e
-
-nothing_left : (language : Language) (r : Record) (rest : List ℕ) → reading_of_all language (listed []) r rest ≡ Ok (r, rest)
-unfolding each_reads all_of
-nothing_left language r rest = refl
-
 pub was_read : (x : Answer) (y : Record × List ℕ) → result_ok x ≡ Some y → x ≡ Ok y
 was_read (Ok x) y e = ap (λ (z : Record × List ℕ). Ok z) (let same : x ≡ y = cc in same)
 was_read (Err f) y e = absurd cc
@@ -67,15 +55,3 @@ was_read (Err f) y e = absurd cc
 pub unix_reads : (language : Language) (t : Tree) (finer : ℕ) → IsUnixOf (reading language t) finer → IsUnixOf (reading_of_all language (listed (t ∷ []))) finer
 unix_reads language t finer reads_it line number is few r =
     ap result_ok (first_read language t [] r _ line [] (was_read (reading language t r line) _ (reads_it line number is few r)) ∙ nothing_left language _ [])
-
-pub unix_older : (c : Component) (o : Option ℕ) → IfSome o (IsUnixPart c) → IfSome o (IsUnixOf (reading reads_component (Part c)))
-unix_older c None h = tt
-unix_older c (Some finer) h = h.reads
-
-pub unix_newer : (c : Component) (o : Option ℕ) → IfSome o (IsUnixPart c) → IfSome o (IsUnixOf (reading reads_component_v3 (Part c)))
-unix_newer c None h = tt
-unix_newer c (Some finer) h = h.reads_v3
-
-pub unix_few : (c : Component) (o : Option ℕ) → IfSome o (IsUnixPart c) → IfSome o (λ finer. finer ≤ 9)
-unix_few c None h = tt
-unix_few c (Some finer) h = h.few

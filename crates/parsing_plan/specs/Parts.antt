@@ -1,5 +1,5 @@
 -- What parts have to say, and where they stand, for a line to be read by places.
-use Rattle.std.specs.Prelude.{◌≡◌, ◌≤◌, ◌&&◌, ◌||◌, ◌∷◌, ◌+◌, ℕ, Bool, true, false, not, List, take, drop, Option, is_some, if◌then◌else◌}
+use Rattle.std.specs.Prelude.{◌≡◌, ◌≤◌, ◌&&◌, ◌||◌, ◌∷◌, ◌+◌, ℕ, Bool, true, false, not, List, take, drop, Option, is_some}
 use Rattle.parsing_layout.specs.Front.{fits_beside}
 use Rattle.parsing_layout.specs.End.{begins_apart, fits_end, is_end_bounded, spares_clock}
 use Rattle.parsing_layout.specs.Layout.{length_of}
@@ -12,23 +12,34 @@ use Rattle.parsing_layout.specs.declared.parts.Part.TheVariants as part
 use Rattle.parsing_places.specs.declared.last.LastBytes.{LastBytes}
 use Rattle.parsing_plan.specs.declared.places.Back.{Back}
 
--- ---- what parts say, as tests
+-- ---- what parts say
 
 -- a day, an hour, a minute and a second
-abbrev pub say_clock : Said → Bool
-say_clock has = has field.Year && (has field.Month && (has field.Day && (has field.Hour && (has field.Minute && has field.Second))))
+pub record SayClock (has : Said) : Type 0 where
+  pub year : has field.Year ≡ true
+  pub month : has field.Month ≡ true
+  pub day : has field.Day ≡ true
+  pub hour : has field.Hour ≡ true
+  pub minute : has field.Minute ≡ true
+  pub second : has field.Second ≡ true
 
--- what is no part of these
-abbrev pub say_others : Said → Bool
-say_others has = has field.IsoWeek || (has field.OrdinalTens || (has field.OrdinalOnes || (has field.HourOfHalf || (has field.Half || has field.Unix))))
-
--- both or neither
-abbrev pub is_same : Bool → Bool → Bool
-is_same a b = if a then b else not b
+-- nothing that is no part of these
+pub record SayNoOthers (has : Said) : Type 0 where
+  pub week : has field.IsoWeek ≡ false
+  pub tens : has field.OrdinalTens ≡ false
+  pub ones : has field.OrdinalOnes ≡ false
+  pub half_hour : has field.HourOfHalf ≡ false
+  pub half : has field.Half ≡ false
+  pub unix : has field.Unix ≡ false
 
 -- a moment, with what is read beside lanes, a fraction after them, and an offset, if there is one, and nothing else
-abbrev pub say_moment : Beside → Option Back → Said → Bool
-say_moment b back has = say_clock has && (not (say_others has) && (is_same (has field.Weekday) (is_some b.weekday) && (is_same (has field.Nanosecond) (is_some b.fraction || is_some back) && (is_same (has field.OffsetHour) b.has_offset && is_same (has field.OffsetMinute) b.has_offset))))
+pub record SayMoment (b : Beside) (back : Option Back) (has : Said) : Type 0 where
+  pub clock : SayClock has
+  pub others : SayNoOthers has
+  pub weekday : has field.Weekday ≡ is_some b.weekday
+  pub nanosecond : has field.Nanosecond ≡ (is_some b.fraction || is_some back)
+  pub offset_hour : has field.OffsetHour ≡ b.has_offset
+  pub offset_minute : has field.OffsetMinute ≡ b.has_offset
 
 -- ---- where parts stand
 

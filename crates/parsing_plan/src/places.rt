@@ -4,7 +4,7 @@ ghost use Rattle.std.specs.Option.{ForNone, ForSome};
 ghost use Rattle.parsing_item_parts.specs.Items.{parts_kept};
 ghost use Rattle.parsing_layout.specs.Front.{fits_beside};
 ghost use Rattle.parsing_layout.specs.Said.{fields_of};
-ghost use Rattle.parsing_plan.specs.Parts.{IsPlain, IsSplit, say_moment};
+ghost use Rattle.parsing_plan.specs.Parts.{IsPlain, IsSplit, SayMoment};
 
 mod calls;
 
@@ -35,7 +35,7 @@ pub struct Places {
     /// lanes, and else as many as no line has.
     pub(crate) plain_length: usize,
     pub(crate) parts: Parts,
-    ghost says: { say_moment front.beside back (fields_of (parts_kept parts)) ≡ true },
+    ghost says: { SayMoment front.beside back (fields_of (parts_kept parts)) },
     ghost whole: { ForNone back (fits_beside front.shape front.beside (parts_kept parts) ≡ true) },
     ghost own: { ForNone back (front.shape.has_tail ≡ false) },
     ghost split: { ForSome back (λ b. IsSplit front b.count b.last (parts_kept parts)) },

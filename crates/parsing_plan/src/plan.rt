@@ -1,5 +1,5 @@
 //! Plans of descriptions.
-ghost use Rattle.std.specs.Prelude.{◌≡◌, Ok, map, IfSome, Option};
+ghost use Rattle.std.specs.Prelude.{map, IfSome, Option};
 ghost use Rattle.description_items.specs.Tree.{listed, trees};
 ghost use Rattle.description_tree.specs.Description.{v3_tree};
 ghost use Rattle.parsing_combinator.specs.Tame.{EndsWith};
@@ -8,8 +8,8 @@ ghost use Rattle.parsing_fields.specs.Moment.{moment_of};
 ghost use Rattle.parsing_components.specs.Meaning.{Meaning};
 ghost use Rattle.parsing_components.specs.Prefix.{NamesPrefix, beginning};
 ghost use Rattle.parsing_components.specs.Reads.{reading, reading_of_all};
-ghost use Rattle.parsing_components.specs.declared.fields.Record.{Record};
-ghost use Rattle.parsing_components.specs.Whole.{whole, names, moment_named, starting};
+ghost use Rattle.parsing_components.specs.Whole.{whole, names};
+ghost use Rattle.parsing_item_parts.specs.Listed.{NamesWhole};
 ghost use Rattle.parsing_plan.specs.Plan.{IsPlanOf};
 
 use crate::places::Places;
@@ -70,10 +70,7 @@ impl Plan {
     /// none: what the items of the plan read of the whole line names their moment. `None` says nothing of the line.
     #[inline(always)]
     pub fn read(&self, line: &[u8], assumed: Option<UtcOffset>) -> Option<Fields>
-        ensures { (m : Meaning) (defaults : Option Record) → IsPlanOf m self.now
-            → starting defaults ≡ beginning assumed
-            → IfSome result
-            (λ f. names moment_named (whole m defaults line.now) ≡ Ok (moment_of f)) }
+        ensures { NamesWhole (λ m. IsPlanOf m self.now) line.now assumed result }
     {
         match self {
             Plan::Places(places) => places.read(line, assumed),

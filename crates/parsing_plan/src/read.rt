@@ -1,16 +1,16 @@
 //! The fields of a line, by the places of its parts.
-ghost use Rattle.std.specs.Prelude.{◌≡◌, ◌<◌, ◌≤◌, ◌+◌, None, Some, Ok, Option, true, drop, length, IfSome};
+ghost use Rattle.std.specs.Prelude.{◌≡◌, ◌<◌, ◌≤◌, ◌+◌, None, Some, Option, true, drop, length, IfSome};
 ghost use Rattle.parsing_combinator.specs.Pieces.{digits};
 ghost use Rattle.parsing_combinator.specs.Tame.{EndsWith};
 ghost use Rattle.parsing_components.specs.Meaning.{Meaning};
 ghost use Rattle.parsing_components.specs.Prefix.{NamesPrefix, beginning};
-ghost use Rattle.parsing_components.specs.Whole.{whole, names, moment_named, starting};
-ghost use Rattle.parsing_components.specs.declared.fields.Record.{Record};
+ghost use Rattle.parsing_components.specs.Whole.{whole};
 ghost use Rattle.parsing_fields.specs.Moment.{moment_of};
 ghost use Rattle.parsing_layout.specs.Beside.{is_ready};
 ghost use Rattle.parsing_layout.specs.Sums.{AreSums};
 ghost use Rattle.parsing_plan.specs.Fields.{AreFieldsOf};
 ghost use Rattle.parsing_plan.specs.Parts.{is_plain};
+ghost use Rattle.parsing_item_parts.specs.Listed.{NamesWhole};
 ghost use Rattle.parsing_plan.specs.Places.{ArePlacesOf};
 
 use crate::parts::{day_of, fraction_of, month_of, offset_of, weekday_of};
@@ -105,9 +105,7 @@ fn read_split(
     assumed: Option<UtcOffset>,
 ) -> Option<Fields>
     requires { places.now.back ≡ Some back.now }
-    ensures { (m : Meaning) (defaults : Option Record) → ArePlacesOf m places.now
-        → starting defaults ≡ beginning assumed
-        → IfSome result (λ f. names moment_named (whole m defaults line.now) ≡ Ok (moment_of f)) }
+    ensures { NamesWhole (λ m. ArePlacesOf m places.now) line.now assumed result }
 {
     let end = line.len();
     let length = places.front.shape.length;
@@ -182,10 +180,7 @@ impl Places {
     /// the line.
     #[inline(always)]
     pub fn read(&self, line: &[u8], assumed: Option<UtcOffset>) -> Option<Fields>
-        ensures { (m : Meaning) (defaults : Option Record) → ArePlacesOf m self.now
-            → starting defaults ≡ beginning assumed
-            → IfSome result
-            (λ f. names moment_named (whole m defaults line.now) ≡ Ok (moment_of f)) }
+        ensures { NamesWhole (λ m. ArePlacesOf m self.now) line.now assumed result }
     {
         if let Some(back) = &self.back {
             return read_split(self, back, line, assumed);
@@ -208,10 +203,7 @@ impl Places {
     /// others `None` is said for each line.
     #[inline(always)]
     pub fn read_plain(&self, line: &[u8], assumed: Option<UtcOffset>) -> Option<Fields>
-        ensures { (m : Meaning) (defaults : Option Record) → ArePlacesOf m self.now
-            → starting defaults ≡ beginning assumed
-            → IfSome result
-            (λ f. names moment_named (whole m defaults line.now) ≡ Ok (moment_of f)) }
+        ensures { NamesWhole (λ m. ArePlacesOf m self.now) line.now assumed result }
     {
         if line.len() != self.plain_length {
             return None;

@@ -1,17 +1,12 @@
 //! Unix time alone on a line.
-ghost use Rattle.std.specs.Prelude.{◌≡◌, ◌+◌, ◌<◌, ◌≤◌, true, drop, length, Ok, Option, ℤ, IfSome};
-ghost use Rattle.parsing_fields.specs.Moment.{moment_of};
+ghost use Rattle.std.specs.Prelude.{◌≡◌, ◌+◌, ◌<◌, ◌≤◌, drop, length, Option, ℤ, IfSome};
 ghost use Rattle.parsing_fields.specs.Written.{WriteFraction};
-ghost use Rattle.parsing_components.specs.Meaning.{Meaning};
-ghost use Rattle.parsing_components.specs.declared.fields.Record.{Record};
-ghost use Rattle.parsing_components.specs.Whole.{whole, names, moment_named, starting};
-ghost use Rattle.parsing_components.specs.Prefix.{beginning};
+ghost use Rattle.parsing_item_parts.specs.Listed.{NamesWhole};
 ghost use Rattle.parsing_components.specs.Reads.{reading};
-ghost use Rattle.parsing_plan.specs.UnixTime.{IsUnixOf, IsUnixPart};
+ghost use Rattle.parsing_plan.specs.UnixTime.{IsUnixOf};
 
-use description_items::Component;
 use parsing_combinator::{nine_digits, one_digit};
-use parsing_components::{Node, NodeStep};
+use parsing_components::{Node, NodeStep, unix_digits};
 use parsing_fields::{Fields, Fraction};
 
 // The digits of the seconds, those of the years 2001 to 2286.
@@ -24,32 +19,13 @@ pub struct UnixTime {
     ghost few: { finer ≤ 9 },
 }
 
-fn finer_if(holds: bool, finer: usize) -> Option<usize>
-    ensures { IfSome result (λ f. (holds ≡ true) × (f ≡ finer)) }
-{
-    if holds { Some(finer) } else { None }
-}
-
-// How many digits of a fraction the timestamp has that a component is, where it needs no sign.
-fn finer_digits(component: &Component) -> Option<usize>
-    ensures { IfSome result (IsUnixPart component.now) }
-{
-    match component {
-        Component::UnixTimestampSecond(m) => finer_if(!m.sign_is_mandatory, 0),
-        Component::UnixTimestampMillisecond(m) => finer_if(!m.sign_is_mandatory, 3),
-        Component::UnixTimestampMicrosecond(m) => finer_if(!m.sign_is_mandatory, 6),
-        Component::UnixTimestampNanosecond(m) => finer_if(!m.sign_is_mandatory, 9),
-        _ => None,
-    }
-}
-
-// The same of a node.
+// How many digits of a fraction the timestamp has that a node is, where it needs no sign.
 fn finer_of<N: Node>(node: &N) -> Option<usize>
     ensures few { IfSome result (λ finer. finer ≤ 9) }
     ensures reads { IfSome result (IsUnixOf (reading N.language (N.tree node.now))) }
 {
     match node.step() {
-        NodeStep::Component(component) => finer_digits(&component),
+        NodeStep::Component(component) => unix_digits(&component),
         _ => None,
     }
 }
@@ -98,10 +74,7 @@ impl UnixTime {
     /// The fields of a line, in UTC, by a call of its own, so that what calls it stays small: `None` says nothing of the line.
     #[inline(never)]
     pub fn read(&self, line: &[u8]) -> Option<Fields>
-        ensures { (m : Meaning) (defaults : Option Record) (assumed : Option ℤ)
-            → IsUnixTimeOf m self.now → starting defaults ≡ beginning assumed
-            → IfSome result
-            (λ f. names moment_named (whole m defaults line.now) ≡ Ok (moment_of f)) }
+        ensures { (assumed : Option ℤ) → NamesWhole (λ m. IsUnixTimeOf m self.now) line.now assumed result }
     {
         self.read_within(line)
     }
@@ -109,10 +82,7 @@ impl UnixTime {
     /// The fields of a line, in UTC: `None` says nothing of the line.
     #[inline(always)]
     pub fn read_within(&self, line: &[u8]) -> Option<Fields>
-        ensures { (m : Meaning) (defaults : Option Record) (assumed : Option ℤ)
-            → IsUnixTimeOf m self.now → starting defaults ≡ beginning assumed
-            → IfSome result
-            (λ f. names moment_named (whole m defaults line.now) ≡ Ok (moment_of f)) }
+        ensures { (assumed : Option ℤ) → NamesWhole (λ m. IsUnixTimeOf m self.now) line.now assumed result }
     {
         if line.len() != SECOND_DIGITS + self.finer {
             return None;

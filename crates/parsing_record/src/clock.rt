@@ -3,7 +3,7 @@ ghost use Rattle.std.specs.Prelude.{◌≡◌, Some};
 ghost use Rattle.std.specs.Int.{is_in_range};
 ghost use Rattle.parsing_components.specs.Record.{set_if, with_if, InRange};
 
-use crate::parsed::Parsed;
+use crate::parsed::{Parsed, set};
 
 impl Parsed {
     /// The hour of the day, 0 to 23.
@@ -19,11 +19,7 @@ impl Parsed {
         ensures { (result, self.new)
             ≡ set_if (is_in_range 0 23 value) self.old (record self.old { hour_24 = Some value }) }
     {
-        if value > 23 {
-            return None;
-        }
-        self.fields.hour_24 = Some(value);
-        Some(())
+        set(&mut self.fields.hour_24, value <= 23, value)
     }
 
     /// The record with the hour of the day. `None` where it is not 0 to 23.
@@ -47,11 +43,7 @@ impl Parsed {
         ensures { (result, self.new)
             ≡ set_if (is_in_range 1 12 value) self.old (record self.old { hour_12 = Some value }) }
     {
-        if value < 1 || value > 12 {
-            return None;
-        }
-        self.fields.hour_12 = Some(value);
-        Some(())
+        set(&mut self.fields.hour_12, value >= 1 && value <= 12, value)
     }
 
     /// The record with the hour of a half day. `None` where it is not 1 to 12.
@@ -99,11 +91,7 @@ impl Parsed {
         ensures { (result, self.new)
             ≡ set_if (is_in_range 0 59 value) self.old (record self.old { minute = Some value }) }
     {
-        if value > 59 {
-            return None;
-        }
-        self.fields.minute = Some(value);
-        Some(())
+        set(&mut self.fields.minute, value <= 59, value)
     }
 
     /// The record with the minute. `None` where it is not 0 to 59.
@@ -127,11 +115,7 @@ impl Parsed {
         ensures { (result, self.new)
             ≡ set_if (is_in_range 0 60 value) self.old (record self.old { second = Some value }) }
     {
-        if value > 60 {
-            return None;
-        }
-        self.fields.second = Some(value);
-        Some(())
+        set(&mut self.fields.second, value <= 60, value)
     }
 
     /// The record with the second. `None` where it is not 0 to 60.
@@ -157,11 +141,7 @@ impl Parsed {
             ≡ set_if (is_in_range 0 999_999_999 value) self.old
             (record self.old { subsecond = Some value }) }
     {
-        if value > 999_999_999 {
-            return None;
-        }
-        self.fields.subsecond = Some(value);
-        Some(())
+        set(&mut self.fields.subsecond, value <= 999_999_999, value)
     }
 
     /// The record with the fraction of the second, in nanoseconds. `None` where it is not 0 to 999999999.

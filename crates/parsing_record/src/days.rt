@@ -3,7 +3,7 @@ ghost use Rattle.std.specs.Prelude.{◌≡◌, Some};
 ghost use Rattle.std.specs.Int.{is_in_range};
 ghost use Rattle.parsing_components.specs.Record.{set_if, with_if, InRange};
 
-use crate::parsed::Parsed;
+use crate::parsed::{Parsed, set};
 use calendar_count::{Month, Weekday};
 
 impl Parsed {
@@ -45,11 +45,7 @@ impl Parsed {
             ≡ set_if (is_in_range 0 53 value) self.old
             (record self.old { sunday_week_number = Some value }) }
     {
-        if value > 53 {
-            return None;
-        }
-        self.fields.sunday_week_number = Some(value);
-        Some(())
+        set(&mut self.fields.sunday_week_number, value <= 53, value)
     }
 
     /// The record with the week, counted from the year's first Sunday. `None` where it is not 0 to 53.
@@ -75,11 +71,7 @@ impl Parsed {
             ≡ set_if (is_in_range 0 53 value) self.old
             (record self.old { monday_week_number = Some value }) }
     {
-        if value > 53 {
-            return None;
-        }
-        self.fields.monday_week_number = Some(value);
-        Some(())
+        set(&mut self.fields.monday_week_number, value <= 53, value)
     }
 
     /// The record with the week, counted from the year's first Monday. `None` where it is not 0 to 53.
@@ -105,11 +97,8 @@ impl Parsed {
             ≡ set_if (is_in_range 1 53 value) self.old
             (record self.old { iso_week_number = Some value }) }
     {
-        if value < 1 || value > 53 {
-            return None;
-        }
-        self.fields.iso_week_number = Some(value);
-        Some(())
+        let is_allowed = value >= 1 && value <= 53;
+        set(&mut self.fields.iso_week_number, is_allowed, value)
     }
 
     /// The record with the week of ISO 8601. `None` where it is not 1 to 53.
@@ -158,11 +147,7 @@ impl Parsed {
         ensures { (result, self.new)
             ≡ set_if (is_in_range 1 366 value) self.old (record self.old { ordinal = Some value }) }
     {
-        if value < 1 || value > 366 {
-            return None;
-        }
-        self.fields.ordinal = Some(value);
-        Some(())
+        set(&mut self.fields.ordinal, value >= 1 && value <= 366, value)
     }
 
     /// The record with the day of the year. `None` where it is not 1 to 366.
@@ -187,11 +172,7 @@ impl Parsed {
         ensures { (result, self.new)
             ≡ set_if (is_in_range 1 31 value) self.old (record self.old { day = Some value }) }
     {
-        if value < 1 || value > 31 {
-            return None;
-        }
-        self.fields.day = Some(value);
-        Some(())
+        set(&mut self.fields.day, value >= 1 && value <= 31, value)
     }
 
     /// The record with the day of the month. `None` where it is not 1 to 31.

@@ -5,7 +5,7 @@ ghost use Rattle.parsing_components.specs.Record.{set_if, with_if, is_up_to, is_
 ghost use Rattle.parsing_components.specs.Ranged.{nanoseconds_before_epoch, nanoseconds_after_epoch};
 ghost use Rattle.parsing_components.specs.Parts.{under_sign};
 
-use crate::parsed::Parsed;
+use crate::parsed::{Parsed, set};
 use calendar_count::range::{LAST_COUNT, UNIX_EPOCH};
 
 const DAY_NANOSECONDS: i128 = 86_400_000_000_000;
@@ -29,11 +29,8 @@ impl Parsed {
         ensures { (result, self.new)
             ≡ set_if (is_up_to 25 value) self.old (record self.old { offset_hour = Some value }) }
     {
-        if value < -25 || value > 25 {
-            return None;
-        }
-        self.fields.offset_hour = Some(value);
-        Some(())
+        let is_allowed = value >= -25 && value <= 25;
+        set(&mut self.fields.offset_hour, is_allowed, value)
     }
 
     /// The record with the hours of the offset, east of UTC. `None` where they are not -25 to 25.
@@ -93,11 +90,8 @@ impl Parsed {
         ensures { (result, self.new)
             ≡ set_if (is_up_to 59 value) self.old (record self.old { offset_minute = Some value }) }
     {
-        if value < -59 || value > 59 {
-            return None;
-        }
-        self.fields.offset_minute = Some(value);
-        Some(())
+        let is_allowed = value >= -59 && value <= 59;
+        set(&mut self.fields.offset_minute, is_allowed, value)
     }
 
     /// The record with the minutes of the offset as they stand. `None` where they are not -59 to 59.
@@ -158,11 +152,8 @@ impl Parsed {
         ensures { (result, self.new)
             ≡ set_if (is_up_to 59 value) self.old (record self.old { offset_second = Some value }) }
     {
-        if value < -59 || value > 59 {
-            return None;
-        }
-        self.fields.offset_second = Some(value);
-        Some(())
+        let is_allowed = value >= -59 && value <= 59;
+        set(&mut self.fields.offset_second, is_allowed, value)
     }
 
     /// The record with the seconds of the offset as they stand. `None` where they are not -59 to 59.
@@ -193,11 +184,8 @@ impl Parsed {
             (pos nanoseconds_after_epoch) value) self.old
             (record self.old { unix_timestamp_nanos = Some value }) }
     {
-        if value < LEAST_NANOSECONDS || value > GREATEST_NANOSECONDS {
-            return None;
-        }
-        self.fields.unix_timestamp_nanos = Some(value);
-        Some(())
+        let is_allowed = value >= LEAST_NANOSECONDS && value <= GREATEST_NANOSECONDS;
+        set(&mut self.fields.unix_timestamp_nanos, is_allowed, value)
     }
 
     /// The record with the nanoseconds since 1970 began in UTC. `None` where the calendar does not have their day.

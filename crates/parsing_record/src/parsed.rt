@@ -1,5 +1,5 @@
 //! What was read so far.
-ghost use Rattle.std.specs.Prelude.{◌≡◌, true};
+ghost use Rattle.std.specs.Prelude.{◌≡◌, true, false, Some, None};
 ghost use Rattle.parsing_components.specs.Record.{empty};
 
 use parsing_components::Record;
@@ -93,4 +93,17 @@ impl Default for Parsed {
     fn default() -> Self {
         Parsed::new()
     }
+}
+
+// Sets a field where its value is allowed, and else leaves it as it was.
+#[inline(always)]
+pub(crate) fn set<T: Copy>(field: &mut Option<T>, is_allowed: bool, value: T) -> Option<()>
+    ensures allowed { is_allowed ≡ true → (result ≡ Some tt) × (field.new ≡ Some value) }
+    ensures refused { is_allowed ≡ false → (result ≡ None) × (field.new ≡ field.old) }
+{
+    if !is_allowed {
+        return None;
+    }
+    *field = Some(value);
+    Some(())
 }

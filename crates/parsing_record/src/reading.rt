@@ -11,7 +11,7 @@ use parsing_combinator::ParseFromDescription;
 use parsing_components::NodeStep;
 
 /// Reads by one node, and tells the tally; a refusal leaves what was read before it in the record.
-#[tactic(auto, unfolding(parsing_components::specs::Reads::reads, parsing_components::specs::Meaning::optionally))]
+#[tactic(auto, unfolding(parsing_components::specs::Reads::reads, parsing_components::specs::Meaning::optionally, parsing_components::proofs::lemmas::Sizes::size))]
 #[cycle(reading)]
 pub(crate) fn read_node<'a, N: ReadsNode, T: Tally>(
     node: &N,
@@ -88,6 +88,7 @@ fn read_optional<'a, N: ReadsNode, T: Tally>(
 }
 
 /// Reads by each node in turn; a refusal leaves what was read before it in the record.
+#[tactic(auto, using(parsing_components::proofs::lemmas::Sizes::one_of_them))]
 #[cycle(reading)]
 #[inline(always)]
 pub(crate) fn read_nodes<'a, N: ReadsNode, T: Tally>(
@@ -109,6 +110,7 @@ pub(crate) fn read_nodes<'a, N: ReadsNode, T: Tally>(
 }
 
 // Reads by the first node that reads.
+#[tactic(auto, using(parsing_components::proofs::lemmas::Sizes::one_of_them))]
 #[cycle(reading)]
 fn read_first<'a, N: ReadsNode, T: Tally>(
     nodes: &[N],

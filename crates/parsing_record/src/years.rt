@@ -5,7 +5,7 @@ ghost use Rattle.calendar_count.specs.Range.{greatest_year};
 ghost use Rattle.parsing_components.specs.Record.{set_if, with_if, is_up_to, century_sign, InRange, Reaches};
 ghost use Rattle.parsing_components.specs.Ranged.{greatest_century};
 
-use crate::parsed::Parsed;
+use crate::parsed::{Parsed, set};
 use calendar_count::range::GREATEST_YEAR;
 
 const GREATEST_CENTURY: i16 = 9_999;
@@ -25,11 +25,8 @@ impl Parsed {
             ≡ set_if (is_up_to greatest_year value) self.old
             (record self.old { year = Some value }) }
     {
-        if value < -GREATEST_YEAR || value > GREATEST_YEAR {
-            return None;
-        }
-        self.fields.year = Some(value);
-        Some(())
+        let is_allowed = value >= -GREATEST_YEAR && value <= GREATEST_YEAR;
+        set(&mut self.fields.year, is_allowed, value)
     }
 
     /// The record with the year. `None` where it is not -999999 to 999999.
@@ -105,11 +102,7 @@ impl Parsed {
             ≡ set_if (is_in_range 0 99 value) self.old
             (record self.old { year_last_two = Some value }) }
     {
-        if value > 99 {
-            return None;
-        }
-        self.fields.year_last_two = Some(value);
-        Some(())
+        set(&mut self.fields.year_last_two, value <= 99, value)
     }
 
     /// The record with the last two digits of the year. `None` where they are not 0 to 99.
@@ -136,11 +129,8 @@ impl Parsed {
             ≡ set_if (is_up_to greatest_year value) self.old
             (record self.old { iso_year = Some value }) }
     {
-        if value < -GREATEST_YEAR || value > GREATEST_YEAR {
-            return None;
-        }
-        self.fields.iso_year = Some(value);
-        Some(())
+        let is_allowed = value >= -GREATEST_YEAR && value <= GREATEST_YEAR;
+        set(&mut self.fields.iso_year, is_allowed, value)
     }
 
     /// The record with the year of ISO 8601, to which its weeks belong. `None` where it is not -999999 to 999999.
@@ -216,11 +206,7 @@ impl Parsed {
             ≡ set_if (is_in_range 0 99 value) self.old
             (record self.old { iso_year_last_two = Some value }) }
     {
-        if value > 99 {
-            return None;
-        }
-        self.fields.iso_year_last_two = Some(value);
-        Some(())
+        set(&mut self.fields.iso_year_last_two, value <= 99, value)
     }
 
     /// The record with the last two digits of that year. `None` where they are not 0 to 99.

@@ -1,10 +1,10 @@
 //! The places of parts.
-ghost use Rattle.std.specs.Prelude.{◌≡◌, ◌≤◌, ◌<◌, true, length, map, drop, take, IfSome, Option};
+ghost use Rattle.std.specs.Prelude.{◌≡◌, ◌≤◌, ◌<◌, true, false, length, map, drop, take, IfSome, Option};
 ghost use Rattle.description_items.specs.Tree.{listed};
 ghost use Rattle.parsing_components.specs.Reads.{reading_of_all};
 ghost use Rattle.parsing_item_parts.specs.Items.{parts_kept};
 ghost use Rattle.parsing_layout.specs.Said.{fields_of};
-ghost use Rattle.parsing_plan.specs.Parts.{IsPlain, IsSplit, is_plain, is_same, say_clock, say_moment, say_others};
+ghost use Rattle.parsing_plan.specs.Parts.{IsPlain, IsSplit, SayClock, SayMoment, SayNoOthers, is_plain};
 ghost use Rattle.parsing_plan.specs.Places.{ArePlacesOf};
 
 use super::{Back, NEVER, Places};
@@ -15,7 +15,7 @@ use parsing_places::LANES;
 
 // Whether parts say a day, an hour, a minute and a second.
 fn say_clock(parts: &[Part]) -> bool
-    ensures { result ≡ say_clock (fields_of parts.now) }
+    ensures { result ≡ true → SayClock (fields_of parts.now) }
 {
     say(parts, Field::Year)
         && say(parts, Field::Month)
@@ -27,7 +27,7 @@ fn say_clock(parts: &[Part]) -> bool
 
 // Whether they say what lanes don't take for a moment.
 fn say_others(parts: &[Part]) -> bool
-    ensures { result ≡ say_others (fields_of parts.now) }
+    ensures { result ≡ false → SayNoOthers (fields_of parts.now) }
 {
     say(parts, Field::IsoWeek)
         || say(parts, Field::OrdinalTens)
@@ -39,14 +39,14 @@ fn say_others(parts: &[Part]) -> bool
 
 // Whether both hold or neither.
 fn is_same(first: bool, second: bool) -> bool
-    ensures { result ≡ is_same first second }
+    ensures { result ≡ true → first ≡ second }
 {
     if first { second } else { !second }
 }
 
 // Whether they say a moment, with what is read beside lanes, after them and of an offset, and nothing else.
 fn say_moment(beside: &Beside, back: &Option<Back>, parts: &[Part]) -> bool
-    ensures { result ≡ say_moment beside.now back.now (fields_of parts.now) }
+    ensures { result ≡ true → SayMoment beside.now back.now (fields_of parts.now) }
 {
     if !say_clock(parts) || say_others(parts) {
         return false;

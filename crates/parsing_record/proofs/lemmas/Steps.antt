@@ -1,5 +1,5 @@
 -- One item more of a list that is read, whatever the items are: each has a tree.
-use Rattle.std.proofs.Common.{Bool, true, false, not, ◌≡◌, ℕ, suc, ◌+◌, ◌<◌, ◌≤◌, List, [], length, get_or, drop, map, Option, Some, None, Ok, Err, refl, sym, ap, ◌∙◌, arith, drop-cons}
+use Rattle.std.proofs.Common.{Bool, true, false, not, ◌≡◌, ℕ, suc, ◌+◌, ◌<◌, ◌≤◌, List, length, get_or, drop, map, Option, Some, None, Ok, Err, refl, sym, ap, ◌∙◌, arith, drop-cons}
 use Rattle.std.proofs.lemmas.List.{drop_all}
 use Rattle.std.specs.Prelude.{option_map, is_some}
 use Rattle.description_items.specs.Tree.{Tree, Trees, also, listed}
@@ -7,8 +7,8 @@ use Rattle.parsing_combinator.specs.declared.fault.ParseFromDescription.{ParseFr
 use Rattle.parsing_combinator.specs.Fault.{Fault}
 use Rattle.parsing_combinator.specs.FaultOf.{reading_fault}
 use Rattle.parsing_components.specs.declared.fields.Record.{Record}
-use Rattle.parsing_components.specs.Meaning.{Answer, Counted, then_counted, all_of, first_of, first_success, or_next, or_found, found_or}
-use Rattle.parsing_components.specs.Reads.{Language, reads, each_reads, reading, reading_of_all, tried, tried_in_all}
+use Rattle.parsing_components.specs.Meaning.{Answer, Counted, more, then_counted, all_of, first_of, first_success, or_next, or_found, found_or}
+use Rattle.parsing_components.specs.Reads.{Language, reads, each_reads, reading, reading_of_all, tried}
 
 -- the trees of the items from a place on
 abbrev pub from : {X : Type 0} → (X → Tree) → List X → ℕ → Trees
@@ -17,54 +17,50 @@ from t xs i = listed (map t (drop i xs))
 split : {X : Type 0} (t : X → Tree) (xs : List X) (i : ℕ) (x : X) → i < length xs → x ≡ get_or xs i x → from t xs i ≡ also (t x) (from t xs (i + 1))
 split t xs i x lt e = ap (λ ys. listed (map t ys)) (drop-cons xs i x lt) ∙ ap (λ y. also (t y) (from t xs (suc i))) (sym e) ∙ ap (λ k. also (t x) (from t xs k)) (let s : suc i ≡ i + 1 = omega arith in s)
 
-pub goes_on : {X : Type 0} (l : Language) (t : X → Tree) (xs : List X) (i : ℕ) (x : X) (r next : Record) (bytes rest : List ℕ) (total : Answer) → i < length xs → x ≡ get_or xs i x → reading l (t x) r bytes ≡ Ok (next, rest) → total ≡ reading_of_all l (from t xs i) r bytes → total ≡ reading_of_all l (from t xs (i + 1)) next rest
+pub all_on : {X : Type 0} (l : Language) (t : X → Tree) (xs : List X) (i : ℕ) (x : X) (r next : Record) (bytes rest : List ℕ) → i < length xs → x ≡ get_or xs i x → reading l (t x) r bytes ≡ Ok (next, rest) → all_of (each_reads l (from t xs i)) r bytes ≡ more (tried l (t x) r bytes) (all_of (each_reads l (from t xs (i + 1))) next rest)
 unfolding all_of each_reads
-goes_on l t xs i x r next bytes rest total lt e read so_far =
-    so_far ∙ ap (λ ts. reading_of_all l ts r bytes) (split t xs i x lt e) ∙ ap (λ a. (then_counted a (reads l (t x) r bytes).1 (all_of (each_reads l (from t xs (i + 1))))).0) read
+all_on l t xs i x r next bytes rest lt e read =
+    ap (λ ts. all_of (each_reads l ts) r bytes) (split t xs i x lt e) ∙ ap (λ a. then_counted a (reads l (t x) r bytes).1 (all_of (each_reads l (from t xs (i + 1))))) read
 
-pub stops : {X : Type 0} (l : Language) (t : X → Tree) (xs : List X) (i : ℕ) (x : X) (r : Record) (bytes : List ℕ) (fault : Fault) (total : Answer) → i < length xs → x ≡ get_or xs i x → reading l (t x) r bytes ≡ Err fault → total ≡ reading_of_all l (from t xs i) r bytes → total ≡ Err fault
+pub all_stop : {X : Type 0} (l : Language) (t : X → Tree) (xs : List X) (i : ℕ) (x : X) (r : Record) (bytes : List ℕ) (fault : Fault) → i < length xs → x ≡ get_or xs i x → reading l (t x) r bytes ≡ Err fault → all_of (each_reads l (from t xs i)) r bytes ≡ (Err fault, tried l (t x) r bytes)
 unfolding all_of each_reads
-stops l t xs i x r bytes fault total lt e read so_far =
-    so_far ∙ ap (λ ts. reading_of_all l ts r bytes) (split t xs i x lt e) ∙ ap (λ a. (then_counted a (reads l (t x) r bytes).1 (all_of (each_reads l (from t xs (i + 1))))).0) read
+all_stop l t xs i x r bytes fault lt e read =
+    ap (λ ts. all_of (each_reads l ts) r bytes) (split t xs i x lt e) ∙ ap (λ a. then_counted a (reads l (t x) r bytes).1 (all_of (each_reads l (from t xs (i + 1))))) read
 
-pub ends : {X : Type 0} (l : Language) (t : X → Tree) (xs : List X) (i : ℕ) (r : Record) (bytes : List ℕ) (total : Answer) → length xs ≤ i → total ≡ reading_of_all l (from t xs i) r bytes → total ≡ Ok (r, bytes)
+pub all_end : {X : Type 0} (l : Language) (t : X → Tree) (xs : List X) (i : ℕ) (r : Record) (bytes : List ℕ) → length xs ≤ i → all_of (each_reads l (from t xs i)) r bytes ≡ (Ok (r, bytes), 0)
 unfolding all_of each_reads
-ends l t xs i r bytes total le so_far = so_far ∙ rw (drop_all i xs le) refl
+all_end l t xs i r bytes le = rw (drop_all i xs le) refl
 
 -- what is still to come, once the first fault is known
-abbrev pub after : Option Fault → List Counted → Record → List ℕ → Answer
-after None cs r bytes = (first_of cs r bytes).0
-after (Some f) cs r bytes = found_or f (first_success cs r bytes).0
+abbrev pub still : Option Fault → List Counted → Counted
+still None cs r bytes = first_of cs r bytes
+still (Some f) cs r bytes = (found_or f (first_success cs r bytes).0, (first_success cs r bytes).1)
 
 abbrev pub first_fault : Option Fault → Fault → Fault
 first_fault None f = f
 first_fault (Some g) f = g
 
-pub after_refused : {X : Type 0} (l : Language) (t : X → Tree) (xs : List X) (i : ℕ) (x : X) (r : Record) (bytes : List ℕ) (so_far : Option Fault) (fault : Fault) (total : Answer) → i < length xs → x ≡ get_or xs i x → reading l (t x) r bytes ≡ Err fault → total ≡ after so_far (each_reads l (from t xs i)) r bytes → total ≡ after (Some (first_fault so_far fault)) (each_reads l (from t xs (i + 1))) r bytes
+pub still_refused : {X : Type 0} (l : Language) (t : X → Tree) (xs : List X) (i : ℕ) (x : X) (r : Record) (bytes : List ℕ) (so_far : Option Fault) (fault : Fault) → i < length xs → x ≡ get_or xs i x → reading l (t x) r bytes ≡ Err fault → still so_far (each_reads l (from t xs i)) r bytes ≡ more (tried l (t x) r bytes) (still (Some (first_fault so_far fault)) (each_reads l (from t xs (i + 1))) r bytes)
 unfolding first_of first_success each_reads
-after_refused l t xs i x r bytes None fault total lt e read is =
-    is ∙ ap (λ ts. after None (each_reads l ts) r bytes) (split t xs i x lt e) ∙ ap (λ a. (or_found a (reads l (t x) r bytes).1 (first_success (each_reads l (from t xs (i + 1))) r bytes)).0) read
-after_refused l t xs i x r bytes (Some g) fault total lt e read is =
-    is ∙ ap (λ ts. after (Some g) (each_reads l ts) r bytes) (split t xs i x lt e) ∙ ap (λ a. found_or g (or_next a (reads l (t x) r bytes).1 (first_success (each_reads l (from t xs (i + 1))) r bytes)).0) read
+still_refused l t xs i x r bytes None fault lt e read =
+    ap (λ ts. still None (each_reads l ts) r bytes) (split t xs i x lt e) ∙ ap (λ a. or_found a (reads l (t x) r bytes).1 (first_success (each_reads l (from t xs (i + 1))) r bytes)) read
+still_refused l t xs i x r bytes (Some g) fault lt e read =
+    ap (λ ts. still (Some g) (each_reads l ts) r bytes) (split t xs i x lt e) ∙ ap (λ a. let o = or_next a (reads l (t x) r bytes).1 (first_success (each_reads l (from t xs (i + 1))) r bytes) in (found_or g o.0, o.1)) read
 
-pub after_read : {X : Type 0} (l : Language) (t : X → Tree) (xs : List X) (i : ℕ) (x : X) (r : Record) (bytes : List ℕ) (so_far : Option Fault) (found : Record × List ℕ) (total : Answer) → i < length xs → x ≡ get_or xs i x → reading l (t x) r bytes ≡ Ok found → total ≡ after so_far (each_reads l (from t xs i)) r bytes → total ≡ Ok found
+pub still_read : {X : Type 0} (l : Language) (t : X → Tree) (xs : List X) (i : ℕ) (x : X) (r : Record) (bytes : List ℕ) (so_far : Option Fault) (found : Record × List ℕ) → i < length xs → x ≡ get_or xs i x → reading l (t x) r bytes ≡ Ok found → still so_far (each_reads l (from t xs i)) r bytes ≡ (Ok found, tried l (t x) r bytes)
 unfolding first_of first_success each_reads
-after_read l t xs i x r bytes None found total lt e read is =
-    is ∙ ap (λ ts. after None (each_reads l ts) r bytes) (split t xs i x lt e) ∙ ap (λ a. (or_found a (reads l (t x) r bytes).1 (first_success (each_reads l (from t xs (i + 1))) r bytes)).0) read
-after_read l t xs i x r bytes (Some g) found total lt e read is =
-    is ∙ ap (λ ts. after (Some g) (each_reads l ts) r bytes) (split t xs i x lt e) ∙ ap (λ a. found_or g (or_next a (reads l (t x) r bytes).1 (first_success (each_reads l (from t xs (i + 1))) r bytes)).0) read
+still_read l t xs i x r bytes None found lt e read =
+    ap (λ ts. still None (each_reads l ts) r bytes) (split t xs i x lt e) ∙ ap (λ a. or_found a (reads l (t x) r bytes).1 (first_success (each_reads l (from t xs (i + 1))) r bytes)) read
+still_read l t xs i x r bytes (Some g) found lt e read =
+    ap (λ ts. still (Some g) (each_reads l ts) r bytes) (split t xs i x lt e) ∙ ap (λ a. let o = or_next a (reads l (t x) r bytes).1 (first_success (each_reads l (from t xs (i + 1))) r bytes) in (found_or g o.0, o.1)) read
 
-after_all : {X : Type 0} (l : Language) (t : X → Tree) (xs : List X) (i : ℕ) (r : Record) (bytes : List ℕ) (so_far : Option Fault) (total : Answer) → length xs ≤ i → total ≡ after so_far (each_reads l (from t xs i)) r bytes → total ≡ after so_far [] r bytes
-unfolding each_reads
-after_all l t xs i r bytes so_far total le is = is ∙ rw (drop_all i xs le) refl
+pub still_none : {X : Type 0} (l : Language) (t : X → Tree) (xs : List X) (i : ℕ) (r : Record) (bytes : List ℕ) (fault : Option ParseFromDescription) → length xs ≤ i → fault ≡ None → still (option_map reading_fault fault) (each_reads l (from t xs i)) r bytes ≡ (Ok (r, bytes), 0)
+unfolding first_of each_reads
+still_none l t xs i r bytes fault le e = rw (e, drop_all i xs le) refl
 
-pub after_none : {X : Type 0} (l : Language) (t : X → Tree) (xs : List X) (i : ℕ) (r : Record) (bytes : List ℕ) (fault : Option ParseFromDescription) (total : Answer) → length xs ≤ i → fault ≡ None → total ≡ after (option_map reading_fault fault) (each_reads l (from t xs i)) r bytes → total ≡ Ok (r, bytes)
-unfolding first_of
-after_none l t xs i r bytes fault total le e is = after_all l t xs i r bytes (option_map reading_fault fault) total le is ∙ ap (λ o. after (option_map reading_fault o) [] r bytes) e
-
-pub after_some : {X : Type 0} (l : Language) (t : X → Tree) (xs : List X) (i : ℕ) (r : Record) (bytes : List ℕ) (fault : Option ParseFromDescription) (refused : ParseFromDescription) (total : Answer) → length xs ≤ i → fault ≡ Some refused → total ≡ after (option_map reading_fault fault) (each_reads l (from t xs i)) r bytes → total ≡ Err (reading_fault refused)
-unfolding first_success
-after_some l t xs i r bytes fault refused total le e is = after_all l t xs i r bytes (option_map reading_fault fault) total le is ∙ ap (λ o. after (option_map reading_fault o) [] r bytes) e
+pub still_some : {X : Type 0} (l : Language) (t : X → Tree) (xs : List X) (i : ℕ) (r : Record) (bytes : List ℕ) (fault : Option ParseFromDescription) (refused : ParseFromDescription) → length xs ≤ i → fault ≡ Some refused → still (option_map reading_fault fault) (each_reads l (from t xs i)) r bytes ≡ (Err (reading_fault refused), 0)
+unfolding first_success each_reads
+still_some l t xs i r bytes fault refused le e = rw (e, drop_all i xs le) refl
 
 -- the fault that is kept
 pub kept_new : (so_far kept : Option ParseFromDescription) (refused : ParseFromDescription) (b : Bool) → is_some so_far ≡ not b → b ≡ true → kept ≡ Some refused → option_map reading_fault kept ≡ Some (first_fault (option_map reading_fault so_far) (reading_fault refused))
@@ -75,42 +71,22 @@ pub kept_old : (so_far kept : Option ParseFromDescription) (refused : ParseFromD
 kept_old None kept refused b known e is = absurd cc
 kept_old (Some g) kept refused b known e is = ap (option_map reading_fault) is
 
--- ---- how many items are begun
+-- ---- the answer alone
 
-pub goes_on_tried : {X : Type 0} (l : Language) (t : X → Tree) (xs : List X) (i : ℕ) (x : X) (r next : Record) (bytes rest : List ℕ) → i < length xs → x ≡ get_or xs i x → reading l (t x) r bytes ≡ Ok (next, rest) → tried_in_all l (from t xs i) r bytes ≡ tried l (t x) r bytes + tried_in_all l (from t xs (i + 1)) next rest
-unfolding all_of each_reads
-goes_on_tried l t xs i x r next bytes rest lt e read =
-    ap (λ ts. tried_in_all l ts r bytes) (split t xs i x lt e) ∙ ap (λ a. (then_counted a (reads l (t x) r bytes).1 (all_of (each_reads l (from t xs (i + 1))))).1) read
+abbrev pub after : Option Fault → List Counted → Record → List ℕ → Answer
+after so_far cs r bytes = (still so_far cs r bytes).0
 
-pub stops_tried : {X : Type 0} (l : Language) (t : X → Tree) (xs : List X) (i : ℕ) (x : X) (r : Record) (bytes : List ℕ) (fault : Fault) → i < length xs → x ≡ get_or xs i x → reading l (t x) r bytes ≡ Err fault → tried_in_all l (from t xs i) r bytes ≡ tried l (t x) r bytes
-unfolding all_of each_reads
-stops_tried l t xs i x r bytes fault lt e read =
-    ap (λ ts. tried_in_all l ts r bytes) (split t xs i x lt e) ∙ ap (λ a. (then_counted a (reads l (t x) r bytes).1 (all_of (each_reads l (from t xs (i + 1))))).1) read
+pub goes_on : {X : Type 0} (l : Language) (t : X → Tree) (xs : List X) (i : ℕ) (x : X) (r next : Record) (bytes rest : List ℕ) (total : Answer) → i < length xs → x ≡ get_or xs i x → reading l (t x) r bytes ≡ Ok (next, rest) → total ≡ reading_of_all l (from t xs i) r bytes → total ≡ reading_of_all l (from t xs (i + 1)) next rest
+goes_on l t xs i x r next bytes rest total lt e read so_far = so_far ∙ ap (λ y. y.0) (all_on l t xs i x r next bytes rest lt e read)
 
-pub ends_tried : {X : Type 0} (l : Language) (t : X → Tree) (xs : List X) (i : ℕ) (r : Record) (bytes : List ℕ) → length xs ≤ i → tried_in_all l (from t xs i) r bytes ≡ 0
-unfolding all_of each_reads
-ends_tried l t xs i r bytes le = rw (drop_all i xs le) refl
+pub stops : {X : Type 0} (l : Language) (t : X → Tree) (xs : List X) (i : ℕ) (x : X) (r : Record) (bytes : List ℕ) (fault : Fault) (total : Answer) → i < length xs → x ≡ get_or xs i x → reading l (t x) r bytes ≡ Err fault → total ≡ reading_of_all l (from t xs i) r bytes → total ≡ Err fault
+stops l t xs i x r bytes fault total lt e read so_far = so_far ∙ ap (λ y. y.0) (all_stop l t xs i x r bytes fault lt e read)
 
--- how many are begun of what is still to come
-abbrev pub tried_after : Option Fault → List Counted → Record → List ℕ → ℕ
-tried_after None cs r bytes = (first_of cs r bytes).1
-tried_after (Some f) cs r bytes = (first_success cs r bytes).1
+pub ends : {X : Type 0} (l : Language) (t : X → Tree) (xs : List X) (i : ℕ) (r : Record) (bytes : List ℕ) (total : Answer) → length xs ≤ i → total ≡ reading_of_all l (from t xs i) r bytes → total ≡ Ok (r, bytes)
+ends l t xs i r bytes total le so_far = so_far ∙ ap (λ y. y.0) (all_end l t xs i r bytes le)
 
-pub after_refused_tried : {X : Type 0} (l : Language) (t : X → Tree) (xs : List X) (i : ℕ) (x : X) (r : Record) (bytes : List ℕ) (so_far : Option Fault) (fault : Fault) → i < length xs → x ≡ get_or xs i x → reading l (t x) r bytes ≡ Err fault → tried_after so_far (each_reads l (from t xs i)) r bytes ≡ tried l (t x) r bytes + tried_after (Some (first_fault so_far fault)) (each_reads l (from t xs (i + 1))) r bytes
-unfolding first_of first_success each_reads
-after_refused_tried l t xs i x r bytes None fault lt e read =
-    ap (λ ts. tried_after None (each_reads l ts) r bytes) (split t xs i x lt e) ∙ ap (λ a. (or_found a (reads l (t x) r bytes).1 (first_success (each_reads l (from t xs (i + 1))) r bytes)).1) read
-after_refused_tried l t xs i x r bytes (Some g) fault lt e read =
-    ap (λ ts. tried_after (Some g) (each_reads l ts) r bytes) (split t xs i x lt e) ∙ ap (λ a. (or_next a (reads l (t x) r bytes).1 (first_success (each_reads l (from t xs (i + 1))) r bytes)).1) read
+pub after_refused : {X : Type 0} (l : Language) (t : X → Tree) (xs : List X) (i : ℕ) (x : X) (r : Record) (bytes : List ℕ) (so_far : Option Fault) (fault : Fault) (total : Answer) → i < length xs → x ≡ get_or xs i x → reading l (t x) r bytes ≡ Err fault → total ≡ after so_far (each_reads l (from t xs i)) r bytes → total ≡ after (Some (first_fault so_far fault)) (each_reads l (from t xs (i + 1))) r bytes
+after_refused l t xs i x r bytes so_far fault total lt e read is = is ∙ ap (λ y. y.0) (still_refused l t xs i x r bytes so_far fault lt e read)
 
-pub after_read_tried : {X : Type 0} (l : Language) (t : X → Tree) (xs : List X) (i : ℕ) (x : X) (r : Record) (bytes : List ℕ) (so_far : Option Fault) (found : Record × List ℕ) → i < length xs → x ≡ get_or xs i x → reading l (t x) r bytes ≡ Ok found → tried_after so_far (each_reads l (from t xs i)) r bytes ≡ tried l (t x) r bytes
-unfolding first_of first_success each_reads
-after_read_tried l t xs i x r bytes None found lt e read =
-    ap (λ ts. tried_after None (each_reads l ts) r bytes) (split t xs i x lt e) ∙ ap (λ a. (or_found a (reads l (t x) r bytes).1 (first_success (each_reads l (from t xs (i + 1))) r bytes)).1) read
-after_read_tried l t xs i x r bytes (Some g) found lt e read =
-    ap (λ ts. tried_after (Some g) (each_reads l ts) r bytes) (split t xs i x lt e) ∙ ap (λ a. (or_next a (reads l (t x) r bytes).1 (first_success (each_reads l (from t xs (i + 1))) r bytes)).1) read
-
-pub after_all_tried : {X : Type 0} (l : Language) (t : X → Tree) (xs : List X) (i : ℕ) (r : Record) (bytes : List ℕ) (so_far : Option Fault) → length xs ≤ i → tried_after so_far (each_reads l (from t xs i)) r bytes ≡ 0
-unfolding first_of first_success each_reads
-after_all_tried l t xs i r bytes None le = rw (drop_all i xs le) refl
-after_all_tried l t xs i r bytes (Some f) le = rw (drop_all i xs le) refl
+pub after_read : {X : Type 0} (l : Language) (t : X → Tree) (xs : List X) (i : ℕ) (x : X) (r : Record) (bytes : List ℕ) (so_far : Option Fault) (found : Record × List ℕ) (total : Answer) → i < length xs → x ≡ get_or xs i x → reading l (t x) r bytes ≡ Ok found → total ≡ after so_far (each_reads l (from t xs i)) r bytes → total ≡ Ok found
+after_read l t xs i x r bytes so_far found total lt e read is = is ∙ ap (λ y. y.0) (still_read l t xs i x r bytes so_far found lt e read)

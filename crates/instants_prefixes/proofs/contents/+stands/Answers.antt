@@ -1,5 +1,5 @@
 use Rattle.std.proofs.Common.{arith, ap}
-use Rattle.parsing_record.proofs.lemmas.Sizes.{size, one_of_them}
+use Rattle.parsing_components.proofs.lemmas.Sizes.{size, one_of_them}
 use Rattle.instants_prefixes.proofs.contents.+stands.Goals as goal
 
 -- ---- the nodes inside a node are smaller

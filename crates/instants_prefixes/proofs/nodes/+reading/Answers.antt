@@ -2,7 +2,7 @@ use Rattle.std.proofs.Common.{◌≡◌, ◌+◌, ◌==◌, true, false, length,
 use Rattle.std.specs.Option.{is_none}
 use Rattle.std.proofs.lemmas.Bool.Decides.{nat_tests}
 use Rattle.parsing_record.specs.Reads.{reading}
-use Rattle.parsing_record.proofs.lemmas.Sizes.{size, one_of_them}
+use Rattle.parsing_components.proofs.lemmas.Sizes.{size, one_of_them}
 use Rattle.parsing_record.proofs.lemmas.Steps.{goes_on, stops, ends, after_refused, after_read, first_fault}
 use Rattle.instants_prefixes.proofs.Firsts.{ended_none, ended_some}
 use Rattle.instants_prefixes.proofs.nodes.+reading.Goals as goal

@@ -4,7 +4,7 @@ use Rattle.description_items.specs.Tree.{listed}
 use Rattle.parsing_combinator.specs.Fault.{Fault}
 use Rattle.parsing_record.specs.Meaning.{first_of}
 use Rattle.parsing_record.specs.Reads.{reading_of_all, each_reads}
-use Rattle.parsing_record.proofs.lemmas.Sizes.{size, size_all}
+use Rattle.parsing_components.proofs.lemmas.Sizes.{size, size_all}
 use Rattle.parsing_record.proofs.lemmas.Steps.{from, after}
 use Rattle.instants_prefixes.proofs.nodes.+reading.Given as goal
 

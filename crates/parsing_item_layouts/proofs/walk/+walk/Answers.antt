@@ -1,8 +1,7 @@
-use Rattle.std.proofs.Common.{◌∙◌, ◌-◌, sym, refl, ap, arith, List, ℕ, length}
+use Rattle.std.proofs.Common.{◌-◌, sym, refl, List, ℕ, length}
 use Rattle.std.specs.Prelude.{IfOk}
 use Rattle.parsing_item_layouts.specs.Forms.{IsFormed}
-use Rattle.parsing_record.proofs.lemmas.Sizes.{size, one_of_them}
-use Rattle.parsing_item_layouts.proofs.WalkLemmas.{literal_leads, part_leads, compound_leads, optional_leads, first_leads, no_choice, each_more, none_leads, back_leads, all_lead}
+use Rattle.parsing_item_layouts.proofs.WalkLemmas.{literal_leads, part_leads, compound_leads, optional_leads, each_more, back_leads, all_lead}
 use Rattle.parsing_item_layouts.proofs.walk.+walk.Goals as goal
 
 pub put_node-returns-in-Literal : goal.put_node-returns-in-Literal
@@ -24,51 +23,11 @@ pub put_node-returns-in-Optional : goal.put_node-returns-in-Optional
 put_node-returns-in-Optional g t c =
     rw (sym c.in-Optional.ensures) (optional_leads g.F.Front.fits g.N.Node.language c.in-Optional.field-0 (g.N.Node.tree c.in-Optional.node.now) c.args.front.now c.put_node.new.front c.join.new.self c.put_node.ensures c.join.ensures.kept c.join.ensures.joined)
 
-pub put_node-returns-in-First : goal.put_node-returns-in-First
-put_node-returns-in-First g t c = rw (sym c.in-First.ensures) c.put_first.ensures
-
-pub put_first-returns-then-is_empty : goal.put_first-returns-then-is_empty
-put_first-returns-then-is_empty g t c = no_choice g.F.Front.fits g.N.Node.language g.N.Node.tree c.args.nodes.now c.args.front.now (sym c.is_empty.ensures ∙ c.if-is_empty.true)
-
 pub put_first-loop-node-preserved : goal.put_first-loop-node-preserved
 put_first-loop-node-preserved g t c =
     each_more g.F.Front.fits g.N.Node.language g.N.Node.tree c.args.nodes.now c.loop-node.node-index c.node-item.result c.args.front.now c.loop-node.front c.put_node.new.front c.join.new.self c.loop-node-test.true c.node-item.is c.loop-node.invariant c.put_node.ensures c.join.ensures.kept c.join.ensures.joined
 
-pub put_first-returns : goal.put_first-returns
-put_first-returns g t c =
-    first_leads g.F.Front.fits g.N.Node.language g.N.Node.tree c.args.nodes.now c.loop-node.node-index c.args.front.now c.loop-node.front c.loop-node-test.false (sym c.is_empty.ensures ∙ c.if-is_empty.false) c.loop-node.invariant
-
--- ---- the nodes inside a node are smaller
-
-pub put_node-put_nodes-requires : goal.put_node-put_nodes-requires
-unfolding size
-put_node-put_nodes-requires g t c κs within = let inside = ap size c.in-Compound.ensures in (omega (arith, inside, c.decreases), within)
-
-pub put_node-put_node-requires : goal.put_node-put_node-requires
-unfolding size
-put_node-put_node-requires g t c κs within = let inside = ap size c.in-Optional.ensures in (omega (arith, inside, c.decreases), within)
-
-pub put_node-put_first-requires : goal.put_node-put_first-requires
-unfolding size
-put_node-put_first-requires g t c κs within = let inside = ap size c.in-First.ensures in (omega (arith, inside, c.decreases), within)
-
-pub put_first-put_node-requires : goal.put_first-put_node-requires
-put_first-put_node-requires g t c κs within =
-    let one = one_of_them g.N.Node.tree c.args.nodes.now c.loop-node.node-index c.node-item.result c.loop-node-test.true in
-    let same = ap (λ node. size (g.N.Node.tree node)) c.node-item.is in
-    (omega (arith, one, same, c.decreases), within)
-
-pub put_nodes-put_node-requires : goal.put_nodes-put_node-requires
-put_nodes-put_node-requires g t c κs within =
-    let at = length c.args.nodes.now - 1 - c.loop-place.place in
-    let one = one_of_them g.N.Node.tree c.args.nodes.now at c.index-nodes-nodes.result (omega (arith, c.loop-place-test.true)) in
-    let same = ap (λ node. size (g.N.Node.tree node)) c.index-nodes-nodes.is in
-    (omega (arith, one, same, c.decreases), within)
-
 -- ---- nodes one after another, from the last one
-
-pub put_nodes-loop-place-init : goal.put_nodes-loop-place-init
-put_nodes-loop-place-init g t c = none_leads g.F.Front.fits g.N.Node.language g.N.Node.tree c.args.nodes.now c.args.front.now
 
 pub put_nodes-loop-place-preserved : goal.put_nodes-loop-place-preserved
 put_nodes-loop-place-preserved g t c =

@@ -1,5 +1,5 @@
 use Rattle.std.proofs.Common.{arith, ap}
-use Rattle.parsing_record.proofs.lemmas.Sizes.{size, one_of_them}
+use Rattle.parsing_components.proofs.lemmas.Sizes.{size, one_of_them}
 use Rattle.parsing_parsable.proofs.Counting.{next_nodes, no_nodes}
 use Rattle.parsing_parsable.proofs.nodes.+nodes.Goals as goal
 

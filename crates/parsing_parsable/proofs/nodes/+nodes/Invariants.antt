@@ -1,7 +1,7 @@
 use Rattle.std.proofs.Common.{◌≡◌, ◌+◌, ◌*◌, ◌≤◌, min, map}
 use Rattle.description_items.specs.Tree.{listed}
 use Rattle.parsing_record.specs.Tally.{greatest_count}
-use Rattle.parsing_record.proofs.lemmas.Sizes.{size, size_all}
+use Rattle.parsing_components.proofs.lemmas.Sizes.{size, size_all}
 use Rattle.parsing_parsable.proofs.Counting.{nodes_from}
 use Rattle.parsing_parsable.proofs.nodes.+nodes.Given as goal
 

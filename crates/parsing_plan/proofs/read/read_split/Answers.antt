@@ -1,6 +1,6 @@
 use Rattle.std.proofs.Common.{length, drop, arith}
 use Rattle.std.proofs.lemmas.List.{drop_all}
-use Rattle.parsing_plan.proofs.FieldLemmas.{if_whole_named}
+use Rattle.parsing_item_parts.proofs.ReadingLemmas.{if_whole_named}
 use Rattle.parsing_plan.proofs.SplitLemmas.{no_digit_past}
 use Rattle.parsing_plan.proofs.read.read_split.Goals as goal
 

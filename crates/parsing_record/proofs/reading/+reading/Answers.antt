@@ -2,50 +2,51 @@ use Rattle.std.proofs.Common.{rules, ◌≡◌, ◌+◌, arith, refl, ◌∙◌,
 use Rattle.std.specs.Prelude.{option_map}
 use Rattle.parsing_combinator.specs.FaultOf.{reading_fault}
 use Rattle.parsing_components.specs.Reads.{reading, tried}
-use Rattle.parsing_record.proofs.lemmas.Sizes.{size, one_of_them}
-use Rattle.parsing_record.proofs.lemmas.Steps.{goes_on, stops, ends, after_refused, after_read, after_none, after_some, kept_new, kept_old, first_fault, goes_on_tried, stops_tried, ends_tried, after_refused_tried, after_read_tried, after_all_tried}
+use Rattle.parsing_record.proofs.lemmas.Steps.{all_on, all_stop, all_end, still_refused, still_read, still_none, still_some, kept_new, kept_old, first_fault}
 use Rattle.parsing_record.proofs.reading.+reading.Goals as goal
 use Rattle.parsing_record.proofs.reading.+reading.Goals.{read_first-then-is_none, read_first-else-is_none}
 
 pub read_nodes-returns-in_err-rest-clause-answer : goal.read_nodes-returns-in_err-rest-clause-answer
 read_nodes-returns-in_err-rest-clause-answer g t c =
-    let stopped = stops g.N.Node.language g.N.Node.tree c.args.nodes.now c.loop-node.node-index c.node-item.result c.loop-node.parsed c.loop-node.rest.now (reading_fault c.in_err-rest.field-0.0) _ c.loop-node-test.true c.node-item.is c.in_err-rest.ensures.answer c.loop-node.invariant.0 in
+    let stopped = all_stop g.N.Node.language g.N.Node.tree c.args.nodes.now c.loop-node.node-index c.node-item.result c.loop-node.parsed c.loop-node.rest.now (reading_fault c.in_err-rest.field-0.0) c.loop-node-test.true c.node-item.is c.in_err-rest.ensures.answer in
+    let fault = c.loop-node.invariant.0 ∙ ap (λ x. x.0) stopped in
     search rules
 
 pub read_nodes-returns-in_err-rest-clause-tally : goal.read_nodes-returns-in_err-rest-clause-tally
 read_nodes-returns-in_err-rest-clause-tally g t c =
-    let more = stops_tried g.N.Node.language g.N.Node.tree c.args.nodes.now c.loop-node.node-index c.node-item.result c.loop-node.parsed c.loop-node.rest.now (reading_fault c.in_err-rest.field-0.0) c.loop-node-test.true c.node-item.is c.in_err-rest.ensures.answer in
-    subst (λ n. g.T.Tally.grows c.args.tally.now c.read_one.new.tally n) (sym (c.loop-node.invariant.3 ∙ ap (λ k. c.loop-node.invariant.1 + k) more))
+    let stopped = all_stop g.N.Node.language g.N.Node.tree c.args.nodes.now c.loop-node.node-index c.node-item.result c.loop-node.parsed c.loop-node.rest.now (reading_fault c.in_err-rest.field-0.0) c.loop-node-test.true c.node-item.is c.in_err-rest.ensures.answer in
+    subst (λ n. g.T.Tally.grows c.args.tally.now c.read_one.new.tally n) (sym (c.loop-node.invariant.3 ∙ ap (λ x. c.loop-node.invariant.1 + x.1) stopped))
     (g.met.T.Tally.joins _ _ _ _ _ c.loop-node.invariant.2 c.in_err-rest.ensures.tally)
 
 pub read_nodes-loop-node-preserved : goal.read_nodes-loop-node-preserved
 read_nodes-loop-node-preserved g t c =
     let begun = tried g.N.Node.language (g.N.Node.tree c.node-item.result) c.loop-node.parsed c.loop-node.rest.now in
-    let more = goes_on_tried g.N.Node.language g.N.Node.tree c.args.nodes.now c.loop-node.node-index c.node-item.result c.loop-node.parsed c.read_one.new.parsed c.loop-node.rest.now c.in_ok-rest.rest.now c.loop-node-test.true c.node-item.is c.in_ok-rest.ensures.answer in (
-      goes_on g.N.Node.language g.N.Node.tree c.args.nodes.now c.loop-node.node-index c.node-item.result c.loop-node.parsed c.read_one.new.parsed c.loop-node.rest.now c.in_ok-rest.rest.now _ c.loop-node-test.true c.node-item.is c.in_ok-rest.ensures.answer c.loop-node.invariant.0,
+    let step = all_on g.N.Node.language g.N.Node.tree c.args.nodes.now c.loop-node.node-index c.node-item.result c.loop-node.parsed c.read_one.new.parsed c.loop-node.rest.now c.in_ok-rest.rest.now c.loop-node-test.true c.node-item.is c.in_ok-rest.ensures.answer in (
+      c.loop-node.invariant.0 ∙ ap (λ x. x.0) step,
       c.loop-node.invariant.1 + begun,
       g.met.T.Tally.joins _ _ _ _ _ c.loop-node.invariant.2 c.in_ok-rest.ensures.tally,
-      omega (arith, more, c.loop-node.invariant.3),
+      omega (arith, ap (λ x. x.1) step, c.loop-node.invariant.3),
     )
 
 pub read_nodes-returns-clause-answer : goal.read_nodes-returns-clause-answer
-read_nodes-returns-clause-answer g t c =
-    ends g.N.Node.language g.N.Node.tree c.args.nodes.now c.loop-node.node-index c.loop-node.parsed c.loop-node.rest.now _ c.loop-node-test.false c.loop-node.invariant.0
+read_nodes-returns-clause-answer g t c = c.loop-node.invariant.0 ∙ ap (λ x. x.0) (all_end g.N.Node.language g.N.Node.tree c.args.nodes.now c.loop-node.node-index c.loop-node.parsed c.loop-node.rest.now c.loop-node-test.false)
 
 pub read_nodes-returns-clause-tally : goal.read_nodes-returns-clause-tally
 read_nodes-returns-clause-tally g t c =
-    let more = ends_tried g.N.Node.language g.N.Node.tree c.args.nodes.now c.loop-node.node-index c.loop-node.parsed c.loop-node.rest.now c.loop-node-test.false in
-    subst (λ n. g.T.Tally.grows c.args.tally.now c.loop-node.tally n) (omega (arith, more, c.loop-node.invariant.3)) c.loop-node.invariant.2
+    let ended = all_end g.N.Node.language g.N.Node.tree c.args.nodes.now c.loop-node.node-index c.loop-node.parsed c.loop-node.rest.now c.loop-node-test.false in
+    subst (λ n. g.T.Tally.grows c.args.tally.now c.loop-node.tally n) (omega (arith, ap (λ x. x.1) ended, c.loop-node.invariant.3)) c.loop-node.invariant.2
 
 pub read_first-returns-in-Ok-clause-answer : goal.read_first-returns-in-Ok-clause-answer
 read_first-returns-in-Ok-clause-answer g t c =
-    after_read g.N.Node.language g.N.Node.tree c.args.nodes.now c.loop-node.node-index c.node-item.result c.args.parsed.now c.args.input.now (option_map reading_fault c.loop-node.fault) (c.read_node.new.parsed, c.in-Ok.rest.now) _ c.loop-node-test.true c.node-item.is (ap (λ r. reading g.N.Node.language (g.N.Node.tree c.node-item.result) r c.args.input.now) (sym c.loop-node.invariant.1) ∙ c.in-Ok.ensures.answer) c.loop-node.invariant.0
+    let read = ap (λ r. reading g.N.Node.language (g.N.Node.tree c.node-item.result) r c.args.input.now) (sym c.loop-node.invariant.1) ∙ c.in-Ok.ensures.answer in
+    c.loop-node.invariant.0 ∙ ap (λ x. x.0) (still_read g.N.Node.language g.N.Node.tree c.args.nodes.now c.loop-node.node-index c.node-item.result c.args.parsed.now c.args.input.now (option_map reading_fault c.loop-node.fault) (c.read_node.new.parsed, c.in-Ok.rest.now) c.loop-node-test.true c.node-item.is read)
 
 pub read_first-returns-in-Ok-clause-tally : goal.read_first-returns-in-Ok-clause-tally
 read_first-returns-in-Ok-clause-tally g t c =
     let same = ap (λ r. tried g.N.Node.language (g.N.Node.tree c.node-item.result) r c.args.input.now) c.loop-node.invariant.1 in
-    let more = after_read_tried g.N.Node.language g.N.Node.tree c.args.nodes.now c.loop-node.node-index c.node-item.result c.args.parsed.now c.args.input.now (option_map reading_fault c.loop-node.fault) (c.read_node.new.parsed, c.in-Ok.rest.now) c.loop-node-test.true c.node-item.is (ap (λ r. reading g.N.Node.language (g.N.Node.tree c.node-item.result) r c.args.input.now) (sym c.loop-node.invariant.1) ∙ c.in-Ok.ensures.answer) in
-    subst (λ n. g.T.Tally.grows c.args.tally.now c.read_node.new.tally n) (omega (arith, same, more, c.loop-node.invariant.5))
+    let read = ap (λ r. reading g.N.Node.language (g.N.Node.tree c.node-item.result) r c.args.input.now) (sym c.loop-node.invariant.1) ∙ c.in-Ok.ensures.answer in
+    let step = still_read g.N.Node.language g.N.Node.tree c.args.nodes.now c.loop-node.node-index c.node-item.result c.args.parsed.now c.args.input.now (option_map reading_fault c.loop-node.fault) (c.read_node.new.parsed, c.in-Ok.rest.now) c.loop-node-test.true c.node-item.is read in
+    subst (λ n. g.T.Tally.grows c.args.tally.now c.read_node.new.tally n) (omega (arith, same, ap (λ x. x.1) step, c.loop-node.invariant.5))
     (g.met.T.Tally.joins _ _ _ _ _ c.loop-node.invariant.4 c.in-Ok.ensures.tally)
 
 pub read_first-loop-node-preserved : goal.read_first-loop-node-preserved
@@ -53,61 +54,34 @@ read_first-loop-node-preserved g t c =
     let refused = ap (λ r. reading g.N.Node.language (g.N.Node.tree c.node-item.result) r c.args.input.now) (sym c.loop-node.invariant.1) ∙ c.in-Err.ensures.answer in
     let begun = tried g.N.Node.language (g.N.Node.tree c.node-item.result) c.loop-node.parsed c.args.input.now in
     let same = ap (λ r. tried g.N.Node.language (g.N.Node.tree c.node-item.result) r c.args.input.now) c.loop-node.invariant.1 in
-    let moved = after_refused g.N.Node.language g.N.Node.tree c.args.nodes.now c.loop-node.node-index c.node-item.result c.args.parsed.now c.args.input.now (option_map reading_fault c.loop-node.fault) (reading_fault c.in-Err.refused) _ c.loop-node-test.true c.node-item.is refused c.loop-node.invariant.0 in
-    let more = after_refused_tried g.N.Node.language g.N.Node.tree c.args.nodes.now c.loop-node.node-index c.node-item.result c.args.parsed.now c.args.input.now (option_map reading_fault c.loop-node.fault) (reading_fault c.in-Err.refused) c.loop-node-test.true c.node-item.is refused in
+    let step = still_refused g.N.Node.language g.N.Node.tree c.args.nodes.now c.loop-node.node-index c.node-item.result c.args.parsed.now c.args.input.now (option_map reading_fault c.loop-node.fault) (reading_fault c.in-Err.refused) c.loop-node-test.true c.node-item.is refused in
     let kept : option_map reading_fault c.if-is_none.fault ≡ Some (first_fault (option_map reading_fault c.loop-node.fault) (reading_fault c.in-Err.refused)) =
     elim c.if-is_none.branch [
       | read_first-then-is_none w ↦ kept_new c.loop-node.fault c.if-is_none.fault c.in-Err.refused c.is_none.result c.is_none.ensures w.if-is_none.true w.fault-is
       | read_first-else-is_none w ↦ kept_old c.loop-node.fault c.if-is_none.fault c.in-Err.refused c.is_none.result c.is_none.ensures w.if-is_none.false w.fault-is
     ] in (
-      rw kept moved,
+      rw kept (c.loop-node.invariant.0 ∙ ap (λ x. x.0) step),
       refl,
       refl,
       c.loop-node.invariant.3 + begun,
       g.met.T.Tally.joins _ _ _ _ _ c.loop-node.invariant.4 c.in-Err.ensures.tally,
-      rw kept (omega (arith, same, more, c.loop-node.invariant.5)),
+      rw kept (omega (arith, same, ap (λ x. x.1) step, c.loop-node.invariant.5)),
     )
 
 pub read_first-returns-in-None-clause-answer : goal.read_first-returns-in-None-clause-answer
 read_first-returns-in-None-clause-answer g t c =
-    after_none g.N.Node.language g.N.Node.tree c.args.nodes.now c.loop-node.node-index c.args.parsed.now c.args.input.now c.loop-node.fault _ c.loop-node-test.false c.in-None.is c.loop-node.invariant.0 ∙ ap (λ r. Ok (r, c.args.input.now)) (sym c.loop-node.invariant.1)
+    c.loop-node.invariant.0 ∙ ap (λ x. x.0) (still_none g.N.Node.language g.N.Node.tree c.args.nodes.now c.loop-node.node-index c.args.parsed.now c.args.input.now c.loop-node.fault c.loop-node-test.false c.in-None.is) ∙ ap (λ r. Ok (r, c.args.input.now)) (sym c.loop-node.invariant.1)
 
 pub read_first-returns-in-None-clause-tally : goal.read_first-returns-in-None-clause-tally
 read_first-returns-in-None-clause-tally g t c =
-    let more = after_all_tried g.N.Node.language g.N.Node.tree c.args.nodes.now c.loop-node.node-index c.args.parsed.now c.args.input.now (option_map reading_fault c.loop-node.fault) c.loop-node-test.false in
-    subst (λ n. g.T.Tally.grows c.args.tally.now c.loop-node.tally n) (omega (arith, more, c.loop-node.invariant.5)) c.loop-node.invariant.4
+    let ended = still_none g.N.Node.language g.N.Node.tree c.args.nodes.now c.loop-node.node-index c.args.parsed.now c.args.input.now c.loop-node.fault c.loop-node-test.false c.in-None.is in
+    subst (λ n. g.T.Tally.grows c.args.tally.now c.loop-node.tally n) (omega (arith, ap (λ x. x.1) ended, c.loop-node.invariant.5)) c.loop-node.invariant.4
 
 pub read_first-returns-in-Some-clause-answer : goal.read_first-returns-in-Some-clause-answer
 read_first-returns-in-Some-clause-answer g t c =
-    after_some g.N.Node.language g.N.Node.tree c.args.nodes.now c.loop-node.node-index c.args.parsed.now c.args.input.now c.loop-node.fault c.in-Some.refused _ c.loop-node-test.false c.in-Some.is c.loop-node.invariant.0
+    c.loop-node.invariant.0 ∙ ap (λ x. x.0) (still_some g.N.Node.language g.N.Node.tree c.args.nodes.now c.loop-node.node-index c.args.parsed.now c.args.input.now c.loop-node.fault c.in-Some.refused c.loop-node-test.false c.in-Some.is)
 
 pub read_first-returns-in-Some-clause-tally : goal.read_first-returns-in-Some-clause-tally
 read_first-returns-in-Some-clause-tally g t c =
-    let more = after_all_tried g.N.Node.language g.N.Node.tree c.args.nodes.now c.loop-node.node-index c.args.parsed.now c.args.input.now (option_map reading_fault c.loop-node.fault) c.loop-node-test.false in
-    subst (λ n. g.T.Tally.grows c.args.tally.now c.loop-node.tally n) (omega (arith, more, c.loop-node.invariant.5)) c.loop-node.invariant.4
-
--- ---- the nodes inside a node are smaller
-
-pub read_node-read_nodes-requires : goal.read_node-read_nodes-requires
-unfolding size
-read_node-read_nodes-requires g t c κs within = let inside = ap size c.in-Compound.ensures in (omega (arith, inside, c.decreases), within)
-
-pub read_node-read_optional-requires : goal.read_node-read_optional-requires
-unfolding size
-read_node-read_optional-requires g t c κs within = let inside = ap size c.in-Optional.ensures in (omega (arith, inside, c.decreases), within)
-
-pub read_node-read_first-requires : goal.read_node-read_first-requires
-unfolding size
-read_node-read_first-requires g t c κs within = let inside = ap size c.in-First.ensures in (omega (arith, inside, c.decreases), within)
-
-pub read_nodes-read_one-requires : goal.read_nodes-read_one-requires
-read_nodes-read_one-requires g t c κs within =
-    let one = one_of_them g.N.Node.tree c.args.nodes.now c.loop-node.node-index c.node-item.result c.loop-node-test.true in
-    let same = ap (λ node. size (g.N.Node.tree node)) c.node-item.is in
-    (omega (arith, one, same, c.decreases), within)
-
-pub read_first-read_node-requires : goal.read_first-read_node-requires
-read_first-read_node-requires g t c κs within =
-    let one = one_of_them g.N.Node.tree c.args.nodes.now c.loop-node.node-index c.node-item.result c.loop-node-test.true in
-    let same = ap (λ node. size (g.N.Node.tree node)) c.node-item.is in
-    (omega (arith, one, same, c.decreases), within)
+    let ended = still_some g.N.Node.language g.N.Node.tree c.args.nodes.now c.loop-node.node-index c.args.parsed.now c.args.input.now c.loop-node.fault c.in-Some.refused c.loop-node-test.false c.in-Some.is in
+    subst (λ n. g.T.Tally.grows c.args.tally.now c.loop-node.tally n) (omega (arith, ap (λ x. x.1) ended, c.loop-node.invariant.5)) c.loop-node.invariant.4

@@ -4,15 +4,15 @@ use Rattle.description_items.specs.Tree.{listed}
 use Rattle.parsing_combinator.specs.FaultOf.{reading_fault}
 use Rattle.parsing_components.specs.Meaning.{first_of}
 use Rattle.parsing_components.specs.Reads.{reading_of_all, each_reads, tried_in_all}
-use Rattle.parsing_record.proofs.lemmas.Sizes.{size, size_all}
-use Rattle.parsing_record.proofs.lemmas.Steps.{from, after, tried_after}
+use Rattle.parsing_components.proofs.lemmas.Sizes.{size, size_all}
+use Rattle.parsing_record.proofs.lemmas.Steps.{from, still}
 use Rattle.parsing_record.proofs.reading.+reading.Given as goal
 
 abbrev pub invariant-read_first-loop-node : goal.invariant-read_first-loop-node
 invariant-read_first-loop-node g l =
-    ((first_of (each_reads g.N.Node.language (from g.N.Node.tree l.fn.nodes 0)) l.fn.parsed l.fn.input).0 ≡ after (option_map reading_fault l.fault) (each_reads g.N.Node.language (from g.N.Node.tree l.nodes l.node-index)) l.fn.parsed l.input)
+    ((first_of (each_reads g.N.Node.language (from g.N.Node.tree l.fn.nodes 0)) l.fn.parsed l.fn.input).0 ≡ (still (option_map reading_fault l.fault) (each_reads g.N.Node.language (from g.N.Node.tree l.nodes l.node-index)) l.fn.parsed l.input).0)
     × (l.parsed ≡ l.fn.parsed) × (l.before ≡ l.fn.parsed)
-    × (n : ℕ) × g.T.Tally.grows l.fn.tally l.tally n × ((first_of (each_reads g.N.Node.language (from g.N.Node.tree l.fn.nodes 0)) l.fn.parsed l.fn.input).1 ≡ n + tried_after (option_map reading_fault l.fault) (each_reads g.N.Node.language (from g.N.Node.tree l.nodes l.node-index)) l.fn.parsed l.input)
+    × (n : ℕ) × g.T.Tally.grows l.fn.tally l.tally n × ((first_of (each_reads g.N.Node.language (from g.N.Node.tree l.fn.nodes 0)) l.fn.parsed l.fn.input).1 ≡ n + (still (option_map reading_fault l.fault) (each_reads g.N.Node.language (from g.N.Node.tree l.nodes l.node-index)) l.fn.parsed l.input).1)
 
 abbrev pub invariant-read_nodes-loop-node : goal.invariant-read_nodes-loop-node
 invariant-read_nodes-loop-node g l =

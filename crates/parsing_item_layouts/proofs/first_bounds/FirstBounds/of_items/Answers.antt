@@ -1,6 +1,6 @@
 use Rattle.description_items.specs.Tree.{trees, listed}
 use Rattle.parsing_components.specs.Component.{reads_component}
-use Rattle.parsing_record.specs.Reads.{reading_of_all}
+use Rattle.parsing_components.specs.Reads.{reading_of_all}
 use Rattle.parsing_item_layouts.proofs.FrontLemmas.{bounds_of}
 use Rattle.parsing_item_layouts.proofs.first_bounds.FirstBounds.of_items.Goals as goal
 

@@ -1,6 +1,6 @@
 use Rattle.description_items.specs.Tree.{trees, listed}
 use Rattle.parsing_components.specs.Component.{reads_component}
-use Rattle.parsing_record.specs.Reads.{reading_of_all}
+use Rattle.parsing_components.specs.Reads.{reading_of_all}
 use Rattle.parsing_item_layouts.proofs.FrontLemmas.{bytes_of}
 use Rattle.parsing_item_layouts.proofs.first_bytes.FirstBytes.of_items.Goals as goal
 

@@ -1,15 +1,14 @@
-use Rattle.std.proofs.Common.{refl}
-use Rattle.std.proofs.lemmas.List.{take_more, take_all}
-use Rattle.parsing_item_parts.proofs.ItemLemmas.{alone_grown}
+use Rattle.std.proofs.Common.{◌≡◌, List, length, ap, sym, ◌∙◌}
+use Rattle.parsing_layout.specs.Items.{all_certain}
+use Rattle.parsing_layout.specs.declared.items.Item.TheVariants as item
+use Rattle.parsing_layout.specs.declared.parts.Part.{Part}
+use Rattle.parsing_item_parts.specs.Items.{parts_kept}
+use Rattle.parsing_item_parts.proofs.ItemLemmas.{all_alone}
 use Rattle.parsing_item_parts.proofs.list.Parts.alone_of.Goals as goal
 
-pub loop-item-init : goal.loop-item-init
-loop-item-init c = rw c.new-parts.ensures refl
-
-pub loop-item-preserved : goal.loop-item-preserved
-loop-item-preserved c =
-    let i = c.loop-item.item-index in
-    alone_grown c.args.items.now i _ _ _ (take_more c.args.items.now i _ c.loop-item-test.true) c.loop-item.invariant c.in_ok-parts.ensures
-
 pub returns : goal.returns
-returns c = rw (take_all c.loop-item.item-index c.args.items.now c.loop-item-test.false) at c.loop-item.invariant
+returns c =
+    let items = c.args.items.now in
+    let same : parts_kept c.in_ok-parts.parts ≡ all_certain items = c.in_ok-parts.ensures in
+    let many : length (all_certain items) ≡ length items = ap (λ (ps : List Part). length ps) (sym same ∙ sym c.as_slice.ensures) ∙ c.if-as_slice-items.false in
+    rw same (all_alone items many)

@@ -3,7 +3,7 @@ use Rattle.parsing_plan.proofs.Timestamps.{unix_lines, ten_read}
 use Rattle.parsing_plan.proofs.unix.UnixTime.read_within.Goals as goal
 
 pub returns : goal.returns
-returns c = λ m defaults assumed reads_it start.
+returns c = λ assumed m defaults reads_it start.
     let line = c.args.line.now in
     let ten = ten_read line c.in_ok-first.rest.now c.in_ok-last._after.now c.in_ok-first.first c.in_ok-last.last (sym c.in_ok-first.ensures.cut) c.in_ok-last.ensures.digits in
     let below : c.from.result * 1_000_000_000 + c.from-2.result < 10_000_000_000 = omega (arith, c.from.ensures, c.from-2.ensures, c.in_ok-first.ensures.bound, c.in_ok-last.ensures.bound) in

@@ -1,0 +1,7 @@
+use Rattle.std.proofs.Common.{◌≡◌, take}
+use Rattle.parsing_item_parts.specs.Items.{parts_kept, parts_of_items}
+use Rattle.parsing_item_parts.proofs.list.Parts.of_items.Given as goal
+
+-- the parts of the items so far
+abbrev pub invariant-loop-item : goal.invariant-loop-item
+invariant-loop-item l = parts_kept l.parts ≡ parts_of_items l.fn.is_all (take l.item-index l.items)
