@@ -27,25 +27,8 @@ fn month_and_day(kind: Kind, bytes: &[u8]) -> Result<((Month, u8), &[u8]), Parse
     Ok(((month, day), rest))
 }
 
-// A week and a day of it.
-#[tactic(auto, unfolding(crate::specs::Dates::week_and_weekday))]
-#[inline(always)]
-fn week_and_weekday(
-    kind: Kind,
-    bytes: &[u8],
-) -> Result<((u8, Weekday), &[u8]), ParseFromDescription>
-    ensures gives { Gives (λ x. (x.0, x.1.now)) reading_fault result
-        (Dates.week_and_weekday kind bytes.now) }
-    ensures range { IfOk result (λ x. IsInRange 1 99 x.0.0) }
-{
-    let (week, rest) = number::two_from_one(bytes).ok_or(InvalidComponent("week"))?;
-    let rest = dash(kind, rest)?;
-    let (weekday, rest) = number::weekday(rest).ok_or(InvalidComponent("weekday"))?;
-    Ok(((week, weekday), rest))
-}
-
 // The date by its week and weekday.
-#[tactic(auto, unfolding(crate::specs::Dates::date_of_week))]
+#[tactic(auto, unfolding(crate::specs::Dates::date_of_week, crate::specs::Dates::week_and_weekday))]
 #[inline(always)]
 fn date_of_week(
     kind: Kind,
@@ -57,7 +40,9 @@ fn date_of_week(
         (Dates.date_of_week kind year bytes.now) }
     ensures range { IfOk result (λ x. IsDateInRange x.0) }
 {
-    let ((week, weekday), rest) = week_and_weekday(kind, bytes)?;
+    let (week, rest) = number::two_from_one(bytes).ok_or(InvalidComponent("week"))?;
+    let rest = dash(kind, rest)?;
+    let (weekday, rest) = number::weekday(rest).ok_or(InvalidComponent("weekday"))?;
     if week > 53 {
         return Err(InvalidComponent("week"));
     }
