@@ -118,50 +118,32 @@ fn seconds(kind: Kind, hour: u8, minute: u8, bytes: &[u8]) -> Option<(WrittenTim
     }
 }
 
-// What follows a minute.
-#[tactic(auto, unfolding(crate::specs::Times::from_minute))]
-#[inline(always)]
-fn from_minute<'a>(
-    kind: Kind,
-    hour: u8,
-    minute: (u8, Option<&[u8]>),
-    bytes: &'a [u8],
-) -> Option<((WrittenTime, Kind), &'a [u8])>
-    requires hour { hour ≤ 23 }
-    requires digits { AreDigits minute.1 }
-    ensures cut { cut_view result
-        ≡ Times.from_minute kind hour (minute.entry.0, digits_view minute.entry.1) bytes.now }
-    ensures range { IfSome result (λ x. IsTimeInRange x.0.0) }
-{
-    if minute.0 > 59 {
-        return None;
-    }
-    match minute.1 {
-        Some(run) => {
-            let time = after_minute(hour, minute.0, part_of(NANOSECONDS_IN_MINUTE, run));
-            Some(((time, kind.settled()), bytes))
-        }
-        None => {
-            let (time, rest) = seconds(kind, hour, minute.0, bytes)?;
-            Some(((time, kind.settled()), rest))
-        }
-    }
-}
-
 // Minutes and what follows them, where they are there.
-#[tactic(auto, unfolding(crate::specs::Times::minutes, crate::specs::Times::after_minute))]
+#[tactic(auto, unfolding(crate::specs::Times::minutes, crate::specs::Times::from_minute, crate::specs::Times::after_minute))]
 #[inline(always)]
 fn minutes(kind: Kind, hour: u8, bytes: &[u8]) -> Option<((WrittenTime, Kind), &[u8])>
     requires hour { hour ≤ 23 }
     ensures cut { cut_view result ≡ Times.minutes kind hour bytes.now }
     ensures range { IfSome result (λ x. IsTimeInRange x.0.0) }
 {
-    if let Some((minute, rest)) = number(bytes) {
-        return from_minute(kind, hour, minute, rest);
+    let Some(((minute, fraction), rest)) = number(bytes) else {
+        return match kind {
+            Kind::Unknown | Kind::Basic => Some(((after_minute(hour, 0, 0), kind), bytes)),
+            Kind::Extended => None,
+        };
+    };
+    if minute > 59 {
+        return None;
     }
-    match kind {
-        Kind::Unknown | Kind::Basic => Some(((after_minute(hour, 0, 0), kind), bytes)),
-        Kind::Extended => None,
+    match fraction {
+        Some(run) => {
+            let time = after_minute(hour, minute, part_of(NANOSECONDS_IN_MINUTE, run));
+            Some(((time, kind.settled()), rest))
+        }
+        None => {
+            let (time, rest) = seconds(kind, hour, minute, rest)?;
+            Some(((time, kind.settled()), rest))
+        }
     }
 }
 
