@@ -99,25 +99,6 @@ fn month_and_year(bytes: &[u8]) -> Result<((Month, u16), &[u8]), ParseFromDescri
     Ok(((month, year), rest))
 }
 
-// An hour and a minute.
-#[tactic(auto, unfolding(crate::specs::Reading::hour_and_minute))]
-#[inline(always)]
-fn hour_and_minute(is_strict: bool, bytes: &[u8]) -> Result<((u8, u8), &[u8]), ParseFromDescription>
-    ensures { Gives (λ x. (x.0, x.1.now)) reading_fault result
-        (Reading.hour_and_minute is_strict bytes.now) }
-{
-    let (hour, rest) = two_digits(bytes).ok_or(InvalidComponent("hour"))?;
-    if !within(is_strict, 0, 23, hour) {
-        return Err(InvalidComponent("hour"));
-    }
-    let rest = spaced_colon(rest).ok_or(InvalidLiteral)?;
-    let (minute, rest) = two_digits(rest).ok_or(InvalidComponent("minute"))?;
-    if !within(is_strict, 0, 59, minute) {
-        return Err(InvalidComponent("minute"));
-    }
-    Ok(((hour, minute), rest))
-}
-
 // The second, where one is written.
 #[tactic(auto, unfolding(crate::specs::Reading::second, crate::specs::Reading::due_second))]
 #[inline(always)]
@@ -136,7 +117,7 @@ fn second(is_strict: bool, bytes: &[u8]) -> Result<(Option<u8>, &[u8]), ParseFro
 }
 
 // The time of day.
-#[tactic(auto, unfolding(crate::specs::Reading::clock))]
+#[tactic(auto, unfolding(crate::specs::Reading::clock, crate::specs::Reading::hour_and_minute))]
 #[inline(always)]
 fn clock(
     is_strict: bool,
@@ -144,7 +125,15 @@ fn clock(
 ) -> Result<((u8, u8, Option<u8>), &[u8]), ParseFromDescription>
     ensures { Gives (λ x. (x.0, x.1.now)) reading_fault result (Reading.clock is_strict bytes.now) }
 {
-    let ((hour, minute), rest) = hour_and_minute(is_strict, bytes)?;
+    let (hour, rest) = two_digits(bytes).ok_or(InvalidComponent("hour"))?;
+    if !within(is_strict, 0, 23, hour) {
+        return Err(InvalidComponent("hour"));
+    }
+    let rest = spaced_colon(rest).ok_or(InvalidLiteral)?;
+    let (minute, rest) = two_digits(rest).ok_or(InvalidComponent("minute"))?;
+    if !within(is_strict, 0, 59, minute) {
+        return Err(InvalidComponent("minute"));
+    }
     let (second, rest) = second(is_strict, rest)?;
     Ok(((hour, minute, second), rest))
 }
