@@ -27,45 +27,8 @@ fn month_and_day(kind: Kind, bytes: &[u8]) -> Result<((Month, u8), &[u8]), Parse
     Ok(((month, day), rest))
 }
 
-// A week and a day of it.
-#[tactic(auto, unfolding(crate::specs::Dates::week_and_weekday))]
-#[inline(always)]
-fn week_and_weekday(
-    kind: Kind,
-    bytes: &[u8],
-) -> Result<((u8, Weekday), &[u8]), ParseFromDescription>
-    ensures gives { Gives (λ x. (x.0, x.1.now)) reading_fault result
-        (Dates.week_and_weekday kind bytes.now) }
-    ensures range { IfOk result (λ x. IsInRange 1 99 x.0.0) }
-{
-    let (week, rest) = number::two_from_one(bytes).ok_or(InvalidComponent("week"))?;
-    let rest = dash(kind, rest)?;
-    let (weekday, rest) = number::weekday(rest).ok_or(InvalidComponent("weekday"))?;
-    Ok(((week, weekday), rest))
-}
-
-// The date by its week and weekday.
-#[tactic(auto, unfolding(crate::specs::Dates::date_of_week))]
-#[inline(always)]
-fn date_of_week(
-    kind: Kind,
-    year: i32,
-    bytes: &[u8],
-) -> Result<(WrittenDate, &[u8]), ParseFromDescription>
-    requires year { IsYear year }
-    ensures gives { Gives (λ x. (x.0, x.1.now)) reading_fault result
-        (Dates.date_of_week kind year bytes.now) }
-    ensures range { IfOk result (λ x. IsDateInRange x.0) }
-{
-    let ((week, weekday), rest) = week_and_weekday(kind, bytes)?;
-    if week > 53 {
-        return Err(InvalidComponent("week"));
-    }
-    Ok((WrittenDate::OfWeek(year, week, weekday), rest))
-}
-
 // The date that has no month; without any form, the fault of the form that has one.
-#[tactic(auto, unfolding(crate::specs::Dates::date_without_month, crate::specs::Dates::date_of_year))]
+#[tactic(auto, unfolding(crate::specs::Dates::date_without_month, crate::specs::Dates::date_of_year, crate::specs::Dates::date_of_week, crate::specs::Dates::week_and_weekday))]
 #[inline(always)]
 fn date_without_month(
     kind: Kind,
@@ -87,7 +50,13 @@ fn date_without_month(
     let Some(rest) = byte(b'W', bytes) else {
         return Err(fault);
     };
-    date_of_week(kind, year, rest)
+    let (week, rest) = number::two_from_one(rest).ok_or(InvalidComponent("week"))?;
+    let rest = dash(kind, rest)?;
+    let (weekday, rest) = number::weekday(rest).ok_or(InvalidComponent("weekday"))?;
+    if week > 53 {
+        return Err(InvalidComponent("week"));
+    }
+    Ok((WrittenDate::OfWeek(year, week, weekday), rest))
 }
 
 /// The date after its year: a month and a day of it, a day of the year, or a week and a day of it. ISO 8601-1:2019,

@@ -106,26 +106,17 @@ pub fn ordinal(bytes: &[u8]) -> Option<(u16, &[u8])>
     Some((value, rest))
 }
 
-// The six digits of a year after its sign.
-#[tactic(auto, unfolding(crate::specs::Numbers::signed_year))]
-fn signed_year(is_negative: bool, bytes: &[u8]) -> Option<(i32, &[u8])>
-    ensures cut { cut_view result ≡ Numbers.signed_year is_negative bytes.now }
-    ensures bound { IfSome result (λ x. IsYear x.0) }
-{
-    let (value, rest) = six_digits(bytes)?;
-    let value = value as i32;
-    Some((if is_negative { -value } else { value }, rest))
-}
-
 /// A year: four digits, or a sign and six.
-#[tactic(auto, unfolding(crate::specs::Numbers::year, crate::specs::Numbers::plain_year))]
+#[tactic(auto, unfolding(crate::specs::Numbers::year, crate::specs::Numbers::signed_year, crate::specs::Numbers::plain_year))]
 #[inline(always)]
 pub fn year(bytes: &[u8]) -> Option<(i32, &[u8])>
     ensures cut { cut_view result ≡ Numbers.year bytes.now }
     ensures bound { IfSome result (λ x. IsYear x.0) }
 {
     if let Some((mark, rest)) = sign(bytes) {
-        return signed_year(mark == b'-', rest);
+        let (value, rest) = six_digits(rest)?;
+        let value = value as i32;
+        return Some((if mark == b'-' { -value } else { value }, rest));
     }
     let (value, rest) = four_digits(bytes)?;
     Some((i32::from(value), rest))

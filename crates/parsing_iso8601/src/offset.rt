@@ -62,24 +62,8 @@ fn under_sign(is_negative: bool, hour: u8, minute: u8) -> WrittenOffset
     }
 }
 
-// A sign, and the hours under it, with minutes where they are written.
-#[tactic(auto, unfolding(crate::specs::Offsets::signed_offset))]
-#[inline(always)]
-fn signed_offset(kind: Kind, bytes: &[u8]) -> Option<(WrittenOffset, &[u8])>
-    ensures cut { cut_view result ≡ Offsets.signed_offset kind bytes.now }
-    ensures range { IfSome result (λ x. IsOffsetInRange x.0) }
-{
-    let (mark, rest) = sign(bytes)?;
-    let (hour, rest) = two_digits(rest)?;
-    if hour > 25 {
-        return None;
-    }
-    let (minute, rest) = offset_minute(maybe_colon(kind, rest))?;
-    Some((under_sign(mark == b'-', hour, minute), rest))
-}
-
 /// The offset at the start of the bytes: `Z`, or a sign and hours up to 25, with minutes where they are written.
-#[tactic(auto, unfolding(crate::specs::Offsets::offset))]
+#[tactic(auto, unfolding(crate::specs::Offsets::offset, crate::specs::Offsets::signed_offset))]
 #[inline(always)]
 pub fn offset(kind: Kind, bytes: &[u8]) -> Option<(WrittenOffset, &[u8])>
     ensures cut { cut_view result ≡ Offsets.offset kind bytes.now }
@@ -93,5 +77,11 @@ pub fn offset(kind: Kind, bytes: &[u8]) -> Option<(WrittenOffset, &[u8])>
         };
         return Some((zulu, rest));
     }
-    signed_offset(kind, bytes)
+    let (mark, rest) = sign(bytes)?;
+    let (hour, rest) = two_digits(rest)?;
+    if hour > 25 {
+        return None;
+    }
+    let (minute, rest) = offset_minute(maybe_colon(kind, rest))?;
+    Some((under_sign(mark == b'-', hour, minute), rest))
 }

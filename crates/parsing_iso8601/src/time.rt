@@ -96,39 +96,8 @@ fn to_second<'a>(
     Some((time, bytes))
 }
 
-// What follows a whole minute of the basic kind.
-#[tactic(auto, unfolding(crate::specs::Times::basic_seconds, crate::specs::Times::after_minute))]
-#[inline(always)]
-fn basic_seconds(hour: u8, minute: u8, bytes: &[u8]) -> Option<(WrittenTime, &[u8])>
-    requires hour { hour ≤ 23 }
-    requires minute { minute ≤ 59 }
-    ensures cut { cut_view result ≡ Times.basic_seconds hour minute bytes.now }
-    ensures range { IfSome result (λ x. IsTimeInRange x.0) }
-{
-    match number(bytes) {
-        Some((second, rest)) => to_second(hour, minute, second, rest),
-        None => Some((after_minute(hour, minute, 0), bytes)),
-    }
-}
-
-// What follows a whole minute of the extended kind.
-#[tactic(auto, unfolding(crate::specs::Times::extended_seconds, crate::specs::Times::due_second, crate::specs::Times::after_minute))]
-#[inline(always)]
-fn extended_seconds(hour: u8, minute: u8, bytes: &[u8]) -> Option<(WrittenTime, &[u8])>
-    requires hour { hour ≤ 23 }
-    requires minute { minute ≤ 59 }
-    ensures cut { cut_view result ≡ Times.extended_seconds hour minute bytes.now }
-    ensures range { IfSome result (λ x. IsTimeInRange x.0) }
-{
-    let Some(rest) = byte(b':', bytes) else {
-        return Some((after_minute(hour, minute, 0), bytes));
-    };
-    let (second, rest) = number(rest)?;
-    to_second(hour, minute, second, rest)
-}
-
 // What follows a whole minute.
-#[tactic(auto, unfolding(crate::specs::Times::seconds))]
+#[tactic(auto, unfolding(crate::specs::Times::seconds, crate::specs::Times::basic_seconds, crate::specs::Times::extended_seconds, crate::specs::Times::due_second, crate::specs::Times::after_minute))]
 #[inline(always)]
 fn seconds(kind: Kind, hour: u8, minute: u8, bytes: &[u8]) -> Option<(WrittenTime, &[u8])>
     requires hour { hour ≤ 23 }
@@ -136,69 +105,46 @@ fn seconds(kind: Kind, hour: u8, minute: u8, bytes: &[u8]) -> Option<(WrittenTim
     ensures cut { cut_view result ≡ Times.seconds kind hour minute bytes.now }
     ensures range { IfSome result (λ x. IsTimeInRange x.0) }
 {
-    match kind {
-        Kind::Unknown | Kind::Basic => basic_seconds(hour, minute, bytes),
-        Kind::Extended => extended_seconds(hour, minute, bytes),
-    }
-}
-
-// What follows a minute.
-#[tactic(auto, unfolding(crate::specs::Times::from_minute))]
-#[inline(always)]
-fn from_minute<'a>(
-    kind: Kind,
-    hour: u8,
-    minute: (u8, Option<&[u8]>),
-    bytes: &'a [u8],
-) -> Option<((WrittenTime, Kind), &'a [u8])>
-    requires hour { hour ≤ 23 }
-    requires digits { AreDigits minute.1 }
-    ensures cut { cut_view result
-        ≡ Times.from_minute kind hour (minute.entry.0, digits_view minute.entry.1) bytes.now }
-    ensures range { IfSome result (λ x. IsTimeInRange x.0.0) }
-{
-    if minute.0 > 59 {
-        return None;
-    }
-    match minute.1 {
-        Some(run) => {
-            let time = after_minute(hour, minute.0, part_of(NANOSECONDS_IN_MINUTE, run));
-            Some(((time, kind.settled()), bytes))
-        }
-        None => {
-            let (time, rest) = seconds(kind, hour, minute.0, bytes)?;
-            Some(((time, kind.settled()), rest))
-        }
+    let read = match kind {
+        Kind::Unknown | Kind::Basic => number(bytes),
+        Kind::Extended => match byte(b':', bytes) {
+            Some(rest) => Some(number(rest)?),
+            None => None,
+        },
+    };
+    match read {
+        Some((second, rest)) => to_second(hour, minute, second, rest),
+        None => Some((after_minute(hour, minute, 0), bytes)),
     }
 }
 
 // Minutes and what follows them, where they are there.
-#[tactic(auto, unfolding(crate::specs::Times::minutes, crate::specs::Times::after_minute))]
+#[tactic(auto, unfolding(crate::specs::Times::minutes, crate::specs::Times::from_minute, crate::specs::Times::after_minute))]
 #[inline(always)]
 fn minutes(kind: Kind, hour: u8, bytes: &[u8]) -> Option<((WrittenTime, Kind), &[u8])>
     requires hour { hour ≤ 23 }
     ensures cut { cut_view result ≡ Times.minutes kind hour bytes.now }
     ensures range { IfSome result (λ x. IsTimeInRange x.0.0) }
 {
-    if let Some((minute, rest)) = number(bytes) {
-        return from_minute(kind, hour, minute, rest);
+    let Some(((minute, fraction), rest)) = number(bytes) else {
+        return match kind {
+            Kind::Unknown | Kind::Basic => Some(((after_minute(hour, 0, 0), kind), bytes)),
+            Kind::Extended => None,
+        };
+    };
+    if minute > 59 {
+        return None;
     }
-    match kind {
-        Kind::Unknown | Kind::Basic => Some(((after_minute(hour, 0, 0), kind), bytes)),
-        Kind::Extended => None,
+    match fraction {
+        Some(run) => {
+            let time = after_minute(hour, minute, part_of(NANOSECONDS_IN_MINUTE, run));
+            Some(((time, kind.settled()), rest))
+        }
+        None => {
+            let (time, rest) = seconds(kind, hour, minute, rest)?;
+            Some(((time, kind.settled()), rest))
+        }
     }
-}
-
-// What follows a whole hour.
-#[tactic(auto, unfolding(crate::specs::Times::from_hour))]
-#[inline(always)]
-fn from_hour(kind: Kind, hour: u8, bytes: &[u8]) -> Option<((WrittenTime, Kind), &[u8])>
-    requires hour { hour ≤ 23 }
-    ensures cut { cut_view result ≡ Times.from_hour kind hour bytes.now }
-    ensures range { IfSome result (λ x. IsTimeInRange x.0.0) }
-{
-    let (kind, rest) = kind_of_time(kind, bytes)?;
-    minutes(kind, hour, rest)
 }
 
 // Past the `T`, which has to be there after a date.
@@ -216,7 +162,7 @@ fn designator(after_date: bool, bytes: &[u8]) -> Option<&[u8]>
 
 /// The time of day at the start of the bytes, and the kind that it hands on: ISO 8601-1:2019, section 5.3. Its `T`
 /// may be missing where no date stands before it. There is no hour 24.
-#[tactic(auto, unfolding(crate::specs::Times::time))]
+#[tactic(auto, unfolding(crate::specs::Times::time, crate::specs::Times::from_hour))]
 #[inline(always)]
 pub fn time(kind: Kind, after_date: bool, bytes: &[u8]) -> Option<((WrittenTime, Kind), &[u8])>
     ensures cut { cut_view result ≡ Times.time kind after_date bytes.now }
@@ -232,6 +178,9 @@ pub fn time(kind: Kind, after_date: bool, bytes: &[u8]) -> Option<((WrittenTime,
             let time = after_hour(hour, part_of(NANOSECONDS_IN_HOUR, run));
             Some(((time, kind), rest))
         }
-        None => from_hour(kind, hour, rest),
+        None => {
+            let (kind, rest) = kind_of_time(kind, rest)?;
+            minutes(kind, hour, rest)
+        }
     }
 }

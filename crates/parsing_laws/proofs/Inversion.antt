@@ -4,27 +4,18 @@ use Rattle.calendar_count.specs.declared.component_range.ComponentRange.{Compone
 use Rattle.parsing_combinator.specs.Fault.{Fault}
 use Rattle.parsing_combinator.specs.Readings.{Reading, then_read, piece_or, require, resolved, end, value_read}
 
-end_of : {B : Type 0} → B × List ℕ → Result (B × List ℕ) Fault → B × List ℕ
-end_of other (Ok x) = x
-end_of other (Err e) = other
-
 abbrev pub ended : {B : Type 0} → B × List ℕ → Result (B × List ℕ) Fault
 ended x = Ok x
 
 pub same_end : {B : Type 0} (x y : B × List ℕ) → ended x ≡ ended y → x ≡ y
-unfolding end_of
-same_end x y h = ap (end_of x) h
+same_end x y h = cc
 
-value_of : {A : Type 0} → A → Result A Fault → A
-value_of other (Ok x) = x
-value_of other (Err e) = other
-
-abbrev valued : {A : Type 0} → A → Result A Fault
-valued x = Ok x
-
-same_value : {A : Type 0} (x y : A) → valued x ≡ valued y → x ≡ y
-unfolding value_of
-same_value x y h = ap (value_of x) h
+-- the same of three numbers
+pub three_ended : (x y z : ℕ) (bytes rest : List ℕ) (t : ℕ × ℕ × ℕ) → ended ((x, y, z), bytes) ≡ ended (t, rest) → (x ≡ t.0) × (y ≡ t.1) × (z ≡ t.2) × (bytes ≡ rest)
+three_ended x y z bytes rest t h =
+    let e = same_end ((x, y, z), bytes) (t, rest) h in
+    let n = ap (λ (p : (ℕ × ℕ × ℕ) × List ℕ). p.0) e in
+    (ap (λ (p : ℕ × ℕ × ℕ). p.0) n, ap (λ (p : ℕ × ℕ × ℕ). p.1) n, ap (λ (p : ℕ × ℕ × ℕ). p.2) n, ap (λ (p : (ℕ × ℕ × ℕ) × List ℕ). p.1) e)
 
 -- the piece was there, and what follows it came to the same end
 pub due_piece : {A B C : Type 0} (f : Fault) (o : Option (A × List ℕ)) (g : A → Reading B) (last : B × List ℕ) → then_read (piece_or f o) g ≡ Ok last → ((a : A) (rest : List ℕ) → o ≡ Some (a, rest) → g a rest ≡ Ok last → C) → C
@@ -57,5 +48,5 @@ last_value {A = A} (Ok x) bytes last h = ap (λ (p : A × List ℕ). Ok p.0) (sa
 last_value (Err e) bytes last h = absurd (cc)
 
 pub due_whole : {A C : Type 0} (r : Result (A × List ℕ) Fault) (a : A) → value_read r ≡ Ok a → ((rest : List ℕ) → r ≡ Ok (a, rest) → C) → C
-due_whole {A = A} (Ok x) a h on = on x.1 (ap (λ (y : A). Ok (y, x.1)) (same_value x.0 a h))
+due_whole (Ok x) a h on = on x.1 (let same : x.0 ≡ a = cc in rw (← same) refl)
 due_whole (Err f) a h on = absurd (cc)

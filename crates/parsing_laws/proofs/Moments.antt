@@ -6,6 +6,7 @@ use Rattle.std.specs.Str.Parse.{digits_value}
 use Rattle.std.proofs.lemmas.Bool.{cases_Bool}
 use Rattle.std.proofs.lemmas.Bool.Decides.{nat_tests}
 use Rattle.std.proofs.lemmas.Int.{ints}
+use Rattle.base.specs.Bytes.{hyphen, colon}
 use Rattle.calendar_count.specs.Month.{month_number}
 use Rattle.calendar_count.specs.declared.month.Month.{Month}
 use Rattle.calendar_count.specs.declared.component_range.ComponentRange.{ComponentRange}
@@ -17,7 +18,6 @@ use Rattle.parsing_combinator.specs.Pieces.{byte, byte_of, skip_of, nanoseconds_
 use Rattle.parsing_values.specs.Resolution.{leap_time_of}
 use Rattle.parsing_values.specs.StandIn.{leap_checked}
 use Rattle.parsing_rfc3339.specs.Direct.{direct}
-use Rattle.parsing_rfc3339.specs.Reading.{date, clock}
 use Rattle.parsing_iso8601.specs.Designators.{time_designator}
 use Rattle.parsing_iso8601.specs.declared.kind.Kind.TheVariants.{Extended}
 use Rattle.parsing_iso8601.specs.declared.written.WrittenDate.{WrittenDate}
@@ -32,7 +32,7 @@ use Rattle.parsing_iso8601.specs.Times.{time, time_of, subsecond_of}
 use Rattle.parsing_iso8601_shapes.proofs.FastMoments.{whole_of, moment_named}
 use Rattle.parsing_laws.specs.TwoFormats.{separator, last_byte, second_of, fraction_of, rounds_up, fills_second, is_of_both, rounded}
 use Rattle.parsing_laws.proofs.Places.{digits_place, byte_place, any_place, further, byte_at, last_of_rest}
-use Rattle.parsing_laws.proofs.RfcPieces.{date_pieces, clock_pieces, TextPieces, text_pieces, shown}
+use Rattle.parsing_laws.proofs.RfcPieces.{ThreePieces, date_pieces, clock_pieces, TextPieces, text_pieces, nanosecond, shown}
 use Rattle.parsing_laws.proofs.SameDates.{read_date}
 use Rattle.parsing_laws.proofs.SameOffsets.{SameOffset, same_zone}
 use Rattle.parsing_laws.proofs.SameTimes.{no_time, designated, run_of, SameFraction, same_fraction, rounded_cut, cut_is, same_time, refused_time}
@@ -63,50 +63,34 @@ record Placed (bytes : List ℕ) (m : Shown) : Type 0 where
   date : dated bytes ≡ Ok ((Ok (OfMonth (pos p.d.0) month p.d.2), Extended), p.b1)
   day : day_named (OfMonth (pos p.d.0) month p.d.2) ≡ Ok p.day
   first : p.b1 ≡ separator bytes ∷ p.b2
-  fraction : SameFraction p.b3 p.n p.b4
+  fraction : SameFraction p.b3 (nanosecond p) p.b4
   run : run_of fraction.run ≡ fraction_of bytes
   ranges : TimeRanges p.t.0 p.t.1 p.t.2
   second : second_of bytes ≡ p.t.2
   at : drop 19 bytes ≡ p.b3
 
-date_place : (bytes : List ℕ) (d : ℕ × ℕ × ℕ) (rest : List ℕ) → date false bytes ≡ Ok (d, rest) → drop 10 bytes ≡ rest
-date_place bytes d rest h =
-    let p = date_pieces bytes d rest h in
-    let one = further 4 1 bytes p.b1 p.b2 (digits_place 4 bytes d.0 p.b1 p.year).1 (byte_place _ p.b1 p.b2 p.first) in
-    let two = further 5 2 bytes p.b2 p.b3 one (digits_place 2 p.b2 d.1 p.b3 p.month).1 in
-    let three = further 7 1 bytes p.b3 p.b4 two (byte_place _ p.b3 p.b4 p.second) in
-    further 8 2 bytes p.b4 rest three (digits_place 2 p.b4 d.2 rest p.day).1
-
--- where the second stands after a clock, and what follows it
-record ClockPlace (bytes : List ℕ) (t : ℕ × ℕ × ℕ) (rest : List ℕ) : Type 0 where
-  second : digits_value 10 (take 2 (drop 6 bytes)) ≡ t.2
-  after : drop 8 bytes ≡ rest
-
-clock_place : (bytes : List ℕ) (t : ℕ × ℕ × ℕ) (rest : List ℕ) → clock false bytes ≡ Ok (t, rest) → ClockPlace bytes t rest
-clock_place bytes t rest h =
-    let p = clock_pieces bytes t rest h in
-    let one = further 2 1 bytes p.b1 p.b2 (digits_place 2 bytes t.0 p.b1 p.hour).1 (byte_place _ p.b1 p.b2 p.first) in
-    let two = further 3 2 bytes p.b2 p.b3 one (digits_place 2 p.b2 t.1 p.b3 p.minute).1 in
-    let three = further 5 1 bytes p.b3 p.b4 two (byte_place _ p.b3 p.b4 p.between) in
-    let last = digits_place 2 p.b4 t.2 rest p.second in
-    record {
-      second = rw three last.0;
-      after = further 6 2 bytes p.b4 rest three last.1;
-    }
+-- where the last of three numbers stands, and what follows it
+three_place : (n mark : ℕ) (bytes : List ℕ) (d : ℕ × ℕ × ℕ) (rest : List ℕ) → ThreePieces n mark bytes d rest → (digits_value 10 (take 2 (drop (n + 1 + 2 + 1) bytes)) ≡ d.2) × (drop (n + 1 + 2 + 1 + 2) bytes ≡ rest)
+three_place n mark bytes d rest p =
+    let one = further n 1 bytes p.b1 p.b2 (digits_place n bytes d.0 p.b1 p.one).1 (byte_place _ p.b1 p.b2 p.first) in
+    let two = further (n + 1) 2 bytes p.b2 p.b3 one (digits_place 2 p.b2 d.1 p.b3 p.two).1 in
+    let three = further (n + 1 + 2) 1 bytes p.b3 p.b4 two (byte_place _ p.b3 p.b4 p.second) in
+    let last = digits_place 2 p.b4 d.2 rest p.three in
+    (rw three last.0, further (n + 1 + 2 + 1) 2 bytes p.b4 rest three last.1)
 
 placed : (bytes : List ℕ) (m : Shown) → TextPieces bytes m → Placed bytes m
 unfolding fraction_of
 placed bytes m p =
     let ranges = date_ranges (pos p.d.0) p.d.1 p.d.2 p.day p.date_named in
     let month = month_with p.d.1 ranges.least_month ranges.greatest_month in
-    let ten = date_place bytes p.d p.b1 p.date_read in
+    let ten = (three_place 4 hyphen bytes p.d p.b1 (date_pieces bytes p.d p.b1 p.date_read)).1 in
     let split = any_place p.b1 p.b2 p.separated in
     let first : get_or p.b1 0 0 ≡ separator bytes = rw (← ten) (sym (byte_at 10 bytes)) in
     let eleven : drop 11 bytes ≡ p.b2 = further 10 1 bytes p.b1 p.b2 ten (ap (drop 1) split) in
-    let clock_at = clock_place p.b2 p.t p.b3 p.clock_read in
-    let nineteen : drop 19 bytes ≡ p.b3 = further 11 8 bytes p.b2 p.b3 eleven clock_at.after in
+    let clock_at = three_place 2 colon p.b2 p.t p.b3 (clock_pieces p.b2 p.t p.b3 p.clock_read) in
+    let nineteen : drop 19 bytes ≡ p.b3 = further 11 8 bytes p.b2 p.b3 eleven clock_at.1 in
     let seventeen : drop 17 bytes ≡ drop 6 p.b2 = further 11 6 bytes p.b2 (drop 6 p.b2) eleven refl in
-    let fraction = same_fraction p.b3 p.fraction p.n p.b4 p.z [] p.fraction_read p.fraction_is p.offset_read in
+    let fraction = same_fraction p.b3 p.fraction (nanosecond p) p.b4 p.z [] p.fraction_read refl p.offset_read in
     record {
       p = p;
       month = month.is;
@@ -116,21 +100,16 @@ placed bytes m p =
       first = split ∙ ap (λ (c : ℕ). c ∷ p.b2) first;
       fraction = fraction;
       run = rw nineteen (sym fraction.digits);
-      ranges = time_ranges p.t.0 p.t.1 p.t.2 p.n p.time p.time_named;
-      second = rw seventeen clock_at.second;
+      ranges = time_ranges p.t.0 p.t.1 p.t.2 (nanosecond p) p.time p.time_named;
+      second = rw seventeen clock_at.0;
       at = nineteen;
     }
-
-value_of : Shown → Result Shown ComponentRange → Shown
-value_of other (Ok x) = x
-value_of other (Err e) = other
 
 abbrev fine : Shown → Result Shown ComponentRange
 fine x = Ok x
 
 same_shown : (x y : Shown) → fine x ≡ fine y → x ≡ y
-unfolding value_of
-same_shown x y h = ap (value_of x) h
+same_shown x y h = cc
 
 -- a moment without a leap second is not tested
 plain : (b : Bool) (x : Shown) → b ≡ false → leap_checked b x ≡ Ok x
@@ -142,13 +121,19 @@ unfolding wall_clock
 next_wall day time = omega (arith, ints)
 
 all_parts : (a b c : Bool) → (a && (not b && not c)) ≡ true → (a ≡ true) × (b ≡ false) × (c ≡ false)
-all_parts true false false e = (refl, refl, refl)
-all_parts true true c e = absurd (cc)
-all_parts true false true e = absurd (cc)
-all_parts false b c e = absurd (cc)
+all_parts a b c e = (grind arith, grind arith, grind arith)
 
 no_part_fails : (a b c : Bool) → a ≡ true → b ≡ false → c ≡ false → (a && (not b && not c)) ≡ true
 no_part_fails a b c e f g = rw (e, f, g) refl
+
+-- the nearest nanosecond, which may be that of the next second
+small_nanos : (up : Bool) (n cut nanos : ℕ) → nanos ≡ cond up (n + 1) n → cut ≡ n → n < 1_000_000_000 → (up && (cut == 999_999_999)) ≡ false → nanos < 1_000_000_000
+small_nanos true n cut nanos is same below fits = grind (arith, nat_tests)
+small_nanos false n cut nanos is same below fits = omega arith
+
+full_nanos : (up : Bool) (n cut nanos : ℕ) → nanos ≡ cond up (n + 1) n → cut ≡ n → (up && (cut == 999_999_999)) ≡ true → 1_000_000_000 ≤ nanos
+full_nanos true n cut nanos is same full = grind (arith, nat_tests)
+full_nanos false n cut nanos is same full = absurd cc
 
 -- ---- by the separator, the fraction and the zone
 
@@ -160,10 +145,10 @@ module _ (bytes : List ℕ) (m : Shown) (q : Placed bytes m) where
   abbrev nanos : ℕ
   nanos = subsecond_of q.fraction.run
 
-  nanos_is : nanos ≡ cond (rounds_up ds) (q.p.n + 1) q.p.n
+  nanos_is : nanos ≡ cond (rounds_up ds) (nanosecond q.p + 1) (nanosecond q.p)
   nanos_is = rounded_cut q.fraction.run ∙ rw (q.run, q.fraction.value) refl
 
-  cut_nanos : nanoseconds_of ds ≡ q.p.n
+  cut_nanos : nanoseconds_of ds ≡ (nanosecond q.p)
   cut_nanos = sym (ap nanoseconds_of q.run) ∙ sym (cut_is q.fraction.run) ∙ q.fraction.value
 
   -- another separator
@@ -178,12 +163,12 @@ module _ (bytes : List ℕ) (m : Shown) (q : Placed bytes m) where
     -- a fraction that fills its second
     full_second : 1_000_000_000 ≤ nanos → value_read (whole bytes) ≡ Err trailing
     full_second full =
-        let refused = refused_time q.p.b1 q.p.b2 q.p.b4 q.p.t q.p.b3 q.p.n q.fraction after_t q.p.clock_read q.ranges.hour q.ranges.minute q.ranges.second full in
+        let refused = refused_time q.p.b1 q.p.b2 q.p.b4 q.p.t q.p.b3 (nanosecond q.p) q.fraction after_t q.p.clock_read q.ranges.hour q.ranges.minute q.ranges.second full in
         no_time_trails bytes _ (separator bytes) q.p.b2 (q.date ∙ ap (λ (s : List ℕ). Ok ((Ok (OfMonth (pos q.p.d.0) q.month q.p.d.2), Extended), s)) q.first) (rw q.first at refused)
 
     module _ (small : nanos < 1_000_000_000) where
       time_read : time Extended true q.p.b1 ≡ Some ((time_of q.p.t.0 q.p.t.1 q.p.t.2 nanos, Extended), q.p.b4)
-      time_read = same_time q.p.b1 q.p.b2 q.p.b4 q.p.t q.p.b3 q.p.n q.fraction after_t q.p.clock_read q.ranges.hour q.ranges.minute q.ranges.second small
+      time_read = same_time q.p.b1 q.p.b2 q.p.b4 q.p.t q.p.b3 (nanosecond q.p) q.fraction after_t q.p.clock_read q.ranges.hour q.ranges.minute q.ranges.second small
 
       -- a small `z`
       small_zone : q.p.b4 ≡ 122 ∷ [] → value_read (whole bytes) ≡ Err trailing
@@ -203,31 +188,10 @@ module _ (bytes : List ℕ) (m : Shown) (q : Placed bytes m) where
           }
 
   is_small : fills_second ds ≡ false → nanos < 1_000_000_000
-  is_small fits =
-      elim (cases_Bool (rounds_up ds)) [
-        | inl up ↦
-            let is : nanos ≡ q.p.n + 1 = nanos_is ∙ rw up refl in
-            let not_last : (nanoseconds_of ds == 999_999_999) ≡ false = rw up at fits in
-            let other : (q.p.n == 999_999_999) ≡ false = rw cut_nanos at not_last in
-            let below = q.fraction.below in
-            let less : q.p.n + 1 < 1_000_000_000 = grind (arith, nat_tests) in
-            rw is less
-        | inr down ↦
-            let is : nanos ≡ q.p.n = nanos_is ∙ rw down refl in
-            rw is q.fraction.below
-      ]
+  is_small fits = small_nanos (rounds_up ds) _ _ nanos nanos_is cut_nanos q.fraction.below fits
 
   is_full : fills_second ds ≡ true → 1_000_000_000 ≤ nanos
-  is_full full =
-      elim (cases_Bool (rounds_up ds)) [
-        | inl up ↦
-            let is : nanos ≡ q.p.n + 1 = nanos_is ∙ rw up refl in
-            let last : (nanoseconds_of ds == 999_999_999) ≡ true = rw up at full in
-            let same : (q.p.n == 999_999_999) ≡ true = rw cut_nanos at last in
-            let most : 1_000_000_000 ≤ q.p.n + 1 = grind (arith, nat_tests) in
-            rw is most
-        | inr down ↦ absurd (let never : false ≡ true = rw down at full in cc)
-      ]
+  is_full full = full_nanos (rounds_up ds) _ _ nanos nanos_is cut_nanos full
 
   last_is : 0 < length q.p.b4 → last_byte bytes ≡ last_byte q.p.b4
   last_is some =
@@ -243,18 +207,18 @@ module _ (bytes : List ℕ) (m : Shown) (q : Placed bytes m) where
     both_named =
         elim (cases_Bool (rounds_up ds)) [
           | inr down ↦
-              let is : nanos ≡ q.p.n = nanos_is ∙ rw down refl in
+              let is : nanos ≡ nanosecond q.p = nanos_is ∙ rw down refl in
               let same : IsOfOffset bytes m = unchanged (rw is q.p.time_named) in
               rw down same
           | inl up ↦
               elim (cases_Bool (q.p.t.2 == 60)) [
                 | inl leap ↦
-                    let same : IsOfOffset bytes m = unchanged (same_leap q.p.t.0 q.p.t.1 q.p.t.2 q.p.n nanos q.p.time leap q.p.time_named) in
+                    let same : IsOfOffset bytes m = unchanged (same_leap q.p.t.0 q.p.t.1 q.p.t.2 (nanosecond q.p) nanos q.p.time leap q.p.time_named) in
                     rw (up, q.second, leap) same
                 | inr other ↦
-                    let is : nanos ≡ q.p.n + 1 = nanos_is ∙ rw up refl in
-                    let less : q.p.n < 999_999_999 = let small : nanos < 1_000_000_000 = is_small fits in omega (arith, is) in
-                    let named : leap_time_of q.p.t.0 q.p.t.1 q.p.t.2 nanos ≡ Ok (q.p.time + 1) = rw is (next_time q.p.t.0 q.p.t.1 q.p.t.2 q.p.n q.p.time other less q.p.time_named) in
+                    let is : nanos ≡ nanosecond q.p + 1 = nanos_is ∙ rw up refl in
+                    let less : nanosecond q.p < 999_999_999 = let small : nanos < 1_000_000_000 = is_small fits in omega (arith, is) in
+                    let named : leap_time_of q.p.t.0 q.p.t.1 q.p.t.2 nanos ≡ Ok (q.p.time + 1) = rw is (next_time q.p.t.0 q.p.t.1 q.p.t.2 (nanosecond q.p) q.p.time other less q.p.time_named) in
                     let shown_is : shown q.p.day q.p.time q.p.seconds ≡ m = same_shown _ m (sym (plain (q.p.t.2 == 60) (shown q.p.day q.p.time q.p.seconds) other) ∙ q.p.checked) in
                     let read : IsOfOffset bytes (shown q.p.day (q.p.time + 1) q.p.seconds) = all_named is_t (is_small fits) o (q.p.time + 1) _ named (plain (q.p.t.2 == 60) (shown q.p.day (q.p.time + 1) q.p.seconds) other) in
                     let next : Shown = record { wall = wall_clock q.p.day q.p.time +ℤ pos 1; offset = q.p.seconds } in

@@ -15,4 +15,4 @@ pub read_date : (bytes : List ℕ) (d : ℕ × ℕ × ℕ) (rest : List ℕ) (is
     → dated bytes ≡ Ok ((Ok (OfMonth (pos d.0) is d.2), Extended), rest)
 read_date bytes d rest is h e some most =
     let p = date_pieces bytes d rest h in
-    date_of_pieces bytes p.b1 p.b2 p.b3 p.b4 rest d.0 d.1 d.2 is p.year p.first p.month e p.second p.day some most
+    date_of_pieces bytes p.b1 p.b2 p.b3 p.b4 rest d.0 d.1 d.2 is p.one p.first p.two e p.second p.three some most

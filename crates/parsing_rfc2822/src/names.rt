@@ -116,22 +116,8 @@ pub fn zone_of(text: &[u8]) -> Option<u8>
     }
 }
 
-// A letter other than `J` and `j`.
-#[tactic(auto, unfolding(crate::specs::Names::military_zone, parsing_combinator::specs::Pieces::byte_of))]
-fn military_zone(bytes: &[u8]) -> Option<(u8, &[u8])>
-    ensures cut { cut_view result ≡ Names.military_zone bytes.now }
-    ensures bound { IfSome result (λ x. x.0 ≤ 8) }
-{
-    match bytes {
-        [b, rest @ ..] if b.is_ascii_alphabetic() && b.to_ascii_lowercase() != b'j' => {
-            Some((0, rest))
-        }
-        _ => None,
-    }
-}
-
-// `UT`, or one letter.
-#[tactic(auto, unfolding(crate::specs::Names::short_zone))]
+// `UT`, or one letter other than `J` and `j`.
+#[tactic(auto, unfolding(crate::specs::Names::short_zone, crate::specs::Names::military_zone, parsing_combinator::specs::Pieces::byte_of))]
 #[cold]
 fn short_zone(bytes: &[u8]) -> Option<(u8, &[u8])>
     ensures cut { cut_view result ≡ Names.short_zone bytes.now }
@@ -140,7 +126,12 @@ fn short_zone(bytes: &[u8]) -> Option<(u8, &[u8])>
     if bytes.eq_ignore_ascii_case(b"ut") {
         return Some((0, b"".as_slice()));
     }
-    military_zone(bytes)
+    match bytes {
+        [b, rest @ ..] if b.is_ascii_alphabetic() && b.to_ascii_lowercase() != b'j' => {
+            Some((0, rest))
+        }
+        _ => None,
+    }
 }
 
 /// A zone's name: its hours west of Greenwich.

@@ -27,27 +27,18 @@ fn one_or_two_digits(bytes: &[u8]) -> Option<(u8, &[u8])>
     one_digit(bytes)
 }
 
-// The comma after a weekday.
-#[tactic(auto, unfolding(crate::specs::Reading::named_day))]
-#[inline(always)]
-fn named_day(day: Weekday, bytes: &[u8]) -> Result<(Option<Weekday>, &[u8]), ParseFromDescription>
-    ensures { Gives (λ x. (x.0, x.1.now)) reading_fault result (Reading.named_day day bytes.now) }
-{
-    let rest = byte(b',', bytes).ok_or(InvalidLiteral)?;
-    Ok((Some(day), past_spacing(rest)))
-}
-
 // The weekday and its comma, where they are there.
-#[tactic(auto, unfolding(crate::specs::Reading::optional_weekday))]
+#[tactic(auto, unfolding(crate::specs::Reading::optional_weekday, crate::specs::Reading::named_day))]
 #[inline(always)]
 fn optional_weekday(bytes: &[u8]) -> Result<(Option<Weekday>, &[u8]), ParseFromDescription>
     ensures { Gives (λ x. (x.0, x.1.now)) reading_fault result
         (Reading.optional_weekday bytes.now) }
 {
-    match weekday(bytes) {
-        Some((day, rest)) => named_day(day, rest),
-        None => Ok((None, bytes)),
-    }
+    let Some((day, rest)) = weekday(bytes) else {
+        return Ok((None, bytes));
+    };
+    let rest = byte(b',', rest).ok_or(InvalidLiteral)?;
+    Ok((Some(day), past_spacing(rest)))
 }
 
 // The day of the month, and the weekday before it, where there is one.
@@ -67,19 +58,6 @@ fn day(
     Ok(((weekday, day), rest))
 }
 
-// A year of four digits, not before 1900, and the white space after it.
-#[tactic(auto, unfolding(crate::specs::Reading::full_year))]
-#[inline(always)]
-fn full_year(year: u16, bytes: &[u8]) -> Result<(u16, &[u8]), ParseFromDescription>
-    ensures { Gives (λ x. (x.0, x.1.now)) reading_fault result (Reading.full_year year bytes.now) }
-{
-    if year < 1900 {
-        return Err(InvalidComponent("year"));
-    }
-    let rest = folding_white_space(bytes).ok_or(InvalidLiteral)?;
-    Ok((year, rest))
-}
-
 // A year of two digits, which is one from 1950 to 2049, and the white space after it.
 #[tactic(auto, unfolding(crate::specs::Reading::short_year))]
 #[inline(always)]
@@ -92,16 +70,20 @@ fn short_year(bytes: &[u8]) -> Result<(u16, &[u8]), ParseFromDescription>
     Ok((u16::from(year) + century, rest))
 }
 
-// A year of four digits, or of two.
-#[tactic(auto, unfolding(crate::specs::Reading::year))]
+// A year of four digits, not before 1900, and the white space after it, or one of two.
+#[tactic(auto, unfolding(crate::specs::Reading::year, crate::specs::Reading::full_year))]
 #[inline(always)]
 fn year(bytes: &[u8]) -> Result<(u16, &[u8]), ParseFromDescription>
     ensures { Gives (λ x. (x.0, x.1.now)) reading_fault result (Reading.year bytes.now) }
 {
-    match four_digits(bytes) {
-        Some((year, rest)) => full_year(year, rest),
-        None => short_year(bytes),
+    let Some((year, rest)) = four_digits(bytes) else {
+        return short_year(bytes);
+    };
+    if year < 1900 {
+        return Err(InvalidComponent("year"));
     }
+    let rest = folding_white_space(rest).ok_or(InvalidLiteral)?;
+    Ok((year, rest))
 }
 
 // A month and a year, with white space before each and after the year.
@@ -117,12 +99,31 @@ fn month_and_year(bytes: &[u8]) -> Result<((Month, u16), &[u8]), ParseFromDescri
     Ok(((month, year), rest))
 }
 
-// An hour and a minute.
-#[tactic(auto, unfolding(crate::specs::Reading::hour_and_minute))]
+// The second, where one is written.
+#[tactic(auto, unfolding(crate::specs::Reading::second, crate::specs::Reading::due_second))]
 #[inline(always)]
-fn hour_and_minute(is_strict: bool, bytes: &[u8]) -> Result<((u8, u8), &[u8]), ParseFromDescription>
+fn second(is_strict: bool, bytes: &[u8]) -> Result<(Option<u8>, &[u8]), ParseFromDescription>
     ensures { Gives (λ x. (x.0, x.1.now)) reading_fault result
-        (Reading.hour_and_minute is_strict bytes.now) }
+        (Reading.second is_strict bytes.now) }
+{
+    let Some(rest) = spaced_colon(bytes) else {
+        return Ok((None, bytes));
+    };
+    let (second, rest) = two_digits(rest).ok_or(InvalidComponent("second"))?;
+    if !within(is_strict, 0, 60, second) {
+        return Err(InvalidComponent("second"));
+    }
+    Ok((Some(second), rest))
+}
+
+// The time of day.
+#[tactic(auto, unfolding(crate::specs::Reading::clock, crate::specs::Reading::hour_and_minute))]
+#[inline(always)]
+fn clock(
+    is_strict: bool,
+    bytes: &[u8],
+) -> Result<((u8, u8, Option<u8>), &[u8]), ParseFromDescription>
+    ensures { Gives (λ x. (x.0, x.1.now)) reading_fault result (Reading.clock is_strict bytes.now) }
 {
     let (hour, rest) = two_digits(bytes).ok_or(InvalidComponent("hour"))?;
     if !within(is_strict, 0, 23, hour) {
@@ -133,78 +134,8 @@ fn hour_and_minute(is_strict: bool, bytes: &[u8]) -> Result<((u8, u8), &[u8]), P
     if !within(is_strict, 0, 59, minute) {
         return Err(InvalidComponent("minute"));
     }
-    Ok(((hour, minute), rest))
-}
-
-// The second after its colon.
-#[tactic(auto, unfolding(crate::specs::Reading::due_second))]
-#[inline(always)]
-fn due_second(is_strict: bool, bytes: &[u8]) -> Result<(Option<u8>, &[u8]), ParseFromDescription>
-    ensures { Gives (λ x. (x.0, x.1.now)) reading_fault result
-        (Reading.due_second is_strict bytes.now) }
-{
-    let (second, rest) = two_digits(bytes).ok_or(InvalidComponent("second"))?;
-    if !within(is_strict, 0, 60, second) {
-        return Err(InvalidComponent("second"));
-    }
-    Ok((Some(second), rest))
-}
-
-// The second, where one is written.
-#[tactic(auto, unfolding(crate::specs::Reading::second))]
-#[inline(always)]
-fn second(is_strict: bool, bytes: &[u8]) -> Result<(Option<u8>, &[u8]), ParseFromDescription>
-    ensures { Gives (λ x. (x.0, x.1.now)) reading_fault result
-        (Reading.second is_strict bytes.now) }
-{
-    match spaced_colon(bytes) {
-        Some(rest) => due_second(is_strict, rest),
-        None => Ok((None, bytes)),
-    }
-}
-
-// The time of day.
-#[tactic(auto, unfolding(crate::specs::Reading::clock))]
-#[inline(always)]
-fn clock(
-    is_strict: bool,
-    bytes: &[u8],
-) -> Result<((u8, u8, Option<u8>), &[u8]), ParseFromDescription>
-    ensures { Gives (λ x. (x.0, x.1.now)) reading_fault result (Reading.clock is_strict bytes.now) }
-{
-    let ((hour, minute), rest) = hour_and_minute(is_strict, bytes)?;
     let (second, rest) = second(is_strict, rest)?;
     Ok(((hour, minute, second), rest))
-}
-
-// Hours and minutes after a sign, both under it.
-#[tactic(auto, unfolding(crate::specs::Reading::signed_zone))]
-#[inline(always)]
-fn signed_zone(
-    is_strict: bool,
-    mark: u8,
-    bytes: &[u8],
-) -> Result<(Zone, &[u8]), ParseFromDescription>
-    ensures gives { Gives (λ x. (x.0, x.1.now)) reading_fault result
-        (Reading.signed_zone is_strict mark bytes.now) }
-    ensures hours { IfOk result (λ x. x.0.hours < 100) }
-    ensures minutes { IfOk result (λ x. x.0.minutes < 100) }
-{
-    let (hours, rest) = two_digits(bytes).ok_or(InvalidComponent("offset hour"))?;
-    if !within(is_strict, 0, 25, hours) {
-        return Err(InvalidComponent("offset hour"));
-    }
-    let (minutes, rest) = two_digits(rest).ok_or(InvalidComponent("offset minute"))?;
-    if !within(is_strict, 0, 59, minutes) {
-        return Err(InvalidComponent("offset minute"));
-    }
-    let zone = Zone {
-        is_named: false,
-        is_negative: mark == b'-',
-        hours,
-        minutes,
-    };
-    Ok((zone, rest))
 }
 
 // A zone by its name.
@@ -226,8 +157,8 @@ fn named_zone(bytes: &[u8]) -> Result<(Zone, &[u8]), ParseFromDescription>
     Ok((zone, rest))
 }
 
-// The zone: a sign with hours and minutes, or a name.
-#[tactic(auto, unfolding(crate::specs::Reading::zone))]
+// The zone: a sign with hours and minutes, both under it, or a name.
+#[tactic(auto, unfolding(crate::specs::Reading::zone, crate::specs::Reading::signed_zone))]
 #[inline(always)]
 fn zone(is_strict: bool, bytes: &[u8]) -> Result<(Zone, &[u8]), ParseFromDescription>
     ensures gives { Gives (λ x. (x.0, x.1.now)) reading_fault result
@@ -235,10 +166,24 @@ fn zone(is_strict: bool, bytes: &[u8]) -> Result<(Zone, &[u8]), ParseFromDescrip
     ensures hours { IfOk result (λ x. x.0.hours < 100) }
     ensures minutes { IfOk result (λ x. x.0.minutes < 100) }
 {
-    match sign(bytes) {
-        Some((mark, rest)) => signed_zone(is_strict, mark, rest),
-        None => named_zone(bytes),
+    let Some((mark, rest)) = sign(bytes) else {
+        return named_zone(bytes);
+    };
+    let (hours, rest) = two_digits(rest).ok_or(InvalidComponent("offset hour"))?;
+    if !within(is_strict, 0, 25, hours) {
+        return Err(InvalidComponent("offset hour"));
     }
+    let (minutes, rest) = two_digits(rest).ok_or(InvalidComponent("offset minute"))?;
+    if !within(is_strict, 0, 59, minutes) {
+        return Err(InvalidComponent("offset minute"));
+    }
+    let zone = Zone {
+        is_named: false,
+        is_negative: mark == b'-',
+        hours,
+        minutes,
+    };
+    Ok((zone, rest))
 }
 
 // The zone, with the white space around it.

@@ -43,28 +43,25 @@ day_reads : (b0 b3 b4 b5 b6 : List ℕ) (w : Weekday) (d : ℕ) → comments_and
 unfolding day optional_weekday named_day
 day_reads b0 b3 b4 b5 b6 w d e0 e1 e2 e3 e4 = rw (e0, e1, e2, e3, e4) refl
 
--- a day begins after a weekday
-pub begins_after : (input : List ℕ) → 6 ≤ length input → HasWeekday input → BeginsDay input (drop 5 input)
-begins_after input long w =
+-- a day begins after a weekday and what is skipped before a digit
+begins_by : (input : List ℕ) (n : ℕ) → 6 ≤ length input → HasWeekday input → (HasDigit (drop n input) 0 → comments_and_white_space (drop 4 input) ≡ Some (drop n input)) → BeginsDay input (drop n input)
+begins_by input n long w skipped =
     record {
       weekday_is = Some w.weekday_is;
       reads = λ number rest e.
-          let h = day_begins (drop 5 input) rest number e in
-          day_reads input (drop 3 input) (drop 4 input) (drop 5 input) rest w.weekday_is number (none_there input (omega arith) (omega (arith, w.letter))) w.named (byte_there input 3 comma (omega arith) w.comma_there)
-          (space_after input 4 (omega arith) w.space_there (omega (arith, first_at input 5, h.low))) e;
+          let none = none_there input (omega arith) (omega (arith, w.letter)) in
+          day_reads input (drop 3 input) (drop 4 input) (drop n input) rest w.weekday_is number none w.named (byte_there input 3 comma (omega arith) w.comma_there) (skipped (day_begins (drop n input) rest number e)) e;
     }
 
--- .. and after a weekday and one more space
+-- .. after one space
+pub begins_after : (input : List ℕ) → 6 ≤ length input → HasWeekday input → BeginsDay input (drop 5 input)
+begins_after input long w = begins_by input 5 long w (λ h. space_after input 4 (omega arith) w.space_there (omega (arith, first_at input 5, h.low)))
+
+-- .. and after one more
 pub begins_later : (input : List ℕ) → 7 ≤ length input → HasWeekday input → get_or input 5 0 ≡ 32 → BeginsDay input (drop 6 input)
-begins_later input long w more =
-    record {
-      weekday_is = Some w.weekday_is;
-      reads = λ number rest e.
-          let h = day_begins (drop 6 input) rest number e in
-          let spaces = two_spaces_there (drop 4 input) (omega (arith, length-drop 4 input)) (first_at input 4 ∙ w.space_there) (get_or-drop 4 input 1 0 ∙ more) (omega (arith, get_or-drop 4 input 2 0, first_at input 6, h.low)) in
-          day_reads input (drop 3 input) (drop 4 input) (drop 6 input) rest w.weekday_is number (none_there input (omega arith) (omega (arith, w.letter))) w.named (byte_there input 3 comma (omega arith) w.comma_there)
-          (spaces ∙ ap (λ (t : List ℕ). Some t) (drop-drop 2 4 input)) e;
-    }
+begins_later input long w more = begins_by input 6 (omega arith) w (λ h.
+    let spaces = two_spaces_there (drop 4 input) (omega (arith, length-drop 4 input)) (first_at input 4 ∙ w.space_there) (get_or-drop 4 input 1 0 ∙ more) (omega (arith, get_or-drop 4 input 2 0, first_at input 6, h.low)) in
+    spaces ∙ ap (λ (t : List ℕ). Some t) (drop-drop 2 4 input))
 
 no_name : (c d e : ℕ) → c ≤ 57 → weekday_of (c ∷ d ∷ e ∷ []) ≡ None
 unfolding weekday_of

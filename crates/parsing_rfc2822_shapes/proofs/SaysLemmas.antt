@@ -142,13 +142,9 @@ short_month_reads : (b0 b1 b2 b3 b4 b5 : List ℕ) (m : Month) (y : ℕ) → com
 unfolding month_and_year year short_year
 short_month_reads b0 b1 b2 b3 b4 b5 m y e0 e1 e2 e3 e4 e5 = rw (e0, e1, e2, e3, e4, e5) refl
 
-no_two : (enough : Bool) (n : ℕ) (rest : List ℕ) → some_if (enough && false) n rest ≡ None
-no_two true n rest = refl
-no_two false n rest = refl
-
 no_four : (bytes after rest : List ℕ) (n : ℕ) → digits 2 bytes ≡ Some (n, after) → byte space after ≡ Some (tt, rest) → digits 4 bytes ≡ None
 no_four bytes after rest n e s =
-    let two : digits 2 after ≡ None = rw (byte_is space after rest s) (digits_two (space ∷ rest) ∙ no_two (leb 2 (length (space ∷ rest))) _ _) in
+    let two : digits 2 after ≡ None = rw (byte_is space after rest s) (digits_two (space ∷ rest) ∙ none_two (leb 2 (length (space ∷ rest))) true _ _) in
     digits_four bytes ∙ rw (e, two) refl
 
 short_month_read : (bytes rest after : List ℕ) (v : Values) (number y : ℕ) (m : HasMonth bytes number) → Says short_month_parts bytes v rest → digits 2 (drop 5 bytes) ≡ Some (y, after) → Begins rest → month_and_year bytes ≡ Ok ((m.month_is, if nat_lt y 50 then y + 2000 else y + 1900), rest)
