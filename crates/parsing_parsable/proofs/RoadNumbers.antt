@@ -28,7 +28,9 @@ no_more (Some n) = refl
 pub same_offset : (is_named is_negative : Bool) (hours minutes : ℕ) → offset_of (under is_negative hours) (under is_negative minutes) (unwrap_or (cond is_named (Some (pos 0)) None) (pos 0)) ≡ signed_offset_of is_negative hours minutes
 unfolding signed_offset_of
 same_offset true true hours minutes = refl
-same_offset is_named is_negative hours minutes = refl
+same_offset true false hours minutes = refl
+same_offset false true hours minutes = refl
+same_offset false false hours minutes = refl
 
 -- bytes that are there
 pub not_all : (c : ℕ) (cs : List ℕ) → (length (c ∷ cs) == 0) ≡ false

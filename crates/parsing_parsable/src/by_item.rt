@@ -15,10 +15,12 @@ impl Parsable for BorrowedFormatItem<'_> {
 
     ghost moment = { λ item. moment_by (reads reads_component (tree_of item)) };
 
+    #[tactic(auto, using(crate::proofs::TameLemmas::item_short))]
     fn parse_into<'a>(&self, input: &'a [u8], parsed: &mut Parsed) -> Result<&'a [u8], Parse> {
         Ok(parsed.parse_item(input, self)?)
     }
 
+    #[tactic(auto, using(crate::proofs::TameLemmas::item_short))]
     fn parse_into_counted<'a>(
         &self,
         input: &'a [u8],

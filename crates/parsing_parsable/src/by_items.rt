@@ -20,10 +20,12 @@ impl Parsable for Items<'_> {
 
     ghost moment = { λ items. moment_by (reads_in_turn (trees items.0.now)) };
 
+    #[tactic(auto, using(crate::proofs::TameLemmas::items_short))]
     fn parse_into<'a>(&self, input: &'a [u8], parsed: &mut Parsed) -> Result<&'a [u8], Parse> {
         Ok(parsed.parse_items(input, self.0)?)
     }
 
+    #[tactic(auto, using(crate::proofs::TameLemmas::items_short))]
     fn parse_into_counted<'a>(
         &self,
         input: &'a [u8],

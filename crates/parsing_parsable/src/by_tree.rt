@@ -15,10 +15,12 @@ impl Parsable for FormatDescriptionV3<'_> {
 
     ghost moment = { λ description. moment_by (reads reads_component_v3 (v3_tree description)) };
 
+    #[tactic(auto, using(crate::proofs::TameLemmas::tree_short))]
     fn parse_into<'a>(&self, input: &'a [u8], parsed: &mut Parsed) -> Result<&'a [u8], Parse> {
         Ok(parse_tree(self, input, parsed, &mut NoTally)?)
     }
 
+    #[tactic(auto, using(crate::proofs::TameLemmas::tree_short))]
     fn parse_into_counted<'a>(
         &self,
         input: &'a [u8],

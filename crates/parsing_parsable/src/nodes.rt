@@ -26,7 +26,7 @@ pub fn nodes_in_description(description: &FormatDescriptionV3<'_>) -> u128
 }
 
 // The node itself, and all that is inside it.
-#[tactic(auto, unfolding(description::specs::Laws::nodes))]
+#[tactic(auto, unfolding(description::specs::Laws::nodes, parsing_components::proofs::lemmas::Sizes::size))]
 #[cycle(nodes)]
 fn nodes_in<N: Node>(node: &N) -> u128
     ensures nodes { result ≡ min (nodes (N.tree node.now)) greatest_count }
@@ -40,6 +40,7 @@ fn nodes_in<N: Node>(node: &N) -> u128
 }
 
 // Each of the nodes, and all that is inside it.
+#[tactic(auto, using(parsing_components::proofs::lemmas::Sizes::one_of_them))]
 #[cycle(nodes)]
 fn nodes_in_all<N: Node>(nodes: &[N]) -> u128
     ensures nodes { result ≡ min (all_nodes (listed (map N.tree nodes.now))) greatest_count }

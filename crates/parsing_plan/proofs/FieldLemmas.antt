@@ -1,5 +1,5 @@
 -- The moment that parts say whose fields are those of sums of lanes.
-use Rattle.std.proofs.Common.{◌≡◌, ◌∙◌, ◌≤◌, ◌<◌, ◌+◌, ◌-◌, ◌*◌, ◌/◌, ◌%◌, ◌==◌, ◌||◌, ℕ, Bool, true, false, List, [], get_or, length, drop, Option, Some, None, Ok, refl, sym, ap, arith, pos, ℤ}
+use Rattle.std.proofs.Common.{◌≡◌, ◌∙◌, ◌≤◌, ◌<◌, ◌+◌, ◌-◌, ◌*◌, ◌/◌, ◌%◌, ◌==◌, ◌||◌, ℕ, Bool, true, false, List, get_or, length, drop, Option, Some, None, Ok, refl, sym, ap, arith, pos, ℤ}
 use Rattle.std.specs.Prelude.{◌*ℤ◌, nat_eq, IfSome, IsSome, is_some, if◌then◌else◌}
 use Rattle.std.specs.Option.{ForSome}
 use Rattle.std.proofs.lemmas.Bool.Decides.{nat_tests}
@@ -8,7 +8,6 @@ use Rattle.calendar_count.specs.Calendar.{days_in_month}
 use Rattle.datetime_wall.specs.Wall.{Shown}
 use Rattle.parsing_components.specs.Prefix.{beginning}
 use Rattle.parsing_components.specs.Whole.{moment_named, offset_named}
-use Rattle.parsing_components.specs.declared.fields.Record.{Record}
 use Rattle.parsing_fields.specs.Moment.{moment_of}
 use Rattle.parsing_fields.specs.Numbers.{HaveNumbers}
 use Rattle.parsing_fields.specs.Written.{WriteFraction}
