@@ -36,7 +36,7 @@ BELOW = {
     "parsing_combinator": {"digit_chunk", "nine_digits"},
     "parsing_values": set(),
     "parsing_layout": {"read_long_numbers"},
-    "parsing_fields": {"Fields", "Fraction", "Year", "minute_of_day"},
+    "parsing_values": {"Fields", "Fraction", "Year", "minute_of_day"},
     "parsing_components": {"Record", "read", "read_component", "read_component_v3"},
     "parsing_item_layouts": {"FirstBounds", "FirstBytes"},
     "parsing_item_parts": {"Listed"},

@@ -2,7 +2,7 @@
 ghost use Rattle.std.specs.Prelude.{◌≡◌, Ok, IfSome};
 ghost use Rattle.parsing_combinator.specs.FaultOf.{Gives, fault_of, reading_fault};
 ghost use Rattle.parsing_combinator.specs.Readings.{value_read};
-ghost use Rattle.parsing_fields.specs.Moment as Moment;
+ghost use Rattle.parsing_values.specs.Moment as Moment;
 ghost use Rattle.asctime_tests.specs.Asctime.{asctime, numbers, moment_of};
 
 use calendar::{Time, UtcOffset};
@@ -13,7 +13,7 @@ use parsing_combinator::{
     Parse, ParseFromDescription, byte, four_digits, padded_two, short_month, short_weekday,
     two_digits,
 };
-use parsing_fields::{Fields, Fraction, minute_of_day};
+use parsing_values::{Fields, Fraction, minute_of_day};
 use parsing_layout::{Field, Item, Names, Part};
 use parsing_strides::{Found, Strides};
 use parsing_values::{OffsetDateTime, resolve};

@@ -6,9 +6,9 @@ use Rattle.std.proofs.lemmas.List.{take_at, drop_at}
 use Rattle.base.specs.Bytes.{digit_zero, dot, lower_z}
 use Rattle.calendar_count.specs.Calendar.{YearMonthDay, day_at}
 use Rattle.datetime_wall.specs.Wall.{Shown, day_of, nanosecond_of, second_nanos}
-use Rattle.parsing_fields.specs.Decimal.{decimal}
+use Rattle.parsing_values.specs.Decimal.{decimal}
 use Rattle.instants_answers.specs.Text.{date_text, time_text, offset_text, moment_text}
-use Rattle.parsing_fields.proofs.lemmas.Decimals.{decimal_length}
+use Rattle.parsing_values.proofs.lemmas.Decimals.{decimal_length}
 use Rattle.parsing_iso8601.specs.Designators.{time_designator}
 use Rattle.parsing_iso8601.proofs.Rounding.{none_left}
 use Rattle.parsing_laws.specs.TwoFormats.{separator, last_byte, fraction_of, rounds_up, is_of_both, rounded}

@@ -8,9 +8,9 @@ use Rattle.std.proofs.lemmas.List.{take_at, drop_at}
 use Rattle.std.proofs.lemmas.List.Folds.{prefix_len-append}
 use Rattle.std.proofs.lemmas.Int.Digits.{digits_value_push}
 use Rattle.base.specs.Bytes.{digit_zero}
-use Rattle.parsing_fields.specs.Decimal.{decimal}
+use Rattle.parsing_values.specs.Decimal.{decimal}
 use Rattle.instants_answers.proofs.Compares.{fits_next}
-use Rattle.parsing_fields.proofs.lemmas.Decimals.{decimal_length}
+use Rattle.parsing_values.proofs.lemmas.Decimals.{decimal_length}
 use Rattle.parsing_combinator.specs.Pieces.{digits, digit_run, digit_count, fraction, nanoseconds_of}
 
 -- digits alone, and what follows them

@@ -7,7 +7,7 @@ use Rattle.std.proofs.lemmas.List.{append-nil}
 use Rattle.base.specs.Bytes.{plus, hyphen, colon, dot}
 use Rattle.calendar_count.specs.Calendar.{YearMonthDay}
 use Rattle.calendar.specs.UtcOffset.{IsClockOffset}
-use Rattle.parsing_fields.specs.Decimal.{decimal}
+use Rattle.parsing_values.specs.Decimal.{decimal}
 use Rattle.instants_answers.specs.Text.{date_text, offset_text}
 use Rattle.instants_answers.proofs.Lines.{Fits}
 use Rattle.parsing_combinator.specs.Pieces.{digit_count, any_byte, byte_of, skip_of}

@@ -9,8 +9,8 @@ use Rattle.std.proofs.lemmas.Map.Lookups.{exact_bytes}
 use Rattle.std.proofs.lemmas.Bool.{cases_order}
 use Rattle.std.proofs.Math.Nat.{mul-le-mul_right}
 use Rattle.base.specs.Bytes.{digit_zero}
-use Rattle.parsing_fields.specs.Decimal.{decimal}
-use Rattle.parsing_fields.proofs.lemmas.Decimals.{decimal_length}
+use Rattle.parsing_values.specs.Decimal.{decimal}
+use Rattle.parsing_values.proofs.lemmas.Decimals.{decimal_length}
 
 then_assoc : (o p q : Ordering) → ordering_then o (ordering_then p q) ≡ ordering_then (ordering_then o p) q
 then_assoc Less p q = refl

@@ -2,7 +2,7 @@
 use Rattle.std.proofs.Common.{◌≡◌, ℕ, zero, suc, ◌+◌, ◌*◌, ◌/◌, ◌%◌, ◌<◌, eqb, Bool, true, ◌&&◌, List, [], ◌∷◌, ◌++◌, get_or, length, drop, refl, sym, ap, ◌∙◌, arith}
 use Rattle.std.proofs.lemmas.Bool.{eqb-true, and_parts}
 use Rattle.std.proofs.lemmas.List.{drop-drop, get_or-drop}
-use Rattle.parsing_fields.specs.Decimal.{decimal}
+use Rattle.parsing_values.specs.Decimal.{decimal}
 use Rattle.instants_answers.specs.Minute.{minute_text}
 
 -- the first eight bytes are the row of a minute

@@ -1,7 +1,7 @@
 -- The table of the months between hyphens.
 use Rattle.std.proofs.Common.{◌≡◌, ℕ, ◌+◌, ◌*◌, ◌/◌, ◌%◌, ◌≤◌, eqb, Bool, true, ◌&&◌, List, [], ◌∷◌, ◌++◌, get_or, codes, refl, arith}
 use Rattle.std.proofs.lemmas.Bool.{agree_below_at, eqb-true, and_parts}
-use Rattle.parsing_fields.specs.Decimal.{decimal}
+use Rattle.parsing_values.specs.Decimal.{decimal}
 
 -- the bytes of the months between hyphens
 abbrev pub months : List ℕ

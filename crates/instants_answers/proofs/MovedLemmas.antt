@@ -15,9 +15,9 @@ use Rattle.calendar_count.proofs.lemmas.TheDay.{the_day-named}
 use Rattle.datetime_wall.specs.Wall.{Shown, wall_clock, wall_at, instant, day_of, second_nanos, day_nanos, shown_at, IsWallClock}
 use Rattle.datetime_wall.proofs.lemmas.Shown.{wall_at-instant, shown_at_some}
 use Rattle.datetime_wall.proofs.lemmas.WallClocks.{day_of-wall_clock, nanosecond_of-wall_clock, IsWallClock-wall_clock}
-use Rattle.parsing_fields.specs.Moment.{day_of_fields, moment_of}
-use Rattle.parsing_fields.specs.declared.fields.Fields.{Fields}
-use Rattle.parsing_fields.specs.Decimal.{decimal}
+use Rattle.parsing_values.specs.Moment.{day_of_fields, moment_of}
+use Rattle.parsing_values.specs.declared.fields.Fields.{Fields}
+use Rattle.parsing_values.specs.Decimal.{decimal}
 use Rattle.instants_answers.specs.Minute.{minute_text}
 use Rattle.instants_answers.specs.Moved.{at_offset, IsMoved}
 use Rattle.instants_answers.specs.Text.{time_text, parts_text, moment_text, has_written_year, FitsLine}

@@ -4,8 +4,8 @@ use Rattle.std.specs.Prelude.{int_lt, unsigned_abs, if◌then◌else◌}
 use Rattle.std.specs.Ordering.{int_eq}
 use Rattle.std.proofs.lemmas.List.{take_at, drop_at, length-replicate, take_more_set}
 use Rattle.base.specs.Bytes.{line_feed}
-use Rattle.parsing_fields.proofs.lemmas.Decimals.{decimal_length}
-use Rattle.parsing_fields.specs.Decimal.{decimal}
+use Rattle.parsing_values.proofs.lemmas.Decimals.{decimal_length}
+use Rattle.parsing_values.specs.Decimal.{decimal}
 use Rattle.instants_answers.specs.Text.{offset_text}
 use Rattle.instants_answers.specs.Padded.{padded_offset, ended_offset, offset_len}
 

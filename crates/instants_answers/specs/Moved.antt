@@ -3,8 +3,8 @@ use Rattle.std.specs.Prelude.{◌≡◌, ℕ, ◌+◌, ◌*◌, ◌<◌, ◌≤�
 use Rattle.calendar_count.specs.Range.{IsCount}
 use Rattle.calendar_count.specs.Calendar.{day_at, ymd}
 use Rattle.datetime_wall.specs.Wall.{Shown, instant, wall_at}
-use Rattle.parsing_fields.specs.Moment.{day_of_fields}
-use Rattle.parsing_fields.specs.declared.fields.Fields.{Fields}
+use Rattle.parsing_values.specs.Moment.{day_of_fields}
+use Rattle.parsing_values.specs.declared.fields.Fields.{Fields}
 
 -- the same instant at another offset, whether or not the calendar has the day there
 abbrev pub at_offset : ℤ → Shown → Shown

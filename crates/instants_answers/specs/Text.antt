@@ -4,7 +4,7 @@ use Rattle.std.specs.Ordering.{int_eq}
 use Rattle.calendar_count.specs.Calendar.{YearMonthDay, day_at}
 use Rattle.calendar.specs.UtcOffset.{IsClockOffset}
 use Rattle.datetime_wall.specs.Wall.{Shown, day_of, nanosecond_of, second_nanos}
-use Rattle.parsing_fields.specs.Decimal.{decimal}
+use Rattle.parsing_values.specs.Decimal.{decimal}
 
 unfoldable pub date_text : YearMonthDay → List ℕ
 date_text d = decimal 4 (unsigned_abs d.year) ++ codes "-" ++ decimal 2 d.month ++ codes "-" ++ decimal 2 d.day

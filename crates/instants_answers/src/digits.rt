@@ -1,17 +1,17 @@
 //! Decimal digits of fixed width, added to an answer.
 
 ghost use Rattle.std.specs.Prelude.{◌≡◌, ◌+◌, ◌<◌, ◌≤◌, ◌++◌, codes, length};
-ghost use Rattle.parsing_fields.specs.Decimal.{decimal};
+ghost use Rattle.parsing_values.specs.Decimal.{decimal};
 
 use crate::answer::Answer;
-use parsing_fields::digit_pair;
+use parsing_values::digit_pair;
 
 // Each month between hyphens, by its number: there is none before the first one.
 static MONTHS: [u8; 52] = *b"-00--01--02--03--04--05--06--07--08--09--10--11--12-";
 
 /// A number's two digits.
 #[inline(always)]
-#[tactic(auto, unfolding(parsing_fields::specs::Decimal::decimal))]
+#[tactic(auto, unfolding(parsing_values::specs::Decimal::decimal))]
 pub(crate) fn two_digits(number: u32) -> [u8; 2]
     requires { number < 100 }
     ensures { result ≡ decimal 2 number }

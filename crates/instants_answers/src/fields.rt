@@ -6,7 +6,7 @@ ghost use Rattle.instants_answers.specs.Text.{date_text, time_text};
 use crate::answer::Answer;
 use crate::digits::{push_month, push_two};
 use crate::minutes::push_minute;
-use parsing_fields::{Fraction, Year};
+use parsing_values::{Fraction, Year};
 
 #[inline(always)]
 #[tactic(auto, unfolding(crate::specs::Text::date_text))]

@@ -5,7 +5,7 @@ ghost use Rattle.std.specs.Ordering.{int_eq};
 ghost use Rattle.calendar.specs.UtcOffset.{IsClockOffset};
 ghost use Rattle.calendar_count.specs.Calendar.{ymd};
 ghost use Rattle.datetime_wall.specs.Wall.{instant, shown_at};
-ghost use Rattle.parsing_fields.specs.Moment.{moment_of};
+ghost use Rattle.parsing_values.specs.Moment.{moment_of};
 ghost use Rattle.instants_answers.specs.Moved.{at_offset};
 ghost use Rattle.instants_answers.specs.Text.{FitsLine, moment_text, parts_text};
 
@@ -13,7 +13,7 @@ use crate::answer::Answer;
 use crate::fields::{push_clock, push_date};
 use crate::moved::moved_within_month;
 use crate::target::Target;
-use parsing_fields::Fields;
+use parsing_values::Fields;
 
 // Writes the line of a day of the fields' month, a minute of it, and the fields' second and fraction.
 #[inline(always)]

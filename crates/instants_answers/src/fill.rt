@@ -5,8 +5,8 @@ ghost use Rattle.base.specs.Bytes.{line_feed};
 ghost use Rattle.calendar.specs.UtcOffset.{IsClockOffset};
 ghost use Rattle.calendar_count.specs.Calendar.{ymd};
 ghost use Rattle.datetime_wall.specs.Wall.{instant, shown_at};
-ghost use Rattle.parsing_fields.specs.Decimal.{decimal};
-ghost use Rattle.parsing_fields.specs.Moment.{moment_of};
+ghost use Rattle.parsing_values.specs.Decimal.{decimal};
+ghost use Rattle.parsing_values.specs.Moment.{moment_of};
 ghost use Rattle.instants_answers.specs.Line.{HoldsLine};
 ghost use Rattle.instants_answers.specs.Minute.{minute_text};
 ghost use Rattle.instants_answers.specs.Moved.{at_offset};
@@ -17,7 +17,7 @@ use crate::fields_line::minutes_since;
 use crate::minutes::row;
 use crate::moved::moved_within_month;
 use crate::target::Target;
-use parsing_fields::{Fields, Fraction, Year};
+use parsing_values::{Fields, Fraction, Year};
 
 // Puts bytes into a room at a place. What stands before it stays.
 #[inline(always)]

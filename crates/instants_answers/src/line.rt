@@ -13,7 +13,7 @@ use crate::target::Target;
 use calendar::UtcOffset;
 use calendar_count::closed;
 use datetime_types::OffsetDateTime;
-use parsing_fields::{Fraction, Year};
+use parsing_values::{Fraction, Year};
 
 const GREATEST_OFFSET: u32 = 86_340;
 

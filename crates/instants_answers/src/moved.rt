@@ -4,7 +4,7 @@ ghost use Rattle.instants_answers.specs.Moved.{IsMoved};
 
 use crate::target::DAYS_AHEAD;
 use calendar_count::march;
-use parsing_fields::{Fields, has_day};
+use parsing_values::{Fields, has_day};
 
 const DAY_MINUTES: u32 = 1440;
 

@@ -8,7 +8,7 @@ ghost use Rattle.instants_answers.specs.Text as text;
 
 use crate::answer::Answer;
 use calendar::UtcOffset;
-use parsing_fields::digit_pair;
+use parsing_values::digit_pair;
 use std::marker::Model;
 
 // Minutes are counted from so many days before on, so that no number is below zero.

@@ -10,7 +10,7 @@ use Rattle.std.proofs.lemmas.List.Folds.{list_all-append}
 use Rattle.base.specs.Bytes.{tab, line_feed, digit_zero}
 use Rattle.calendar_count.specs.Calendar.{YearMonthDay}
 use Rattle.datetime_wall.specs.Wall.{Shown, instant, shown_at}
-use Rattle.parsing_fields.specs.Decimal.{decimal}
+use Rattle.parsing_values.specs.Decimal.{decimal}
 use Rattle.instants_answers.specs.Text.{date_text, time_text, offset_text, moment_text, has_written_year}
 use Rattle.instants_found.specs.declared.found.Finding.{Finding}
 use Rattle.instants_found.specs.declared.found.Finding.TheVariants.{Doubtful, There}

@@ -1,12 +1,12 @@
 //! Prefixes of RFC 3339 as whole texts: where such a date ends, its first bytes show.
 ghost use Rattle.std.specs.Prelude.{◌≡◌, ◌≤◌, length, IfSome};
-ghost use Rattle.parsing_fields.specs.Moment.{moment_of};
+ghost use Rattle.parsing_values.specs.Moment.{moment_of};
 ghost use Rattle.parsing_parsable.specs.Staged.{reads_rfc3339};
 ghost use Rattle.parsing_record.specs.Prefix.{NamesPrefix};
 ghost use Rattle.parsing_record.specs.Record.{empty};
 
 use instants_edges::byte_at;
-use parsing_fields::Fields;
+use parsing_values::Fields;
 use parsing_parsable::laws::two_roads_of_rfc3339;
 
 // The bytes of a date and a time of day to the second.

@@ -3,8 +3,8 @@ use Rattle.std.proofs.Common.{◌≡◌, ℕ, List, Option, Some, None, Result, 
 use Rattle.std.specs.Prelude.{IfSome}
 use Rattle.std.specs.Result.{result_ok}
 use Rattle.datetime_wall.specs.Wall.{Shown}
-use Rattle.parsing_fields.specs.Moment.{moment_of}
-use Rattle.parsing_fields.specs.declared.fields.Fields.{Fields}
+use Rattle.parsing_values.specs.Moment.{moment_of}
+use Rattle.parsing_values.specs.declared.fields.Fields.{Fields}
 use Rattle.parsing_combinator.specs.Fault.{Fault}
 use Rattle.parsing_record.specs.Meaning.{Meaning}
 use Rattle.parsing_components.specs.declared.fields.Record.{Record}

@@ -5,7 +5,7 @@ ghost use Rattle.std.specs.Result.{result_ok};
 ghost use Rattle.parsing_item_layouts.specs.FirstBounds.{AreBoundsOf, ReadsNoneWhole};
 ghost use Rattle.parsing_item_layouts.specs.FirstBytes.{AreOf, IsRefusedAt};
 ghost use Rattle.parsing_combinator.specs.Tame.{EndsWith};
-ghost use Rattle.parsing_fields.specs.Moment.{moment_of};
+ghost use Rattle.parsing_values.specs.Moment.{moment_of};
 ghost use Rattle.parsing_plan.specs.Plan.{IsPlanOf};
 ghost use Rattle.parsing_record.specs.Prefix.{NamesPrefix};
 ghost use Rattle.parsing_components.specs.declared.fields.Record.{Record};
@@ -13,7 +13,7 @@ ghost use Rattle.instants_sources.specs.Written.{reads_written, written};
 
 use calendar::UtcOffset;
 use description::Description;
-use parsing_fields::Fields;
+use parsing_values::Fields;
 use parsing_item_layouts::{FirstBounds, FirstBytes};
 use parsing_plan::Plan;
 

@@ -3,7 +3,7 @@ ghost use Rattle.std.specs.Prelude.{◌≡◌, ℕ, List, true, codes, Ok, Err, 
 ghost use Rattle.std.specs.Result.{result_ok};
 ghost use Rattle.datetime_wall.specs.Wall.{Shown};
 ghost use Rattle.parsing_combinator.specs.Fault.{component};
-ghost use Rattle.parsing_fields.specs.Moment.{moment_of};
+ghost use Rattle.parsing_values.specs.Moment.{moment_of};
 ghost use Rattle.instants_sources.specs.Grammar.{Grammar, grammar_of};
 ghost use Rattle.instants_sources.specs.Grammar as grammar;
 ghost use Rattle.instants_sources.specs.Named.{named, IsDirect, IsNamedBy, NamesNothing};
@@ -13,7 +13,7 @@ use crate::ruled_out::{begins_no_day, begins_no_part, has_no_hyphen, has_no_spac
 use crate::source::Source;
 use calendar::UtcOffset;
 use datetime_types::OffsetDateTime;
-use parsing_fields::Fields;
+use parsing_values::Fields;
 use parsing_parsable::laws::{one_road_of_iso8601, two_roads_of_rfc2822, two_roads_of_rfc3339};
 use parsing_plan::Plan;
 

@@ -1,7 +1,7 @@
 //! The moment that a text names, kept as it was read.
 
 use datetime_types::OffsetDateTime;
-use parsing_fields::Fields;
+use parsing_values::Fields;
 use std::marker::Model;
 
 // As fields, which are written as they are, or as a moment, whose day is a number.
@@ -30,7 +30,7 @@ impl Model for Named {
 
 impl Named {
     ghost use Rattle.std.specs.Prelude.{◌≡◌, IfSome};
-    ghost use Rattle.parsing_fields.specs.Moment.{moment_of};
+    ghost use Rattle.parsing_values.specs.Moment.{moment_of};
 
     /// The moment of fields.
     #[inline(always)]

@@ -4,7 +4,7 @@ use calendar::UtcOffset;
 use instants_answers::{Answer, Target, fill_fields, is_target, write_fields};
 use instants_sources::Named;
 use instants_timeline::answer_named;
-use parsing_fields::Fields;
+use parsing_values::Fields;
 
 // A line, the target in seconds, and the line there: nothing where the day at the target is in another month.
 static CASES: [(&[u8], i32, &[u8]); 6] = [

@@ -5,7 +5,7 @@ use datetime::OffsetDateTime;
 use description::Description;
 use instants::SourceText;
 use instants_sources::{Source, directly_named, is_no_rfc3339, starting};
-use parsing_fields::Fields;
+use parsing_values::Fields;
 use parsing_plan::Plan;
 use std::alloc::Global;
 

@@ -4,8 +4,8 @@ use Rattle.std.proofs.lemmas.List.{drop_more, drop_all, drop-map}
 use Rattle.std.specs.Option.{ok_or, option_map}
 use Rattle.std.specs.Result.{result_ok}
 use Rattle.datetime_wall.specs.Wall.{Shown}
-use Rattle.parsing_fields.specs.Moment.{moment_of}
-use Rattle.parsing_fields.specs.declared.fields.Fields.{Fields}
+use Rattle.parsing_values.specs.Moment.{moment_of}
+use Rattle.parsing_values.specs.declared.fields.Fields.{Fields}
 use Rattle.parsing_combinator.specs.Fault.{Fault}
 use Rattle.instants_answers.specs.Line.{HoldsLine}
 use Rattle.instants_sources.specs.Grammar.{Grammar, grammar_of}

@@ -7,7 +7,7 @@ use Rattle.calendar_count.specs.Calendar.{YearMonthDay, day_at}
 use Rattle.datetime_wall.specs.Wall.{Shown, day_of, instant, shown_at}
 use Rattle.parsing_combinator.specs.Fault.{Fault}
 use Rattle.parsing_combinator.specs.Fault as fault
-use Rattle.parsing_fields.proofs.lemmas.Decimals.{decimal_length}
+use Rattle.parsing_values.proofs.lemmas.Decimals.{decimal_length}
 use Rattle.instants_answers.specs.Line.{HoldsLine}
 use Rattle.instants_answers.specs.Text.{date_text, moment_text, has_written_year}
 use Rattle.instants_timeline.specs.Place.{Setting, first_named, place_of, place_text, shown_or_refused, in_written_years, answer_to}

@@ -16,7 +16,7 @@ use Rattle.calendar_count.specs.TheDay.{the_day, is_day_of}
 use Rattle.calendar_count.specs.ComponentRange.{out_of_conditional_range}
 use Rattle.calendar_count.specs.declared.component_range.ComponentName.TheVariants.{Day}
 use Rattle.parsing_values.specs.NamedDay.{calendar_date_of}
-use Rattle.parsing_fields.proofs.lemmas.Moments.{day_found, day_of_count}
+use Rattle.parsing_values.proofs.lemmas.Moments.{day_found, day_of_count}
 use Rattle.parsing_iso8601.specs.declared.written.WrittenDate.{WrittenDate}
 use Rattle.parsing_iso8601.specs.ReadView.{day_named}
 use Rattle.parsing_combinator.specs.Pieces.{digits, byte}

@@ -24,13 +24,13 @@ use Rattle.parsing_iso8601.specs.Reading.{dated, iso8601, whole}
 use Rattle.parsing_iso8601.specs.ReadView.{day_named}
 use Rattle.parsing_iso8601.specs.Times.{time}
 use Rattle.parsing_iso8601.specs.Times as Times
-use Rattle.parsing_fields.specs.declared.fields.Fields.{Fields}
-use Rattle.parsing_fields.specs.Moment as Moment
-use Rattle.parsing_fields.specs.Moment.{day_of_fields, time_of_fields}
-use Rattle.parsing_fields.specs.Numbers.{HaveNumbers}
+use Rattle.parsing_values.specs.declared.fields.Fields.{Fields}
+use Rattle.parsing_values.specs.Moment as Moment
+use Rattle.parsing_values.specs.Moment.{day_of_fields, time_of_fields}
+use Rattle.parsing_values.specs.Numbers.{HaveNumbers}
 use Rattle.parsing_iso8601_shapes.proofs.FastDates.{ReadsDay}
 use Rattle.parsing_iso8601_shapes.proofs.FastOffsets.{IsAllOffset}
-use Rattle.parsing_fields.proofs.lemmas.Moments.{fields_time, moment_is}
+use Rattle.parsing_values.proofs.lemmas.Moments.{fields_time, moment_is}
 
 pub date_named : (d : WrittenDate) → named_date (date_parts (Some d)) ≡ in_range (day_named d)
 unfolding named_date by_ordinal by_day by_iso_week year_of split_year

@@ -1,9 +1,9 @@
 -- A text that says a layout is read by the definition of ISO 8601, and names the moment of its numbers.
 use Rattle.std.proofs.Common.{◌≡◌, ℕ, ◌+◌, ◌*◌, ◌<◌, ◌≤◌, ◌∙◌, Bool, true, false, leb, List, [], drop, get_or, refl, arith}
 use Rattle.std.proofs.lemmas.List.{get_or-drop}
-use Rattle.parsing_fields.specs.Moment as Moment
-use Rattle.parsing_fields.specs.Numbers.{HaveNumbers}
-use Rattle.parsing_fields.specs.declared.fields.Fields.{Fields}
+use Rattle.parsing_values.specs.Moment as Moment
+use Rattle.parsing_values.specs.Numbers.{HaveNumbers}
+use Rattle.parsing_values.specs.declared.fields.Fields.{Fields}
 use Rattle.parsing_iso8601.specs.Fractions.{next_if}
 use Rattle.parsing_iso8601.specs.Moment.{IsOfOffset}
 use Rattle.parsing_layout.specs.Layout.{Says, length_of}

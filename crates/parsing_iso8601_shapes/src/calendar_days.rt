@@ -8,7 +8,7 @@ ghost use Rattle.parsing_iso8601_shapes.specs.Layout.{NamesDate};
 ghost use Rattle.parsing_iso8601_shapes.specs.declared.form.Dating.TheVariants.{Ordinal, Week};
 
 use parsing_combinator::two_pairs_at;
-use parsing_fields::Year;
+use parsing_values::Year;
 
 // The two pairs of digits of a year.
 #[inline(always)]

@@ -1,6 +1,6 @@
 //! The moment that a text names.
 ghost use Rattle.std.specs.Prelude.{◌≡◌, ◌<◌, IfSome, true};
-ghost use Rattle.parsing_fields.specs.Moment.{moment_of};
+ghost use Rattle.parsing_values.specs.Moment.{moment_of};
 ghost use Rattle.parsing_layout.specs.Shape.{fits};
 ghost use Rattle.parsing_iso8601_shapes.specs.Layout.{AreDated, front_parts};
 ghost use Rattle.parsing_iso8601.specs.Fractions.{next_if};
@@ -9,7 +9,7 @@ ghost use Rattle.parsing_iso8601.specs.Moment.{IsOfOffset};
 use crate::calendar_days::{of_weeks, of_year};
 use crate::form::{Dating, Form};
 use crate::forms::{form_at, form_of};
-use parsing_fields::{Fields, Fraction};
+use parsing_values::{Fields, Fraction};
 use parsing_layout::{Numbers, read_long_numbers, read_numbers};
 use parsing_places::LANES;
 use parsing_values::OffsetDateTime;

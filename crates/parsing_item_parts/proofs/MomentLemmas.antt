@@ -17,10 +17,10 @@ use Rattle.parsing_values.specs.NamedDate.{named_date, by_ordinal, by_day, year_
 use Rattle.parsing_values.specs.NamedDay.{calendar_date_of}
 use Rattle.parsing_values.specs.NamedTime.{named_time, hour_of, half_day_hour, finer_parts}
 use Rattle.parsing_values.specs.NamedMoment.{unix_subsecond, unix_instant, named_wall, dated_moment, named_moment}
-use Rattle.parsing_fields.specs.declared.fields.Fields as fields
-use Rattle.parsing_fields.specs.Moment.{day_of_fields, time_of_fields, moment_of}
-use Rattle.parsing_fields.specs.Numbers.{HaveNumbers}
-use Rattle.parsing_fields.proofs.lemmas.Moments.{fields_date, fields_time, moment_is}
+use Rattle.parsing_values.specs.declared.fields.Fields as fields
+use Rattle.parsing_values.specs.Moment.{day_of_fields, time_of_fields, moment_of}
+use Rattle.parsing_values.specs.Numbers.{HaveNumbers}
+use Rattle.parsing_values.proofs.lemmas.Moments.{fields_date, fields_time, moment_is}
 use Rattle.parsing_components.specs.Ranged.{counted, months}
 use Rattle.parsing_components.specs.Parts.{time_parts}
 use Rattle.parsing_components.specs.Prefix.{beginning}

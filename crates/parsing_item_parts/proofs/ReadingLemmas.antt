@@ -12,8 +12,8 @@ use Rattle.parsing_layout.specs.Range.{AreInRange, IsAllInRange}
 use Rattle.parsing_layout.specs.Said.{fields_of}
 use Rattle.parsing_layout.specs.declared.items.Item.{Item}
 use Rattle.parsing_layout.specs.declared.parts.Part.{Part}
-use Rattle.parsing_fields.specs.declared.fields.Fields.{Fields}
-use Rattle.parsing_fields.specs.Moment.{moment_of}
+use Rattle.parsing_values.specs.declared.fields.Fields.{Fields}
+use Rattle.parsing_values.specs.Moment.{moment_of}
 use Rattle.parsing_item_parts.specs.declared.list.Items.{Items}
 use Rattle.parsing_item_parts.specs.declared.listed.Listed.{Listed}
 use Rattle.parsing_item_parts.specs.Listed.{IsListOf}

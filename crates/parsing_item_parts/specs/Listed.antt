@@ -10,8 +10,8 @@ use Rattle.parsing_components.specs.Meaning.{Meaning}
 use Rattle.parsing_components.specs.Prefix.{beginning}
 use Rattle.parsing_components.specs.Whole.{whole, names, moment_named, starting}
 use Rattle.parsing_components.specs.declared.fields.Record.{Record}
-use Rattle.parsing_fields.specs.Moment.{moment_of}
-use Rattle.parsing_fields.specs.declared.fields.Fields.{Fields}
+use Rattle.parsing_values.specs.Moment.{moment_of}
+use Rattle.parsing_values.specs.declared.fields.Fields.{Fields}
 use Rattle.parsing_item_parts.specs.Items.{AreItems, items_kept}
 use Rattle.parsing_item_parts.specs.declared.listed.Listed.{Listed}
 

@@ -1,7 +1,7 @@
 //! The fields that a text says by parts.
 ghost use Rattle.std.specs.Prelude.{◌≡◌, ◌≤◌, ◌<◌, ◌*ℤ◌, true, false, Option, Some, Ok, ℤ, pos, unsigned_abs, IfSome};
 ghost use Rattle.parsing_combinator.specs.Tame.{EndsWith};
-ghost use Rattle.parsing_fields.specs.Moment.{moment_of};
+ghost use Rattle.parsing_values.specs.Moment.{moment_of};
 ghost use Rattle.parsing_layout.specs.Range.{IsAllInRange};
 ghost use Rattle.parsing_layout.specs.Said.{Said};
 ghost use Rattle.parsing_strides.specs.Found.{values_in};
@@ -16,7 +16,7 @@ ghost use Rattle.parsing_item_parts.specs.Recorded.{recorded};
 use crate::listed::Listed;
 use calendar::UtcOffset;
 use parsing_components::assumed_minutes;
-use parsing_fields::{Fields, has_day, offset_minutes};
+use parsing_values::{Fields, has_day, offset_minutes};
 use parsing_layout::Field;
 use parsing_strides::Found;
 

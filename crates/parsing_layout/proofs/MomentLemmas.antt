@@ -6,7 +6,7 @@ use Rattle.std.proofs.lemmas.Bool.Decides.{nat_tests}
 use Rattle.std.proofs.lemmas.List.{drop_all}
 use Rattle.base.specs.Bytes.{dot, hyphen}
 use Rattle.parsing_combinator.specs.Pieces as Pieces
-use Rattle.parsing_fields.specs.Written.{WriteFraction}
+use Rattle.parsing_values.specs.Written.{WriteFraction}
 use Rattle.parsing_places.specs.Windows.{SpareTwo}
 use Rattle.parsing_places.specs.declared.shape.Window.{Window}
 use Rattle.parsing_places.proofs.ReadLemmas.{or_zero, zero_or}

@@ -1,7 +1,7 @@
 -- A text that two windows take says a layout, and fields are those of its sums and of a month.
 use Rattle.std.proofs.Common.{◌≡◌, ◌≤◌, ◌<◌, ◌+◌, ◌*◌, ◌%◌, ◌∙◌, ◌&&◌, ℕ, true, false, List, get_or, length, drop, refl, arith, lit<, lit≤, inl, inr}
-use Rattle.parsing_fields.specs.Numbers.{HaveNumbers}
-use Rattle.parsing_fields.specs.declared.fields.Fields.{Fields}
+use Rattle.parsing_values.specs.Numbers.{HaveNumbers}
+use Rattle.parsing_values.specs.declared.fields.Fields.{Fields}
 use Rattle.parsing_places.specs.Windows.{Taken}
 use Rattle.parsing_places.proofs.NumberLemmas.{nothing_taken, sign_taken}
 use Rattle.parsing_places.proofs.ReadLemmas.{Paired}

@@ -1,8 +1,8 @@
 -- What lanes take of a text, and of its end, as the numbers of what it says.
 use Rattle.std.proofs.Common.{◌≡◌, ◌≤◌, ◌<◌, ◌/◌, ◌∙◌, ◌==◌, ℕ, Bool, true, false, List, [], ◌++◌, drop, get_or, length, refl, sym, ap, arith}
 use Rattle.std.proofs.lemmas.Bool.Decides.{nat_tests}
-use Rattle.parsing_fields.specs.Numbers.{HaveNumbers}
-use Rattle.parsing_fields.specs.declared.fields.Fields.{Fields}
+use Rattle.parsing_values.specs.Numbers.{HaveNumbers}
+use Rattle.parsing_values.specs.declared.fields.Fields.{Fields}
 use Rattle.parsing_places.specs.Tail.{is_fraction}
 use Rattle.parsing_places.specs.declared.lanes.Moves.{Moves}
 use Rattle.parsing_places.specs.declared.shape.Window.{Window}

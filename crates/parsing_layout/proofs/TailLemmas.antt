@@ -6,7 +6,7 @@ use Rattle.std.proofs.lemmas.Bool.Decides.{nat_tests}
 use Rattle.std.proofs.lemmas.List.{drop-drop}
 use Rattle.base.specs.Bytes.{dot}
 use Rattle.parsing_combinator.specs.Pieces.{digits, digit_count}
-use Rattle.parsing_fields.specs.Written.{WriteFraction}
+use Rattle.parsing_values.specs.Written.{WriteFraction}
 use Rattle.parsing_places.specs.Lanes.{above}
 use Rattle.parsing_places.specs.Last.{HaveEnd, HaveFraction}
 use Rattle.parsing_places.specs.Shape.{Takes}

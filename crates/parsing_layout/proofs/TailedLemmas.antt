@@ -1,7 +1,7 @@
 -- What lanes take of a text and of its end, by the places of a fraction.
 use Rattle.std.proofs.Common.{◌≡◌, ◌≤◌, ◌<◌, ◌+◌, ◌-◌, ◌∙◌, ◌==◌, ℕ, true, List, get_or, length, drop, refl, arith, lit<, lit≤, inl}
 use Rattle.base.specs.Bytes.{dot, lower_z}
-use Rattle.parsing_fields.specs.Written.{WriteFraction}
+use Rattle.parsing_values.specs.Written.{WriteFraction}
 use Rattle.parsing_places.specs.Last.{HaveEnd, HaveFraction}
 use Rattle.parsing_places.specs.Shape.{with_moves}
 use Rattle.parsing_places.specs.Tail.{LetsByte, TakesFraction, is_fraction, is_zulu, offset_at}

@@ -2,8 +2,8 @@
 use Rattle.std.specs.Prelude.{◌≡◌, ◌≤◌, ◌<◌, ◌==◌, Ok, ℤ, pos, ◌*ℤ◌, ◌+◌, ◌*◌, ℕ, Bool, true, false, List, [], ◌++◌, get_or, bit_or}
 use Rattle.base.specs.Bytes.{hyphen}
 use Rattle.parsing_combinator.specs.Places.{HasPair}
-use Rattle.parsing_fields.specs.Numbers.{HaveNumbers}
-use Rattle.parsing_fields.specs.declared.fields.Fields.{Fields}
+use Rattle.parsing_values.specs.Numbers.{HaveNumbers}
+use Rattle.parsing_values.specs.declared.fields.Fields.{Fields}
 use Rattle.parsing_places.specs.Last.{HaveEnd}
 use Rattle.parsing_places.specs.Windows.{Taken}
 use Rattle.parsing_places.specs.declared.shape.Window.{Window}

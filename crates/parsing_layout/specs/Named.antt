@@ -1,7 +1,7 @@
 -- The moment of a text whose month is read beside its lanes, and that has an offset.
 use Rattle.std.specs.Prelude.{◌≤◌, ◌+◌, ◌*◌, ℕ, false, List}
-use Rattle.parsing_fields.specs.Numbers.{HaveNumbers}
-use Rattle.parsing_fields.specs.declared.fields.Fields.{Fields}
+use Rattle.parsing_values.specs.Numbers.{HaveNumbers}
+use Rattle.parsing_values.specs.declared.fields.Fields.{Fields}
 use Rattle.parsing_layout.specs.Layout.{Part, Values, Says}
 use Rattle.parsing_layout.specs.Moment.{HasOffset}
 use Rattle.parsing_layout.specs.declared.parts.Field.TheVariants as field

@@ -1,6 +1,6 @@
 //! The fields of a text, whose numbers are all read at once.
 ghost use Rattle.std.specs.Prelude.{◌≡◌, ◌≤◌, ◌<◌, ◌+◌, ◌-◌, ℕ, drop, get_or, length, false, true, IfSome, List};
-ghost use Rattle.parsing_fields.specs.Written.{WriteFraction};
+ghost use Rattle.parsing_values.specs.Written.{WriteFraction};
 ghost use Rattle.parsing_places.specs.Last.{HaveEnd};
 ghost use Rattle.parsing_places.specs.Shape.{with_moves};
 ghost use Rattle.parsing_places.specs.Tail.{is_written, is_zulu};
@@ -13,7 +13,7 @@ ghost use Rattle.parsing_layout.specs.Tail.{zone_parts, small_parts};
 use crate::dated::{read_long_numbers, read_numbers, read_small_numbers};
 use crate::shape::Shape;
 use crate::sums::Sums;
-use parsing_fields::{Fields, Fraction};
+use parsing_values::{Fields, Fraction};
 use parsing_places::{LANES, Moves, Window, are_digits, digits_of_whole, joined, paired, sums};
 use std::simd::prelude::*;
 

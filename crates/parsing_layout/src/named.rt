@@ -8,7 +8,7 @@ ghost use Rattle.parsing_layout.specs.Windows.{spares_two};
 use crate::dated::numbers_of;
 use crate::shape::Shape;
 use crate::sums::sums_of;
-use parsing_fields::{Fields, Fraction};
+use parsing_values::{Fields, Fraction};
 
 /// The fields of a text that begins with the parts of a shape, an offset among them, where the month is known from its name: its
 /// letters are bytes of any kind to the shape. `None` says nothing of the text.

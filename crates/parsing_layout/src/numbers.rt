@@ -1,7 +1,7 @@
 //! The numbers of a date-time, whose date names a day by two numbers after its year.
 ghost use Rattle.std.specs.Prelude.{◌≤◌, ◌<◌, unsigned_abs};
 
-use parsing_fields::{Fields, Fraction, Year, has_day};
+use parsing_values::{Fields, Fraction, Year, has_day};
 
 /// The numbers of a date-time in a year of four digits, before its day is one of a month.
 ///
@@ -32,7 +32,7 @@ pub struct Numbers {
 impl Numbers {
     ghost use Rattle.std.specs.Prelude.{pos, IfSome};
     ghost use Rattle.calendar_count.specs.Calendar.{IsDay};
-    ghost use Rattle.parsing_fields.specs.Numbers.{HaveNumbers};
+    ghost use Rattle.parsing_values.specs.Numbers.{HaveNumbers};
 
     /// The fields with these numbers on a day of the year.
     #[inline(always)]

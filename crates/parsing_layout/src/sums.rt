@@ -1,11 +1,11 @@
 //! The numbers of a text, all read at once.
 ghost use Rattle.std.specs.Prelude.{◌≡◌, ◌≤◌, ◌<◌, ◌+◌, ◌-◌, drop, false, length, true, IfSome};
-ghost use Rattle.parsing_fields.specs.Written.{WriteFraction};
+ghost use Rattle.parsing_values.specs.Written.{WriteFraction};
 ghost use Rattle.parsing_layout.specs.Moment.{AreTaken};
 ghost use Rattle.parsing_layout.specs.Sums.{AreSums};
 
 use crate::shape::Shape;
-use parsing_fields::Fraction;
+use parsing_values::Fraction;
 use parsing_places::{LANES, LastBytes, fraction_of, joined, paired, sums};
 
 /// Month and 64 days, the minute of the day, the minutes of an offset, and a sign and 64 seconds.

@@ -2,10 +2,10 @@
 use Rattle.std.proofs.Common.{◌≡◌, ◌≤◌, ◌<◌, ◌+◌, ◌-◌, ◌^◌, ◌%◌, ◌∙◌, ℕ, List, length, get_or, drop, true, refl, arith, inl, inr, lit≤}
 use Rattle.std.proofs.lemmas.Bool.{cases_lt}
 use Rattle.std.proofs.lemmas.List.{get_or-drop, length-drop}
-use Rattle.parsing_fields.specs.Digits.{AreNineDigits}
-use Rattle.parsing_fields.specs.Written.{WriteFraction}
+use Rattle.parsing_values.specs.Digits.{AreNineDigits}
+use Rattle.parsing_values.specs.Written.{WriteFraction}
 use Rattle.std.specs.Str.Parse.{digits_value}
-use Rattle.parsing_fields.specs.Digits.{nine_digits}
+use Rattle.parsing_values.specs.Digits.{nine_digits}
 use Rattle.parsing_places.specs.Lanes.{are_moves, above}
 use Rattle.parsing_places.specs.Last.{HaveFraction, HaveLast, HaveWindow}
 use Rattle.parsing_places.specs.Numbers.{IsDigitAt}

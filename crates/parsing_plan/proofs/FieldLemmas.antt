@@ -8,10 +8,10 @@ use Rattle.calendar_count.specs.Calendar.{days_in_month}
 use Rattle.datetime_wall.specs.Wall.{Shown}
 use Rattle.parsing_components.specs.Prefix.{beginning}
 use Rattle.parsing_components.specs.Whole.{moment_named, offset_named}
-use Rattle.parsing_fields.specs.Moment.{moment_of}
-use Rattle.parsing_fields.specs.Numbers.{HaveNumbers}
-use Rattle.parsing_fields.specs.Written.{WriteFraction}
-use Rattle.parsing_fields.specs.declared.fields.Fields.{Fields}
+use Rattle.parsing_values.specs.Moment.{moment_of}
+use Rattle.parsing_values.specs.Numbers.{HaveNumbers}
+use Rattle.parsing_values.specs.Written.{WriteFraction}
+use Rattle.parsing_values.specs.declared.fields.Fields.{Fields}
 use Rattle.parsing_item_parts.specs.Recorded.{recorded, said_or}
 use Rattle.parsing_item_parts.proofs.MomentLemmas.{hour_said, moment_said, offset_assumed, offset_said}
 use Rattle.parsing_item_parts.proofs.SaidLemmas.{SayDay}

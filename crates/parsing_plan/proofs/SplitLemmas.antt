@@ -9,8 +9,8 @@ use Rattle.parsing_combinator.specs.Shape.{taken, fraction_between}
 use Rattle.parsing_combinator.proofs.Decimal.{count_drop}
 use Rattle.parsing_combinator.proofs.FractionDigits.{none_there}
 use Rattle.parsing_combinator.proofs.Longest.{taken_digits}
-use Rattle.parsing_fields.specs.Written.{WriteFraction}
-use Rattle.parsing_fields.specs.declared.fields.Fields.{Fields}
+use Rattle.parsing_values.specs.Written.{WriteFraction}
+use Rattle.parsing_values.specs.declared.fields.Fields.{Fields}
 use Rattle.parsing_layout.specs.Layout.{Says, length_of}
 use Rattle.parsing_layout.specs.declared.parts.Part.{Part}
 use Rattle.parsing_layout.specs.End.{begins_apart, fits_end, is_end_bounded, spares_clock}

@@ -12,9 +12,9 @@ use Rattle.description_items.specs.Tree.{Part}
 use Rattle.parsing_components.specs.Component.{reads_component, reads_component_v3, reads_modern, date_piece, year_piece, time_piece, offset_piece, unix_digits}
 use Rattle.parsing_components.specs.Ranged.{kept, since_epoch, nanoseconds_after_epoch}
 use Rattle.parsing_components.specs.declared.said.Read.TheVariants as read
-use Rattle.parsing_fields.specs.declared.fields.Fields.{Fields}
-use Rattle.parsing_fields.specs.Moment.{moment_of}
-use Rattle.parsing_fields.specs.Written.{WriteFraction}
+use Rattle.parsing_values.specs.declared.fields.Fields.{Fields}
+use Rattle.parsing_values.specs.Moment.{moment_of}
+use Rattle.parsing_values.specs.Written.{WriteFraction}
 use Rattle.parsing_values.specs.NamedMoment.{named_moment, unix_subsecond, unix_instant}
 use Rattle.parsing_combinator.specs.Fault.{Fault}
 use Rattle.parsing_combinator.specs.Pieces.{digits, digit_count, fraction, sign}

@@ -3,8 +3,8 @@ use Rattle.std.specs.Prelude.{◌≡◌, ◌≤◌, ◌<◌, ◌+◌, ◌*◌, �
 use Rattle.parsing_combinator.specs.Pieces.{digits}
 use Rattle.parsing_components.specs.Prefix.{beginning}
 use Rattle.parsing_components.specs.Whole.{offset_named}
-use Rattle.parsing_fields.specs.Numbers.{HaveNumbers}
-use Rattle.parsing_fields.specs.declared.fields.Fields.{Fields}
+use Rattle.parsing_values.specs.Numbers.{HaveNumbers}
+use Rattle.parsing_values.specs.declared.fields.Fields.{Fields}
 use Rattle.parsing_layout.specs.Beside.{AreRead, IsFraction}
 use Rattle.parsing_layout.specs.declared.front.Beside.{Beside}
 use Rattle.parsing_layout.specs.declared.shape.Shape.{Shape}

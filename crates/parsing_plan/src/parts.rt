@@ -9,7 +9,7 @@ ghost use Rattle.parsing_plan.specs.Fields.{IsOffset};
 
 use calendar::UtcOffset;
 use parsing_components::assumed_minutes;
-use parsing_fields::Fraction;
+use parsing_values::Fraction;
 use parsing_layout::{Beside, Shape, month_name_at, weekday_name_at};
 use parsing_places::signed;
 

@@ -4,7 +4,7 @@ ghost use Rattle.description_items.specs.Tree.{listed, trees};
 ghost use Rattle.description_tree.specs.Description.{v3_tree};
 ghost use Rattle.parsing_combinator.specs.Tame.{EndsWith};
 ghost use Rattle.parsing_components.specs.Component.{reads_component, reads_component_v3};
-ghost use Rattle.parsing_fields.specs.Moment.{moment_of};
+ghost use Rattle.parsing_values.specs.Moment.{moment_of};
 ghost use Rattle.parsing_components.specs.Meaning.{Meaning};
 ghost use Rattle.parsing_components.specs.Prefix.{NamesPrefix, beginning};
 ghost use Rattle.parsing_components.specs.Reads.{reading, reading_of_all};
@@ -18,7 +18,7 @@ use calendar::UtcOffset;
 use description_items::BorrowedFormatItem;
 use description_tree::FormatDescriptionV3;
 use parsing_components::{Node, NodeStep};
-use parsing_fields::Fields;
+use parsing_values::Fields;
 use parsing_item_parts::Listed;
 
 /// How lines of a description are read at once.

@@ -5,7 +5,7 @@ ghost use Rattle.parsing_combinator.specs.Tame.{EndsWith};
 ghost use Rattle.parsing_components.specs.Meaning.{Meaning};
 ghost use Rattle.parsing_components.specs.Prefix.{NamesPrefix, beginning};
 ghost use Rattle.parsing_components.specs.Whole.{whole};
-ghost use Rattle.parsing_fields.specs.Moment.{moment_of};
+ghost use Rattle.parsing_values.specs.Moment.{moment_of};
 ghost use Rattle.parsing_layout.specs.Beside.{is_ready};
 ghost use Rattle.parsing_layout.specs.Sums.{AreSums};
 ghost use Rattle.parsing_plan.specs.Fields.{AreFieldsOf};
@@ -16,7 +16,7 @@ ghost use Rattle.parsing_plan.specs.Places.{ArePlacesOf};
 use crate::parts::{day_of, fraction_of, month_of, offset_of, weekday_of};
 use crate::places::{Back, NEVER, Places};
 use calendar::UtcOffset;
-use parsing_fields::{Fields, Fraction, Year, has_day};
+use parsing_values::{Fields, Fraction, Year, has_day};
 use parsing_layout::{Beside, Shape, Sums, split_sums_of, sums_of};
 use parsing_places::LANES;
 

@@ -1,13 +1,13 @@
 //! Unix time alone on a line.
 ghost use Rattle.std.specs.Prelude.{◌≡◌, ◌+◌, ◌<◌, ◌≤◌, drop, length, Option, ℤ, IfSome};
-ghost use Rattle.parsing_fields.specs.Written.{WriteFraction};
+ghost use Rattle.parsing_values.specs.Written.{WriteFraction};
 ghost use Rattle.parsing_item_parts.specs.Listed.{NamesWhole};
 ghost use Rattle.parsing_components.specs.Reads.{reading};
 ghost use Rattle.parsing_plan.specs.UnixTime.{IsUnixOf};
 
 use parsing_combinator::{nine_digits, one_digit};
 use parsing_components::{Node, NodeStep, unix_digits};
-use parsing_fields::{Fields, Fraction};
+use parsing_values::{Fields, Fraction};
 
 // The digits of the seconds, those of the years 2001 to 2286.
 const SECOND_DIGITS: usize = 10;

@@ -19,11 +19,11 @@ use Rattle.parsing_combinator.proofs.Fixed.{some_if, digits_two, digits_four}
 use Rattle.parsing_combinator.proofs.FractionDigits.{digits_read}
 use Rattle.parsing_values.specs.Resolution.{date_of, permitted_time_of, signed_offset_of}
 use Rattle.parsing_values.specs.StandIn.{leap_checked}
-use Rattle.parsing_fields.specs.declared.fields.Fields.{Fields}
-use Rattle.parsing_fields.specs.Moment as Moment
-use Rattle.parsing_fields.specs.Moment.{day_of_fields, time_of_fields}
-use Rattle.parsing_fields.specs.Numbers.{HaveNumbers}
-use Rattle.parsing_fields.proofs.lemmas.Moments.{fields_date, fields_time, moment_is}
+use Rattle.parsing_values.specs.declared.fields.Fields.{Fields}
+use Rattle.parsing_values.specs.Moment as Moment
+use Rattle.parsing_values.specs.Moment.{day_of_fields, time_of_fields}
+use Rattle.parsing_values.specs.Numbers.{HaveNumbers}
+use Rattle.parsing_values.proofs.lemmas.Moments.{fields_date, fields_time, moment_is}
 use Rattle.parsing_layout.specs.Layout.{Values, Says}
 use Rattle.parsing_layout.specs.Named.{SaysNamed}
 use Rattle.parsing_layout.specs.declared.parts.Part.{Part}

@@ -3,10 +3,10 @@ use Rattle.std.specs.Prelude.{◌≡◌, ◌≤◌, ℕ, List, [], ◌∷◌, �
 use Rattle.base.specs.Bytes.{space, colon}
 use Rattle.calendar_count.specs.declared.weekday.Weekday.{Weekday}
 use Rattle.parsing_combinator.specs.declared.zone.Zone.{Zone}
-use Rattle.parsing_fields.specs.Numbers.{HaveNumbers}
-use Rattle.parsing_fields.specs.declared.fields.Fields.{Fields}
+use Rattle.parsing_values.specs.Numbers.{HaveNumbers}
+use Rattle.parsing_values.specs.declared.fields.Fields.{Fields}
 use Rattle.parsing_values.specs.Resolution.{signed_offset_of}
-use Rattle.parsing_fields.specs.Moment.{moment_of}
+use Rattle.parsing_values.specs.Moment.{moment_of}
 use Rattle.parsing_layout.specs.Named.{SaysNamed}
 use Rattle.parsing_layout.specs.Windows.{spares_two}
 use Rattle.parsing_layout.specs.declared.parts.Part.{Part}

@@ -4,8 +4,8 @@
 //! space and comments at its end, one with a zone's name, one without seconds, and one with a year of two digits. Before the day
 //! of other texts than the usual one a weekday may be missing, or have two spaces after it.
 ghost use Rattle.std.specs.Prelude.{◌≡◌, ◌≤◌, ◌+◌, ◌⊎◌, if◌then◌else◌, nat_lt, [], drop, length, true, IfSome, List, Ok};
-ghost use Rattle.parsing_fields.specs.Moment.{moment_of};
-ghost use Rattle.parsing_fields.specs.Numbers.{HaveNumbers};
+ghost use Rattle.parsing_values.specs.Moment.{moment_of};
+ghost use Rattle.parsing_values.specs.Numbers.{HaveNumbers};
 ghost use Rattle.parsing_layout.specs.declared.parts.Part.{Part};
 ghost use Rattle.parsing_layout.specs.Shape.{fits};
 ghost use Rattle.parsing_rfc2822.specs.Direct.{direct};
@@ -20,7 +20,7 @@ use crate::shape::{
     TWO_DIGITS_SHORT_YEAR, TWO_DIGITS_USUAL, TWO_DIGITS_WITH_NAME, TWO_DIGITS_WITHOUT_SECOND,
 };
 use parsing_combinator::two_digits as digit_pair;
-use parsing_fields::{Fields, Year, has_day, offset_minutes};
+use parsing_values::{Fields, Year, has_day, offset_minutes};
 use parsing_layout::{Shape, read_named_moment};
 use parsing_rfc2822::{is_plain_comment, past_spacing, zone_of};
 use parsing_values::OffsetDateTime;

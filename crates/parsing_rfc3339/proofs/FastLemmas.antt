@@ -13,11 +13,11 @@ use Rattle.parsing_values.specs.StandIn.{leap_checked}
 use Rattle.parsing_rfc3339.specs.declared.parts.Rfc3339Parts.{Rfc3339Parts}
 use Rattle.parsing_rfc3339.specs.Reading.{date, clock, subsecond, offset, rfc3339}
 use Rattle.parsing_rfc3339.specs.Direct.{direct, moment, moment_of}
-use Rattle.parsing_fields.specs.declared.fields.Fields.{Fields}
-use Rattle.parsing_fields.specs.Moment as Moment
-use Rattle.parsing_fields.specs.Moment.{day_of_fields, time_of_fields}
-use Rattle.parsing_fields.specs.Numbers.{HaveNumbers}
-use Rattle.parsing_fields.proofs.lemmas.Moments.{fields_date, fields_time, moment_is}
+use Rattle.parsing_values.specs.declared.fields.Fields.{Fields}
+use Rattle.parsing_values.specs.Moment as Moment
+use Rattle.parsing_values.specs.Moment.{day_of_fields, time_of_fields}
+use Rattle.parsing_values.specs.Numbers.{HaveNumbers}
+use Rattle.parsing_values.proofs.lemmas.Moments.{fields_date, fields_time, moment_is}
 
 -- the numbers of the pieces
 abbrev numbers : ℕ × ℕ × ℕ → ℕ × ℕ × ℕ → Option ℕ → Zone → Rfc3339Parts

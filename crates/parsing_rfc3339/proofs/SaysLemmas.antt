@@ -9,8 +9,8 @@ use Rattle.base.specs.Bytes.{plus, hyphen, dot, upper_z, lower_z}
 use Rattle.parsing_combinator.specs.Fault.{Fault}
 use Rattle.parsing_combinator.specs.Pieces.{digits, byte, skip_of, fraction}
 use Rattle.parsing_combinator.specs.declared.zone.Zone.{Zone}
-use Rattle.parsing_fields.specs.declared.fields.Fields.{Fields}
-use Rattle.parsing_fields.specs.Moment as Moment
+use Rattle.parsing_values.specs.declared.fields.Fields.{Fields}
+use Rattle.parsing_values.specs.Moment as Moment
 use Rattle.parsing_layout.specs.Layout.{Values, Says}
 use Rattle.parsing_layout.specs.declared.parts.Part.{Part}
 use Rattle.parsing_layout.specs.Moment.{HasOffset, SaysTailed}

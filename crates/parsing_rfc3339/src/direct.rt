@@ -5,13 +5,13 @@ ghost use Rattle.parsing_combinator.specs.FaultOf.{Gives, fault_of};
 ghost use Rattle.parsing_combinator.specs.ShortName.{HasShortName};
 ghost use Rattle.parsing_rfc3339.specs.Direct.{direct, moment_of};
 ghost use Rattle.parsing_combinator.specs.Readings.{value_read};
-ghost use Rattle.parsing_fields.specs.Moment as Moment;
+ghost use Rattle.parsing_values.specs.Moment as Moment;
 
 use crate::parts::Rfc3339Parts;
 use crate::reading::parse_prefix;
 use crate::shape::shape;
 use parsing_combinator::{Parse, ParseFromDescription, four_digits};
-use parsing_fields::Fields;
+use parsing_values::Fields;
 use parsing_layout::{read_long_moment, read_moment, read_small_moment};
 use parsing_values::{OffsetDateTime, leap_checked, resolve};
 

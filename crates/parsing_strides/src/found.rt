@@ -2,7 +2,7 @@
 ghost use Rattle.std.specs.Prelude.{◌≤◌, ◌<◌, ◌≡◌, true, false};
 
 use crate::lanes::{all_above, are_at_most};
-use parsing_fields::{Fraction, Year};
+use parsing_values::{Fraction, Year};
 use parsing_layout::{Field, place_of};
 use parsing_places::LANES;
 use std::simd::prelude::*;

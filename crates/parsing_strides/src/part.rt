@@ -8,7 +8,7 @@ ghost use Rattle.parsing_strides.specs.Found.{values_in};
 
 use crate::found::Found;
 use parsing_combinator::{nine_digits, one_digit};
-use parsing_fields::Fraction;
+use parsing_values::Fraction;
 use parsing_layout::{Field, Part, field_of, number_at};
 
 // All digits of a fraction of a second, at most nine.

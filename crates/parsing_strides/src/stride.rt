@@ -6,7 +6,7 @@ ghost use Rattle.parsing_strides.specs.Places.{lets, lets_year};
 
 use crate::found::Found;
 use crate::lanes::{all_above, are_at_most, first_sixteen, numbers_of, put_taken, taken_by};
-use parsing_fields::Year;
+use parsing_values::Year;
 use parsing_layout::{Field, Item, Part, place_of, say};
 use parsing_places::{LANES, Moves};
 use std::simd::prelude::*;

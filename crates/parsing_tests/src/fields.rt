@@ -7,7 +7,7 @@ use description::{
 };
 use parsing_combinator::digit_chunk;
 use parsing_components::assumed_minutes;
-use parsing_fields::{Fields, Fraction, Year, digit_pair, minute_of_day};
+use parsing_values::{Fields, Fraction, Year, digit_pair, minute_of_day};
 use parsing_item_parts::Listed;
 use parsing_places::{Moves, Window, Windows};
 use parsing_plan::Plan;
@@ -57,7 +57,7 @@ fn read_fraction(text: &[u8]) -> Option<([u8; 9], u32, usize)> {
 }
 
 #[test]
-#[tactic(auto, unfolding(parsing_fields::specs::Digits::nine_digits))]
+#[tactic(auto, unfolding(parsing_values::specs::Digits::nine_digits))]
 fn digits(rt: HostRuntime) {
     // `12345678` and `9` in ASCII, the first digit lowest.
     let nine = Fraction::of_nine(0x3837_3635_3433_3231, 0x39);

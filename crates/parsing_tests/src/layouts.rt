@@ -4,7 +4,7 @@ ghost use Rattle.std.specs.Prelude.{◌≡◌, true, false};
 ghost use Rattle.parsing_layout.specs.Windows.{spares_two};
 
 use datetime_types::WallClock;
-use parsing_fields::Fields;
+use parsing_values::Fields;
 use parsing_layout::{
     Field, Front, Numbers, Part, Shape, Sums, last_bytes_of, month_name_at, read_long_moment,
     read_long_numbers, read_moment, read_named_moment, read_numbers, read_small_moment,

@@ -7,3 +7,9 @@ pub mod DateLaws
 pub mod NamedTime
 pub mod NamedMoment
 pub mod Laws
+pub mod Decimal
+pub mod Digits
+pub mod DigitsBack
+pub mod Moment
+pub mod Numbers
+pub mod Written

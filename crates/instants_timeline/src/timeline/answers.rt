@@ -5,7 +5,7 @@ ghost use Rattle.std.specs.Option.{option_map};
 ghost use Rattle.std.specs.Result.{result_ok};
 ghost use Rattle.parsing_combinator.specs.FaultOf.{fault_of};
 ghost use Rattle.parsing_combinator.specs.ShortName.{HasShortName};
-ghost use Rattle.parsing_fields.specs.Moment.{moment_of};
+ghost use Rattle.parsing_values.specs.Moment.{moment_of};
 ghost use Rattle.instants_answers.specs.Line.{HoldsLine};
 ghost use Rattle.instants_sources.specs.Grammar.{grammar_of};
 ghost use Rattle.instants_sources.specs.Grammar as grammar;
@@ -22,7 +22,7 @@ use instants_answers::{Answer, fill_fields};
 use instants_faults::{LineFault, fill_no_year};
 use instants_sources::{Named, Source, directly_named};
 use parsing_combinator::Parse;
-use parsing_fields::Fields;
+use parsing_values::Fields;
 use parsing_plan::Plan;
 
 impl Timeline<'_> {

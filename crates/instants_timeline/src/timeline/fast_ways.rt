@@ -1,6 +1,6 @@
 //! The ways in which the lines of a timeline are answered, each by fast ways first.
 ghost use Rattle.std.specs.Prelude.{◌≡◌, ◌≤◌, length, IfSome, Ok};
-ghost use Rattle.parsing_fields.specs.Moment.{moment_of};
+ghost use Rattle.parsing_values.specs.Moment.{moment_of};
 ghost use Rattle.parsing_plan.specs.declared.plan.Plan.{Plan};
 ghost use Rattle.instants_answers.specs.Line.{HoldsLine};
 ghost use Rattle.instants_sources.specs.Grammar.{Grammar};
@@ -14,7 +14,7 @@ use calendar::UtcOffset;
 use instants_answers::Answer;
 use instants_sources::{directly_named, is_no_rfc3339};
 use instants_stream::AnswersLines;
-use parsing_fields::Fields;
+use parsing_values::Fields;
 use parsing_plan::{Places, Plan, UnixTime};
 
 /// A way to answer the lines of a timeline, by the kind of its first source. All answer alike: a run over a stream is compiled

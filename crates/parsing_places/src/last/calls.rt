@@ -1,12 +1,12 @@
 //! The last bytes of a text.
 ghost use Rattle.std.specs.Prelude.{◌≡◌, ◌≤◌, ◌<◌, ◌+◌, ◌-◌, ℕ, List, drop, get_or, length, true, IfSome};
-ghost use Rattle.parsing_fields.specs.Written.{WriteFraction};
+ghost use Rattle.parsing_values.specs.Written.{WriteFraction};
 ghost use Rattle.parsing_places.specs.Last.{HaveFraction, HaveLast};
 
 use super::{LastBytes, TWICE};
 use crate::lanes::{LANES, are_at_most, as_text, first_nine, sixteen_from};
 use crate::shape::Window;
-use parsing_fields::Fraction;
+use parsing_values::Fraction;
 use std::simd::prelude::*;
 
 /// The fraction of these digits, of which at most nine are there, and zeros after them.

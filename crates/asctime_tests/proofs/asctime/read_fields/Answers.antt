@@ -1,5 +1,5 @@
 use Rattle.std.proofs.Common.{◌≡◌, ◌≤◌, ◌∙◌, ℕ, List, [], ◌∷◌, length, map, refl, sym}
-use Rattle.parsing_fields.proofs.lemmas.Moments.{of_fields}
+use Rattle.parsing_values.proofs.lemmas.Moments.{of_fields}
 use Rattle.parsing_layout.proofs.WindowLemmas.{same}
 use Rattle.parsing_layout.specs.declared.parts.Field.TheVariants as field
 use Rattle.parsing_layout.proofs.ItemsLemmas.{certain_said}

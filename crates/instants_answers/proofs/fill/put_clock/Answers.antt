@@ -1,8 +1,8 @@
 use Rattle.std.proofs.Common.{◌≡◌, [], ◌∷◌, ◌++◌, take, refl, ap, ◌∙◌}
 use Rattle.std.proofs.lemmas.List.{take_at}
 use Rattle.base.specs.Bytes.{dot}
-use Rattle.parsing_fields.specs.Decimal.{decimal}
-use Rattle.parsing_fields.proofs.lemmas.Decimals.{decimal_length}
+use Rattle.parsing_values.specs.Decimal.{decimal}
+use Rattle.parsing_values.proofs.lemmas.Decimals.{decimal_length}
 use Rattle.instants_answers.specs.Minute.{minute_text}
 use Rattle.instants_answers.proofs.MinuteLemmas.{minute_length}
 use Rattle.instants_answers.proofs.MovedLemmas.{clock_text}

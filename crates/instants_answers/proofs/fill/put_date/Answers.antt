@@ -1,6 +1,6 @@
 use Rattle.std.proofs.Common.{◌≡◌, [], ◌++◌, codes, take, refl, ◌∙◌, length-append, append_assoc, arith}
-use Rattle.parsing_fields.specs.Decimal.{decimal}
-use Rattle.parsing_fields.proofs.lemmas.Decimals.{decimal_length}
+use Rattle.parsing_values.specs.Decimal.{decimal}
+use Rattle.parsing_values.proofs.lemmas.Decimals.{decimal_length}
 use Rattle.instants_answers.specs.Text.{date_text}
 use Rattle.instants_answers.proofs.FillLemmas.{after_text}
 use Rattle.instants_answers.proofs.fill.put_date.Goals as goal

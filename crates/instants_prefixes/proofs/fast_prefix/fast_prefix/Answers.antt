@@ -1,6 +1,6 @@
 use Rattle.std.proofs.Common.{take}
 use Rattle.std.proofs.lemmas.List.{take_rest}
-use Rattle.parsing_fields.specs.Moment.{moment_of}
+use Rattle.parsing_values.specs.Moment.{moment_of}
 use Rattle.instants_prefixes.proofs.FastPrefix.{named_prefix}
 use Rattle.instants_prefixes.proofs.fast_prefix.fast_prefix.Goals as goal
 

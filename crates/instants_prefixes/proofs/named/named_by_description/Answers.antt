@@ -3,7 +3,7 @@ use Rattle.datetime_wall.specs.Wall.{Shown}
 use Rattle.description.specs.declared.described.Description.{Description}
 use Rattle.description_items.specs.declared.item.BorrowedFormatItem.{BorrowedFormatItem}
 use Rattle.description_items.specs.Tree.{trees}
-use Rattle.parsing_fields.specs.Moment.{moment_of}
+use Rattle.parsing_values.specs.Moment.{moment_of}
 use Rattle.parsing_record.specs.Meaning.{Meaning}
 use Rattle.parsing_record.specs.Record.{empty}
 use Rattle.instants_sources.specs.Grammar.{written, Items}

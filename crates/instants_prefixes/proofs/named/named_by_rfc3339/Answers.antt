@@ -1,7 +1,7 @@
 use Rattle.std.proofs.Common.{false, Some, sym, ap, ◌∙◌}
 use Rattle.std.specs.Char.{is_ascii_digit}
 use Rattle.datetime_wall.specs.Wall.{Shown}
-use Rattle.parsing_fields.specs.Moment.{moment_of}
+use Rattle.parsing_values.specs.Moment.{moment_of}
 use Rattle.parsing_parsable.specs.Staged.{reads_rfc3339}
 use Rattle.instants_prefixes.specs.Named.{kept_if}
 use Rattle.instants_prefixes.proofs.ReadPrefixes.{no_digit, rfc3339_prefix, named_whatever}

@@ -7,8 +7,8 @@ use Rattle.parsing_combinator.specs.Places.{HasDigit, HasPair}
 use Rattle.parsing_combinator.proofs.Decimal.{digit_here, digit_count_within}
 use Rattle.parsing_combinator.proofs.AtPlaces.{four_there}
 use Rattle.parsing_combinator.proofs.FractionDigits.{digits_read}
-use Rattle.parsing_fields.specs.Decimal.{decimal}
-use Rattle.parsing_fields.proofs.lemmas.Decimals.{decimal_count, decimal_value}
+use Rattle.parsing_values.specs.Decimal.{decimal}
+use Rattle.parsing_values.proofs.lemmas.Decimals.{decimal_count, decimal_value}
 use Rattle.parsing_iso8601_shapes.proofs.calendar_days.pairs_of.Goals as goal
 
 digit_in : (bytes : List ℕ) (k : ℕ) → k < digit_count bytes → HasDigit bytes k

@@ -1,4 +1,4 @@
-use Rattle.parsing_fields.proofs.lemmas.Moments.{of_fields}
+use Rattle.parsing_values.proofs.lemmas.Moments.{of_fields}
 use Rattle.parsing_rfc2822_shapes.proofs.fields.read_other_fields.Goals as goal
 
 pub returns : goal.returns

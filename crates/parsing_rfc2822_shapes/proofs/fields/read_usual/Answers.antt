@@ -1,5 +1,5 @@
 use Rattle.std.proofs.Common.{refl, inl, inr, arith}
-use Rattle.parsing_fields.proofs.lemmas.Moments.{of_fields}
+use Rattle.parsing_values.proofs.lemmas.Moments.{of_fields}
 use Rattle.parsing_rfc2822_shapes.specs.Layout.{usual_parts}
 use Rattle.parsing_rfc2822_shapes.proofs.SaysLemmas.{usual_read, ended}
 use Rattle.parsing_rfc2822_shapes.proofs.fields.read_usual.Goals as goal

@@ -1,6 +1,6 @@
 use Rattle.std.proofs.Common.{arith}
 use Rattle.std.proofs.lemmas.List.{take_rest}
-use Rattle.parsing_fields.proofs.lemmas.Moments.{of_fields}
+use Rattle.parsing_values.proofs.lemmas.Moments.{of_fields}
 use Rattle.parsing_rfc2822_shapes.proofs.FrontLemmas.{begins_after}
 use Rattle.parsing_rfc2822_shapes.proofs.fields.read_usual_fields.Goals as goal
 

@@ -1,6 +1,6 @@
 use Rattle.std.proofs.Common.{refl, inl, inr}
 use Rattle.std.proofs.lemmas.List.{take_rest}
-use Rattle.parsing_fields.proofs.lemmas.Moments.{of_fields}
+use Rattle.parsing_values.proofs.lemmas.Moments.{of_fields}
 use Rattle.parsing_rfc2822_shapes.specs.Layout.{second_parts}
 use Rattle.parsing_rfc2822_shapes.proofs.SaysLemmas.{second_zone_read}
 use Rattle.parsing_rfc2822_shapes.proofs.fields.read_with_name.Goals as goal

@@ -1,6 +1,6 @@
 use Rattle.std.proofs.Common.{◌≡◌, Some, sym, ap, subst, ◌∙◌}
 use Rattle.description.specs.declared.described.Description.{Description}
-use Rattle.parsing_fields.specs.Moment.{moment_of}
+use Rattle.parsing_values.specs.Moment.{moment_of}
 use Rattle.instants_sources.specs.Grammar.{Grammar, Described, written}
 use Rattle.instants_prefixes.specs.Contents.{AreContents}
 use Rattle.instants_prefixes.specs.DateSource.{grammar_in, IsWithin}

@@ -1,4 +1,4 @@
-use Rattle.parsing_fields.specs.DigitsBack.{digits_below}
+use Rattle.parsing_values.specs.DigitsBack.{digits_below}
 use Rattle.parsing_places.proofs.LastLemmas.{nine_there, fraction_there}
 use Rattle.parsing_places.proofs.last.calls.fraction_of.Goals as goal
 

@@ -1,8 +1,0 @@
-pub mod lemmas
-mod DigitLemmas
-mod DigitPairs
-mod DigitsBefore
-mod MonthLengths
-mod OffsetMinutes
-mod UnixTime
-mod YearLemmas
