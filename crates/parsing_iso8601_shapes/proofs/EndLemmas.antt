@@ -18,9 +18,9 @@ use Rattle.parsing_iso8601.specs.declared.kind.Kind.TheVariants.{Extended}
 use Rattle.parsing_iso8601.proofs.Pieces.{no_byte}
 use Rattle.parsing_iso8601.proofs.Rounding.{long_rounded}
 use Rattle.parsing_layout.specs.Layout.{Values, Says, exact_fraction}
-use Rattle.parsing_layout.specs.Moment.{HasOffset}
-use Rattle.parsing_layout.specs.Numbers.{second_if}
-use Rattle.parsing_layout.specs.Tail.{fraction_parts, zone_parts}
+use Rattle.parsing_shapes.specs.Moment.{HasOffset}
+use Rattle.parsing_shapes.specs.Numbers.{second_if}
+use Rattle.parsing_shapes.specs.Tail.{fraction_parts, zone_parts}
 use Rattle.parsing_layout.specs.declared.parts.Field.TheVariants as field
 use Rattle.parsing_layout.proofs.PieceLemmas.{byte_is, literal_said, exact_said, fraction_read, SignIs, sign_is}
 use Rattle.parsing_places.specs.Tail.{is_written, is_zulu}

@@ -5,9 +5,9 @@ use Rattle.std.proofs.lemmas.Bool.{agree_below, agree_below_at}
 use Rattle.std.proofs.lemmas.Bool.Decides.{nat_tests}
 use Rattle.parsing_places.specs.Lanes.{are_moves}
 use Rattle.parsing_places.specs.declared.windows.Windows.{Windows}
-use Rattle.parsing_layout.specs.Shape.{fits}
-use Rattle.parsing_layout.specs.Windows.{lets_year, are_bounded}
-use Rattle.parsing_layout.specs.declared.shape.Shape.{Shape}
+use Rattle.parsing_shapes.specs.Shape.{fits}
+use Rattle.parsing_shapes.specs.Windows.{lets_year, are_bounded}
+use Rattle.parsing_shapes.specs.declared.shape.Shape.{Shape}
 use Rattle.parsing_iso8601_shapes.specs.Layout.{front_parts, row_of}
 use Rattle.parsing_iso8601_shapes.specs.declared.form.Dating.TheVariants.{Calendar}
 use Rattle.parsing_iso8601_shapes.specs.declared.forms.Row.{Row}

@@ -7,9 +7,9 @@ use Rattle.parsing_values.specs.declared.fields.Fields.{Fields}
 use Rattle.parsing_iso8601.specs.Fractions.{next_if}
 use Rattle.parsing_iso8601.specs.Moment.{IsOfOffset}
 use Rattle.parsing_layout.specs.Layout.{Says, length_of}
-use Rattle.parsing_layout.specs.Numbers.{SaysNumbers, second_if}
-use Rattle.parsing_layout.specs.Tail.{fraction_parts, zone_parts}
-use Rattle.parsing_layout.specs.declared.numbers.Numbers.{Numbers}
+use Rattle.parsing_shapes.specs.Numbers.{SaysNumbers, second_if}
+use Rattle.parsing_shapes.specs.Tail.{fraction_parts, zone_parts}
+use Rattle.parsing_shapes.specs.declared.numbers.Numbers.{Numbers}
 use Rattle.parsing_layout.specs.declared.parts.Field.TheVariants as field
 use Rattle.parsing_layout.proofs.LayoutLemmas.{says_first}
 use Rattle.parsing_places.specs.Tail.{is_zulu}

@@ -4,7 +4,7 @@ use Rattle.base.specs.Bytes.{hyphen, colon}
 use Rattle.calendar_count.specs.Calendar.{IsDay}
 use Rattle.parsing_values.specs.Numbers.{HaveNumbers}
 use Rattle.parsing_values.specs.declared.fields.Fields.{Fields}
-use Rattle.parsing_layout.specs.declared.numbers.Numbers.{Numbers}
+use Rattle.parsing_shapes.specs.declared.numbers.Numbers.{Numbers}
 use Rattle.parsing_layout.specs.declared.parts.Part.{Part}
 use Rattle.parsing_layout.specs.declared.parts.Field.TheVariants as field
 use Rattle.parsing_layout.specs.declared.parts.Part.TheVariants.{Byte, Digits}

@@ -1,7 +1,7 @@
 //! How the parts of a text stand in it.
 ghost use Rattle.std.specs.Prelude.{◌≡◌, true, false};
 
-use parsing_layout::Shape;
+use parsing_shapes::Shape;
 
 /// What names the day of a date after its year.
 #[derive(Clone, Copy)]

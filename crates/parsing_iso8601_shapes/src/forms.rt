@@ -1,11 +1,11 @@
 //! The forms of usual texts.
 ghost use Rattle.std.specs.Prelude.{◌≡◌, ◌<◌, ◌≤◌, length, true};
-ghost use Rattle.parsing_layout.specs.Shape.{fits};
+ghost use Rattle.parsing_shapes.specs.Shape.{fits};
 ghost use Rattle.parsing_iso8601_shapes.specs.Layout as Layout;
 ghost use Rattle.parsing_iso8601_shapes.specs.Layout.{front_parts};
 
 use crate::form::{Dating, Form};
-use parsing_layout::Shape;
+use parsing_shapes::Shape;
 use parsing_places::{LANES, Moves, Window, Windows};
 
 // Where the parts of a text stand, with two windows of sixteen bytes: the first ones, and those from `back.at` on.

@@ -1,7 +1,7 @@
 //! The moment that a text names.
 ghost use Rattle.std.specs.Prelude.{◌≡◌, ◌<◌, IfSome, true};
 ghost use Rattle.parsing_values.specs.Moment.{moment_of};
-ghost use Rattle.parsing_layout.specs.Shape.{fits};
+ghost use Rattle.parsing_shapes.specs.Shape.{fits};
 ghost use Rattle.parsing_iso8601_shapes.specs.Layout.{AreDated, front_parts};
 ghost use Rattle.parsing_iso8601.specs.Fractions.{next_if};
 ghost use Rattle.parsing_iso8601.specs.Moment.{IsOfOffset};
@@ -10,7 +10,7 @@ use crate::calendar_days::{of_weeks, of_year};
 use crate::form::{Dating, Form};
 use crate::forms::{form_at, form_of};
 use parsing_values::{Fields, Fraction};
-use parsing_layout::{Numbers, read_long_numbers, read_numbers};
+use parsing_shapes::{Numbers, read_long_numbers, read_numbers};
 use parsing_places::LANES;
 use parsing_values::OffsetDateTime;
 

@@ -1,17 +1,7 @@
 pub mod Layout
-pub mod Moment
-pub mod Numbers
-pub mod Shape
-pub mod Tail
-pub mod Windows
 pub mod Stretch
 pub mod Bounds
-pub mod Named
 pub mod Items
 pub mod Said
 pub mod Range
 pub mod Letters
-pub mod Beside
-pub mod Front
-pub mod End
-pub mod Sums

@@ -15,20 +15,20 @@ use Rattle.parsing_values.specs.declared.fields.Fields.{Fields}
 use Rattle.parsing_item_parts.specs.Recorded.{recorded, said_or}
 use Rattle.parsing_item_parts.proofs.MomentLemmas.{hour_said, moment_said, offset_assumed, offset_said}
 use Rattle.parsing_item_parts.proofs.SaidLemmas.{SayDay}
-use Rattle.parsing_layout.specs.Beside.{IsFraction, ReadAt}
-use Rattle.parsing_layout.specs.Front.{fits_beside}
+use Rattle.parsing_shapes.specs.Beside.{IsFraction, ReadAt}
+use Rattle.parsing_shapes.specs.Front.{fits_beside}
 use Rattle.parsing_layout.specs.Layout.{Values, Says}
 use Rattle.parsing_layout.specs.declared.parts.Part.{Part}
 use Rattle.parsing_layout.specs.Range.{AreInRange}
 use Rattle.parsing_layout.specs.Said.{Said}
-use Rattle.parsing_layout.specs.Sums.{AreSums}
-use Rattle.parsing_layout.specs.declared.front.Beside.{Beside}
+use Rattle.parsing_shapes.specs.Sums.{AreSums}
+use Rattle.parsing_shapes.specs.declared.front.Beside.{Beside}
 use Rattle.parsing_layout.specs.declared.parts.Field.TheVariants as field
 use Rattle.parsing_layout.specs.declared.parts.Part.TheVariants as part
-use Rattle.parsing_layout.specs.declared.shape.Shape.{Shape}
-use Rattle.parsing_layout.proofs.FrontLemmas.{front_says, front_values}
-use Rattle.parsing_layout.proofs.MomentLemmas.{signed_said}
-use Rattle.parsing_layout.proofs.TailLemmas.{exact_there}
+use Rattle.parsing_shapes.specs.declared.shape.Shape.{Shape}
+use Rattle.parsing_shapes.proofs.FrontLemmas.{front_says, front_values}
+use Rattle.parsing_shapes.proofs.MomentLemmas.{signed_said}
+use Rattle.parsing_shapes.proofs.TailLemmas.{exact_there}
 use Rattle.parsing_plan.specs.Fields.{AreFieldsOf, IsOffset}
 use Rattle.parsing_plan.specs.Parts.{SayMoment}
 use Rattle.parsing_plan.specs.declared.places.Back.{Back}

@@ -9,16 +9,16 @@ use Rattle.parsing_values.specs.Written.{WriteFraction}
 use Rattle.parsing_values.specs.declared.fields.Fields.{Fields}
 use Rattle.parsing_item_parts.specs.Items.{parts_kept}
 use Rattle.parsing_item_parts.proofs.ReadingLemmas.{prefix_named}
-use Rattle.parsing_layout.specs.Moment.{AreTaken}
+use Rattle.parsing_shapes.specs.Moment.{AreTaken}
 use Rattle.parsing_layout.specs.Said.{fields_of}
-use Rattle.parsing_layout.specs.Sums.{AreSums}
+use Rattle.parsing_shapes.specs.Sums.{AreSums}
 use Rattle.parsing_plan.specs.Fields.{AreFieldsOf}
 use Rattle.parsing_plan.specs.Places.{ArePlacesOf}
 use Rattle.parsing_plan.specs.declared.places.Back.{Back}
 use Rattle.parsing_plan.specs.declared.places.Places.{Places}
 use Rattle.parsing_plan.proofs.FieldLemmas.{values, front_said, in_range, names_moment, neither}
-use Rattle.parsing_layout.specs.declared.front.Beside.{Beside}
-use Rattle.parsing_layout.proofs.WindowLemmas.{both, is_not}
+use Rattle.parsing_shapes.specs.declared.front.Beside.{Beside}
+use Rattle.parsing_layout.proofs.TestLemmas.{both, is_not}
 use Rattle.parsing_plan.specs.Parts.{is_plain}
 use Rattle.parsing_plan.proofs.SplitLemmas.{no_place, split_said, sums}
 

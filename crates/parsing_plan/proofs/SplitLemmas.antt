@@ -13,18 +13,18 @@ use Rattle.parsing_values.specs.Written.{WriteFraction}
 use Rattle.parsing_values.specs.declared.fields.Fields.{Fields}
 use Rattle.parsing_layout.specs.Layout.{Says, length_of}
 use Rattle.parsing_layout.specs.declared.parts.Part.{Part}
-use Rattle.parsing_layout.specs.End.{begins_apart, fits_end, is_end_bounded, spares_clock}
-use Rattle.parsing_layout.specs.Front.{fits_beside}
-use Rattle.parsing_layout.specs.Moment.{AreTaken}
-use Rattle.parsing_layout.specs.Sums.{AreSums}
-use Rattle.parsing_layout.specs.Tail.{IsEnd}
-use Rattle.parsing_layout.specs.declared.front.Front.{Front}
+use Rattle.parsing_shapes.specs.End.{begins_apart, fits_end, is_end_bounded, spares_clock}
+use Rattle.parsing_shapes.specs.Front.{fits_beside}
+use Rattle.parsing_shapes.specs.Moment.{AreTaken}
+use Rattle.parsing_shapes.specs.Sums.{AreSums}
+use Rattle.parsing_shapes.specs.Tail.{IsEnd}
+use Rattle.parsing_shapes.specs.declared.front.Front.{Front}
 use Rattle.parsing_layout.specs.declared.parts.Part.TheVariants as part
-use Rattle.parsing_layout.specs.declared.shape.Shape.{Shape}
-use Rattle.parsing_layout.proofs.EndLemmas.{end_fits, end_is, none_at, none_first}
+use Rattle.parsing_shapes.specs.declared.shape.Shape.{Shape}
+use Rattle.parsing_shapes.proofs.EndLemmas.{end_fits, end_is, none_at, none_first}
 use Rattle.parsing_layout.proofs.LayoutLemmas.{says_both}
-use Rattle.parsing_layout.proofs.MomentLemmas.{are_few, end_lane, own_lane}
-use Rattle.parsing_layout.proofs.TailLemmas.{end_says}
+use Rattle.parsing_shapes.proofs.MomentLemmas.{are_few, end_lane, own_lane}
+use Rattle.parsing_shapes.proofs.TailLemmas.{end_says}
 use Rattle.parsing_places.specs.declared.last.LastBytes.{LastBytes}
 use Rattle.parsing_places.specs.declared.shape.Window.{Window}
 use Rattle.parsing_plan.specs.Fields.{AreFieldsOf}

@@ -5,9 +5,9 @@ use Rattle.parsing_components.specs.Prefix.{beginning}
 use Rattle.parsing_components.specs.Whole.{offset_named}
 use Rattle.parsing_values.specs.Numbers.{HaveNumbers}
 use Rattle.parsing_values.specs.declared.fields.Fields.{Fields}
-use Rattle.parsing_layout.specs.Beside.{AreRead, IsFraction}
-use Rattle.parsing_layout.specs.declared.front.Beside.{Beside}
-use Rattle.parsing_layout.specs.declared.shape.Shape.{Shape}
+use Rattle.parsing_shapes.specs.Beside.{AreRead, IsFraction}
+use Rattle.parsing_shapes.specs.declared.front.Beside.{Beside}
+use Rattle.parsing_shapes.specs.declared.shape.Shape.{Shape}
 use Rattle.parsing_values.specs.Resolution.{signed_offset_of}
 
 -- minutes are those of sums with a sign, or the offset that is assumed

@@ -1,11 +1,11 @@
 -- What parts have to say, and where they stand, for a line to be read by places.
 use Rattle.std.specs.Prelude.{◌≡◌, ◌≤◌, ◌&&◌, ◌||◌, ◌∷◌, ◌+◌, ℕ, Bool, true, false, not, List, take, drop, Option, is_some}
-use Rattle.parsing_layout.specs.Front.{fits_beside}
-use Rattle.parsing_layout.specs.End.{begins_apart, fits_end, is_end_bounded, spares_clock}
+use Rattle.parsing_shapes.specs.Front.{fits_beside}
+use Rattle.parsing_shapes.specs.End.{begins_apart, fits_end, is_end_bounded, spares_clock}
 use Rattle.parsing_layout.specs.Layout.{length_of}
 use Rattle.parsing_layout.specs.Said.{Said}
-use Rattle.parsing_layout.specs.declared.front.Beside.{Beside}
-use Rattle.parsing_layout.specs.declared.front.Front.{Front}
+use Rattle.parsing_shapes.specs.declared.front.Beside.{Beside}
+use Rattle.parsing_shapes.specs.declared.front.Front.{Front}
 use Rattle.parsing_layout.specs.declared.parts.Part.{Part}
 use Rattle.parsing_layout.specs.declared.parts.Field.TheVariants as field
 use Rattle.parsing_layout.specs.declared.parts.Part.TheVariants as part

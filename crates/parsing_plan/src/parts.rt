@@ -1,7 +1,7 @@
 //! What is read beside lanes.
 ghost use Rattle.std.specs.Prelude.{◌≡◌, ◌≤◌, ◌<◌, ◌+◌, ◌-◌, ◌/◌, ◌%◌, ℤ, Option, Some, get_or, length, true, unsigned_abs, IfSome, IsSome};
 ghost use Rattle.std.specs.Option.{ForSome};
-ghost use Rattle.parsing_layout.specs.Beside.{HasSpaced, IsFraction, ReadAt, is_ready};
+ghost use Rattle.parsing_shapes.specs.Beside.{HasSpaced, IsFraction, ReadAt, is_ready};
 ghost use Rattle.parsing_layout.specs.declared.parts.Field.TheVariants as field;
 ghost use Rattle.parsing_layout.specs.declared.parts.Names.TheVariants as names;
 ghost use Rattle.parsing_layout.specs.declared.parts.Part.TheVariants as part;
@@ -10,7 +10,8 @@ ghost use Rattle.parsing_plan.specs.Fields.{IsOffset};
 use calendar::UtcOffset;
 use parsing_components::assumed_minutes;
 use parsing_values::Fraction;
-use parsing_layout::{Beside, Shape, month_name_at, weekday_name_at};
+use parsing_layout::{month_name_at, weekday_name_at};
+use parsing_shapes::{Beside, Shape};
 use parsing_places::signed;
 
 /// The number of the weekday, where there is one, and else any number.

@@ -2,14 +2,14 @@
 ghost use Rattle.std.specs.Prelude.{◌≡◌, ◌<◌, ◌≤◌, true, false, None};
 ghost use Rattle.std.specs.Option.{ForNone, ForSome};
 ghost use Rattle.parsing_item_parts.specs.Items.{parts_kept};
-ghost use Rattle.parsing_layout.specs.Front.{fits_beside};
+ghost use Rattle.parsing_shapes.specs.Front.{fits_beside};
 ghost use Rattle.parsing_layout.specs.Said.{fields_of};
 ghost use Rattle.parsing_plan.specs.Parts.{IsPlain, IsSplit, SayMoment};
 
 mod calls;
 
 use parsing_item_parts::Parts;
-use parsing_layout::Front;
+use parsing_shapes::Front;
 use parsing_places::LastBytes;
 
 /// What follows a fraction of a second of any number of digits.

@@ -6,8 +6,8 @@ ghost use Rattle.parsing_components.specs.Meaning.{Meaning};
 ghost use Rattle.parsing_components.specs.Prefix.{NamesPrefix, beginning};
 ghost use Rattle.parsing_components.specs.Whole.{whole};
 ghost use Rattle.parsing_values.specs.Moment.{moment_of};
-ghost use Rattle.parsing_layout.specs.Beside.{is_ready};
-ghost use Rattle.parsing_layout.specs.Sums.{AreSums};
+ghost use Rattle.parsing_shapes.specs.Beside.{is_ready};
+ghost use Rattle.parsing_shapes.specs.Sums.{AreSums};
 ghost use Rattle.parsing_plan.specs.Fields.{AreFieldsOf};
 ghost use Rattle.parsing_plan.specs.Parts.{is_plain};
 ghost use Rattle.parsing_item_parts.specs.Listed.{NamesWhole};
@@ -17,7 +17,7 @@ use crate::parts::{day_of, fraction_of, month_of, offset_of, weekday_of};
 use crate::places::{Back, NEVER, Places};
 use calendar::UtcOffset;
 use parsing_values::{Fields, Fraction, Year, has_day};
-use parsing_layout::{Beside, Shape, Sums, split_sums_of, sums_of};
+use parsing_shapes::{Beside, Shape, Sums, split_sums_of, sums_of};
 use parsing_places::LANES;
 
 // The most digits of a fraction.

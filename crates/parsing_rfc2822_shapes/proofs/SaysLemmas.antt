@@ -25,7 +25,7 @@ use Rattle.parsing_values.specs.Moment.{day_of_fields, time_of_fields}
 use Rattle.parsing_values.specs.Numbers.{HaveNumbers}
 use Rattle.parsing_values.proofs.lemmas.Moments.{fields_date, fields_time, moment_is}
 use Rattle.parsing_layout.specs.Layout.{Values, Says}
-use Rattle.parsing_layout.specs.Named.{SaysNamed}
+use Rattle.parsing_shapes.specs.Named.{SaysNamed}
 use Rattle.parsing_layout.specs.declared.parts.Part.{Part}
 use Rattle.parsing_layout.specs.declared.parts.Field.TheVariants as field
 use Rattle.parsing_layout.specs.declared.parts.Part.TheVariants as part

@@ -7,12 +7,12 @@ use Rattle.parsing_values.specs.Numbers.{HaveNumbers}
 use Rattle.parsing_values.specs.declared.fields.Fields.{Fields}
 use Rattle.parsing_values.specs.Resolution.{signed_offset_of}
 use Rattle.parsing_values.specs.Moment.{moment_of}
-use Rattle.parsing_layout.specs.Named.{SaysNamed}
-use Rattle.parsing_layout.specs.Windows.{spares_two}
+use Rattle.parsing_shapes.specs.Named.{SaysNamed}
+use Rattle.parsing_shapes.specs.Windows.{spares_two}
 use Rattle.parsing_layout.specs.declared.parts.Part.{Part}
 use Rattle.parsing_layout.specs.declared.parts.Field.TheVariants as field
 use Rattle.parsing_layout.specs.declared.parts.Part.TheVariants.{Byte, Any, Digits, Sign}
-use Rattle.parsing_layout.specs.declared.shape.Shape.{Shape}
+use Rattle.parsing_shapes.specs.declared.shape.Shape.{Shape}
 use Rattle.parsing_rfc2822.specs.Direct.{direct}
 use Rattle.parsing_rfc2822.specs.Reading.{one_or_two_digits, day, spaced_zone}
 use Rattle.parsing_rfc2822_shapes.specs.Names.{HasMonth}

@@ -7,7 +7,7 @@ ghost use Rattle.std.specs.Prelude.{◌≡◌, ◌≤◌, ◌+◌, ◌⊎◌, if
 ghost use Rattle.parsing_values.specs.Moment.{moment_of};
 ghost use Rattle.parsing_values.specs.Numbers.{HaveNumbers};
 ghost use Rattle.parsing_layout.specs.declared.parts.Part.{Part};
-ghost use Rattle.parsing_layout.specs.Shape.{fits};
+ghost use Rattle.parsing_shapes.specs.Shape.{fits};
 ghost use Rattle.parsing_rfc2822.specs.Direct.{direct};
 ghost use Rattle.parsing_rfc2822.specs.Skips as Skips;
 ghost use Rattle.parsing_rfc2822.specs.WhiteSpace as White;
@@ -21,7 +21,7 @@ use crate::shape::{
 };
 use parsing_combinator::two_digits as digit_pair;
 use parsing_values::{Fields, Year, has_day, offset_minutes};
-use parsing_layout::{Shape, read_named_moment};
+use parsing_shapes::{Shape, read_named_moment};
 use parsing_rfc2822::{is_plain_comment, past_spacing, zone_of};
 use parsing_values::OffsetDateTime;
 

@@ -1,6 +1,6 @@
 //! Where lanes take the parts of a text from its day on.
 
-use parsing_layout::Shape;
+use parsing_shapes::Shape;
 use parsing_places::{Moves, Window, Windows};
 
 // Lanes that take a day of two digits.

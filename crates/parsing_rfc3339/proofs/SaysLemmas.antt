@@ -13,8 +13,8 @@ use Rattle.parsing_values.specs.declared.fields.Fields.{Fields}
 use Rattle.parsing_values.specs.Moment as Moment
 use Rattle.parsing_layout.specs.Layout.{Values, Says}
 use Rattle.parsing_layout.specs.declared.parts.Part.{Part}
-use Rattle.parsing_layout.specs.Moment.{HasOffset, SaysTailed}
-use Rattle.parsing_layout.specs.Tail.{fraction_parts, zone_parts, small_parts}
+use Rattle.parsing_shapes.specs.Moment.{HasOffset, SaysTailed}
+use Rattle.parsing_shapes.specs.Tail.{fraction_parts, zone_parts, small_parts}
 use Rattle.parsing_layout.specs.declared.parts.Field.TheVariants as field
 use Rattle.parsing_layout.specs.declared.parts.Part.TheVariants as part
 use Rattle.parsing_layout.proofs.LayoutLemmas.{says_first}

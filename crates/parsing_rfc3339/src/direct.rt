@@ -12,7 +12,7 @@ use crate::reading::parse_prefix;
 use crate::shape::shape;
 use parsing_combinator::{Parse, ParseFromDescription, four_digits};
 use parsing_values::Fields;
-use parsing_layout::{read_long_moment, read_moment, read_small_moment};
+use parsing_shapes::{read_long_moment, read_moment, read_small_moment};
 use parsing_values::{OffsetDateTime, leap_checked, resolve};
 
 // The moment of the numbers that a text has, with what follows them.

@@ -7,7 +7,7 @@ use Rattle.parsing_combinator.specs.Shape.{is_sign}
 use Rattle.parsing_combinator.proofs.AtPlaces.{at_least, byte_there, first_at, is_digit, sign_there}
 use Rattle.parsing_combinator.proofs.Fixed.{digits_one}
 use Rattle.parsing_layout.specs.Layout.{as_number}
-use Rattle.parsing_layout.proofs.WindowLemmas.{both, one, at_most, same}
+use Rattle.parsing_layout.proofs.TestLemmas.{both, one, at_most, same}
 use Rattle.parsing_places.specs.Lanes.{above}
 use Rattle.parsing_strides.specs.Places.{lets, lets_year}
 

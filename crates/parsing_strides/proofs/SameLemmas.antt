@@ -13,7 +13,7 @@ use Rattle.parsing_layout.specs.contracts.parts.Names.{the_type as names_type}
 use Rattle.parsing_layout.specs.contracts.parts.FieldPartialEq.TheImpl as field_equality
 use Rattle.parsing_layout.specs.contracts.parts.NamesPartialEq.TheImpl as names_equality
 use Rattle.parsing_layout.specs.contracts.parts.PartPartialEq.TheImpl as part_equality
-use Rattle.parsing_layout.proofs.WindowLemmas.{both, same}
+use Rattle.parsing_layout.proofs.TestLemmas.{both, same}
 use Rattle.parsing_strides.specs.Strides.{read_fields, is_alone, is_optional}
 use Rattle.parsing_layout.specs.declared.items.Item.{Item}
 use Rattle.parsing_layout.specs.declared.items.Item.TheVariants as item

@@ -18,7 +18,7 @@ use Rattle.parsing_layout.specs.declared.parts.Part.TheVariants as part
 use Rattle.parsing_layout.specs.Said.{is_of, fields_of, says_again, are_apart}
 use Rattle.parsing_layout.specs.declared.parts.Field.TheVariants as field
 use Rattle.parsing_layout.proofs.ItemsLemmas.{said_certain, certain_items, certain_possible, both_say, both_possible}
-use Rattle.parsing_layout.proofs.WindowLemmas.{both, one, is_not, at_most}
+use Rattle.parsing_layout.proofs.TestLemmas.{both, one, is_not, at_most}
 use Rattle.parsing_strides.specs.Found.{values_in, SaysAsFound, SayItems, KeepOthers}
 use Rattle.parsing_strides.specs.Strides.{is_alone, is_optional, count_of, fits_step, fits_stride, are_made}
 use Rattle.parsing_strides.specs.declared.found.Found.{Found}

@@ -10,7 +10,7 @@ use Rattle.parsing_layout.specs.declared.parts.Part.{Part}
 use Rattle.parsing_layout.specs.Said.{place_of, fields_of, is_of}
 use Rattle.parsing_layout.specs.declared.parts.Field.TheVariants as field
 use Rattle.parsing_layout.specs.declared.parts.Part.TheVariants as part
-use Rattle.parsing_layout.proofs.WindowLemmas.{both, one, less, at_most, same}
+use Rattle.parsing_layout.proofs.TestLemmas.{both, one, less, at_most, same}
 use Rattle.parsing_places.specs.Lanes.{above}
 use Rattle.parsing_strides.specs.Found.{values_in, SaysAsFound, KeepOthers}
 use Rattle.parsing_strides.specs.Strides.{takes_two, takes_one, takes_lane, takes_digits, takes_part, takes_all, keeps, keep_others, read_fields, fits_stride}

@@ -10,7 +10,8 @@ ghost use Rattle.parsing_plan.specs.Places.{ArePlacesOf};
 use super::{Back, NEVER, Places};
 use parsing_components::Node;
 use parsing_item_parts::Parts;
-use parsing_layout::{Beside, Field, Front, Part, last_bytes_of, say};
+use parsing_layout::{Field, Part, say};
+use parsing_shapes::{Beside, Front, last_bytes_of};
 use parsing_places::LANES;
 
 // Whether parts say a day, an hour, a minute and a second.

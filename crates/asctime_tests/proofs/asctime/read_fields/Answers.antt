@@ -1,6 +1,6 @@
 use Rattle.std.proofs.Common.{◌≡◌, ◌≤◌, ◌∙◌, ℕ, List, [], ◌∷◌, length, map, refl, sym}
 use Rattle.parsing_values.proofs.lemmas.Moments.{of_fields}
-use Rattle.parsing_layout.proofs.WindowLemmas.{same}
+use Rattle.parsing_layout.proofs.TestLemmas.{same}
 use Rattle.parsing_layout.specs.declared.parts.Field.TheVariants as field
 use Rattle.parsing_layout.proofs.ItemsLemmas.{certain_said}
 use Rattle.parsing_layout.specs.declared.items.Item.TheVariants as item

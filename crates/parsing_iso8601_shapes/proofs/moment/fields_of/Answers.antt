@@ -2,7 +2,7 @@ use Rattle.std.proofs.Common.{◌≡◌, refl}
 use Rattle.parsing_values.specs.declared.fields.Fields.{Fields}
 use Rattle.parsing_values.specs.Numbers.{HaveNumbers}
 use Rattle.parsing_values.proofs.lemmas.Moments.{of_fields}
-use Rattle.parsing_layout.specs.declared.numbers.Numbers.{Numbers}
+use Rattle.parsing_shapes.specs.declared.numbers.Numbers.{Numbers}
 use Rattle.parsing_iso8601_shapes.specs.Layout.{AreDated}
 use Rattle.parsing_iso8601_shapes.specs.declared.form.Dating.{Dating}
 use Rattle.parsing_iso8601_shapes.specs.declared.form.Dating.TheVariants.{Calendar}

@@ -1,6 +1,6 @@
 use Rattle.std.proofs.Common.{true}
 use Rattle.parsing_iso8601_shapes.specs.Layout.{front_parts}
-use Rattle.parsing_layout.proofs.NumberLemmas.{long_as}
+use Rattle.parsing_shapes.proofs.NumberLemmas.{long_as}
 use Rattle.parsing_iso8601_shapes.proofs.EndLemmas.{may_be}
 use Rattle.parsing_iso8601_shapes.proofs.SaysLemmas.{long_directly}
 use Rattle.parsing_iso8601_shapes.proofs.moment.read_long_form.Goals as goal

@@ -1,5 +1,5 @@
 use Rattle.std.proofs.Common.{arith}
-use Rattle.parsing_layout.proofs.FrontLemmas.{month_room}
+use Rattle.parsing_shapes.proofs.FrontLemmas.{month_room}
 use Rattle.parsing_plan.proofs.parts.month_of.Goals as goal
 
 pub month_name_at-requires : goal.month_name_at-requires

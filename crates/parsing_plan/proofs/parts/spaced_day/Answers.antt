@@ -1,5 +1,5 @@
 use Rattle.std.proofs.Common.{arith, inl, inr}
-use Rattle.parsing_layout.proofs.FrontLemmas.{day_spaced}
+use Rattle.parsing_shapes.proofs.FrontLemmas.{day_spaced}
 use Rattle.parsing_plan.proofs.parts.spaced_day.Goals as goal
 
 pub returns : goal.returns

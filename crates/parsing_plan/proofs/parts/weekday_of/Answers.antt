@@ -1,5 +1,5 @@
 use Rattle.std.proofs.Common.{arith}
-use Rattle.parsing_layout.proofs.FrontLemmas.{weekday_room}
+use Rattle.parsing_shapes.proofs.FrontLemmas.{weekday_room}
 use Rattle.parsing_plan.proofs.parts.weekday_of.Goals as goal
 
 pub weekday_name_at-requires : goal.weekday_name_at-requires

@@ -1,7 +1,7 @@
 use Rattle.std.proofs.Common.{◌≡◌, refl, arith, to_z, of_z, w16}
 use Rattle.std.proofs.lemmas.Int.{ints}
-use Rattle.parsing_layout.proofs.FrontLemmas.{spaced_there}
-use Rattle.parsing_layout.proofs.WindowLemmas.{year_pairs}
+use Rattle.parsing_shapes.proofs.FrontLemmas.{spaced_there}
+use Rattle.parsing_shapes.proofs.WindowLemmas.{year_pairs}
 use Rattle.parsing_plan.proofs.read.fields_of.Goals as goal
 
 pub day_of-requires-clause-spaced : goal.day_of-requires-clause-spaced

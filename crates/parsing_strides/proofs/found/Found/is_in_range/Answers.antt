@@ -1,4 +1,4 @@
-use Rattle.parsing_layout.proofs.WindowLemmas.{at_most}
+use Rattle.parsing_layout.proofs.TestLemmas.{at_most}
 use Rattle.parsing_strides.proofs.RangeLemmas.{in_range}
 use Rattle.parsing_strides.proofs.found.Found.is_in_range.Goals as goal
 

@@ -1,9 +1,0 @@
-use Rattle.std.proofs.Common.{true}
-use Rattle.parsing_layout.specs.Tail.{small_parts}
-use Rattle.parsing_layout.proofs.NumberLemmas.{tailed}
-use Rattle.parsing_layout.proofs.moment.read_small_moment.Goals as goal
-
-pub returns : goal.returns
-returns c = λ front fits_front.
-    let x = c.in_ok-numbers.ensures front fits_front in
-    tailed front small_parts true x.0 c.args.text.now c.in_ok-numbers.numbers c.in_ok-fields.fields x.1 c.in_ok-fields.ensures
