@@ -60,7 +60,7 @@ MODULES = {
     "calendar::laws::durations": ("calendar_spans/src/laws.rt",),
     "calendar::laws::times": ("calendar_clock/src/laws.rt",),
     "datetime::laws": ("datetime/src/laws.rt",),
-    "description::modifier": ("description_date_modifiers/src", "description_time_modifiers/src"),
+    "description::modifier": ("description_modifiers/src",),
     "description::laws": ("description/src/laws.rt",),
     "description::strftime_laws": ("description_strftime/src/laws.rt",),
     "parsing::laws": ("parsing/src/laws.rt", "parsing_laws/src/node_laws.rt"),

@@ -7,7 +7,7 @@ ghost use Rattle.asctime_tests.specs.Asctime.{asctime, numbers, moment_of};
 
 use calendar::{Time, UtcOffset};
 use calendar_count::Month;
-use description_date_modifiers::Padding;
+use description_modifiers::Padding;
 use parsing_combinator::ParseFromDescription::{InvalidComponent, InvalidLiteral};
 use parsing_combinator::{
     Parse, ParseFromDescription, byte, four_digits, padded_two, short_month, short_weekday,

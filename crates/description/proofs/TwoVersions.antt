@@ -2,24 +2,24 @@
 use Rattle.std.proofs.Common.{◌≡◌, ℕ, List, [], ◌∷◌, Option, Some, None, Result, Ok, Err, Bool, true, false, not, cond, refl, sym, ap, subst, ◌∙◌, inl, inr}
 use Rattle.std.specs.Prelude.{codes, ◌&&◌, ◌||◌}
 use Rattle.std.specs.Option.{option_map, option_and_then, unwrap_or, is_some}
-use Rattle.description_time_modifiers.specs.Ignored.{ignored}
-use Rattle.description_time_modifiers.specs.declared.ignore.Ignore.{Ignore}
+use Rattle.description_modifiers.specs.Ignored.{ignored}
+use Rattle.description_modifiers.specs.declared.ignore.Ignore.{Ignore}
 use Rattle.std.specs.Str.{bytes_eq}
 use Rattle.std.proofs.lemmas.Bool.{cond-true}
-use Rattle.description_date_modifiers.specs.declared.choices.Padding.{Padding}
-use Rattle.description_date_modifiers.specs.declared.choices.Padding.TheVariants as padding
-use Rattle.description_date_modifiers.specs.declared.choices.MonthRepr.{MonthRepr}
-use Rattle.description_date_modifiers.specs.declared.choices.MonthRepr.TheVariants as month
-use Rattle.description_date_modifiers.specs.declared.choices.WeekdayRepr.{WeekdayRepr}
-use Rattle.description_date_modifiers.specs.declared.choices.WeekdayRepr.TheVariants as weekday
-use Rattle.description_date_modifiers.specs.declared.choices.WeekNumberRepr.{WeekNumberRepr}
-use Rattle.description_date_modifiers.specs.declared.choices.WeekNumberRepr.TheVariants as week
-use Rattle.description_date_modifiers.specs.declared.choices.YearRepr.{YearRepr}
-use Rattle.description_date_modifiers.specs.declared.choices.YearRepr.TheVariants as year
-use Rattle.description_date_modifiers.specs.declared.choices.YearRange.{YearRange}
-use Rattle.description_date_modifiers.specs.declared.choices.YearRange.TheVariants as range
-use Rattle.description_time_modifiers.specs.declared.choices.UnixTimestampPrecision.{UnixTimestampPrecision}
-use Rattle.description_time_modifiers.specs.declared.choices.UnixTimestampPrecision.TheVariants as unit
+use Rattle.description_modifiers.specs.declared.choices.Padding.{Padding}
+use Rattle.description_modifiers.specs.declared.choices.Padding.TheVariants as padding
+use Rattle.description_modifiers.specs.declared.choices.MonthRepr.{MonthRepr}
+use Rattle.description_modifiers.specs.declared.choices.MonthRepr.TheVariants as month
+use Rattle.description_modifiers.specs.declared.choices.WeekdayRepr.{WeekdayRepr}
+use Rattle.description_modifiers.specs.declared.choices.WeekdayRepr.TheVariants as weekday
+use Rattle.description_modifiers.specs.declared.choices.WeekNumberRepr.{WeekNumberRepr}
+use Rattle.description_modifiers.specs.declared.choices.WeekNumberRepr.TheVariants as week
+use Rattle.description_modifiers.specs.declared.choices.YearRepr.{YearRepr}
+use Rattle.description_modifiers.specs.declared.choices.YearRepr.TheVariants as year
+use Rattle.description_modifiers.specs.declared.choices.YearRange.{YearRange}
+use Rattle.description_modifiers.specs.declared.choices.YearRange.TheVariants as range
+use Rattle.description_modifiers.specs.declared.choices.UnixTimestampPrecision.{UnixTimestampPrecision}
+use Rattle.description_modifiers.specs.declared.choices.UnixTimestampPrecision.TheVariants as unit
 use Rattle.description_lexer.specs.Fault.{Fault, DuplicateModifier, InvalidModifierCombination, MissingRequiredModifier, InvalidComponentName}
 use Rattle.description_lexer.specs.Answer.{◌>>=◌}
 use Rattle.description_items.specs.declared.component.Component.{Component}

@@ -2,27 +2,27 @@
 use Rattle.std.proofs.Common.{◌≡◌, ℕ, ◌+◌, ◌≤◌, ◌<◌, List, [], ◌∷◌, ◌++◌, length, Option, Some, None, Ok, Err, Bool, true, false, cond, refl, sym, ap, subst, ◌∙◌, arith, inl, inr}
 use Rattle.std.specs.Prelude.{codes, ◌&&◌}
 use Rattle.std.specs.Option.{option_map, option_and_then}
-use Rattle.description_time_modifiers.specs.Ignored.{ignored}
-use Rattle.description_time_modifiers.specs.declared.ignore.Ignore.{Ignore}
+use Rattle.description_modifiers.specs.Ignored.{ignored}
+use Rattle.description_modifiers.specs.declared.ignore.Ignore.{Ignore}
 use Rattle.std.proofs.lemmas.List.{length-append}
 use Rattle.base.specs.Bytes.{colon, right_bracket}
 use Rattle.description_lexer.specs.Fault.{Fault, DuplicateModifier, MissingRequiredModifier, InvalidComponentName}
 use Rattle.description_lexer.specs.Answer.{◌>>=◌}
-use Rattle.description_date_modifiers.specs.declared.choices.Padding.{Padding}
-use Rattle.description_date_modifiers.specs.declared.choices.MonthRepr.{MonthRepr}
-use Rattle.description_date_modifiers.specs.declared.choices.MonthRepr.TheVariants as month
-use Rattle.description_date_modifiers.specs.declared.choices.WeekdayRepr.{WeekdayRepr}
-use Rattle.description_date_modifiers.specs.declared.choices.WeekdayRepr.TheVariants as weekday
-use Rattle.description_date_modifiers.specs.declared.choices.WeekNumberRepr.{WeekNumberRepr}
-use Rattle.description_date_modifiers.specs.declared.choices.WeekNumberRepr.TheVariants as week
-use Rattle.description_date_modifiers.specs.declared.choices.YearRepr.{YearRepr}
-use Rattle.description_date_modifiers.specs.declared.choices.YearRepr.TheVariants as year
-use Rattle.description_date_modifiers.specs.declared.choices.YearRange.{YearRange}
-use Rattle.description_date_modifiers.specs.declared.choices.YearRange.TheVariants as range
-use Rattle.description_time_modifiers.specs.declared.choices.SubsecondDigits.{SubsecondDigits}
-use Rattle.description_time_modifiers.specs.declared.choices.SubsecondDigits.TheVariants as digit
-use Rattle.description_time_modifiers.specs.declared.choices.UnixTimestampPrecision.{UnixTimestampPrecision}
-use Rattle.description_time_modifiers.specs.declared.choices.UnixTimestampPrecision.TheVariants as unit
+use Rattle.description_modifiers.specs.declared.choices.Padding.{Padding}
+use Rattle.description_modifiers.specs.declared.choices.MonthRepr.{MonthRepr}
+use Rattle.description_modifiers.specs.declared.choices.MonthRepr.TheVariants as month
+use Rattle.description_modifiers.specs.declared.choices.WeekdayRepr.{WeekdayRepr}
+use Rattle.description_modifiers.specs.declared.choices.WeekdayRepr.TheVariants as weekday
+use Rattle.description_modifiers.specs.declared.choices.WeekNumberRepr.{WeekNumberRepr}
+use Rattle.description_modifiers.specs.declared.choices.WeekNumberRepr.TheVariants as week
+use Rattle.description_modifiers.specs.declared.choices.YearRepr.{YearRepr}
+use Rattle.description_modifiers.specs.declared.choices.YearRepr.TheVariants as year
+use Rattle.description_modifiers.specs.declared.choices.YearRange.{YearRange}
+use Rattle.description_modifiers.specs.declared.choices.YearRange.TheVariants as range
+use Rattle.description_modifiers.specs.declared.choices.SubsecondDigits.{SubsecondDigits}
+use Rattle.description_modifiers.specs.declared.choices.SubsecondDigits.TheVariants as digit
+use Rattle.description_modifiers.specs.declared.choices.UnixTimestampPrecision.{UnixTimestampPrecision}
+use Rattle.description_modifiers.specs.declared.choices.UnixTimestampPrecision.TheVariants as unit
 use Rattle.description_items.specs.declared.component.Component.{Component}
 use Rattle.description_items.specs.declared.component.Component.TheVariants as component
 use Rattle.description_items.specs.Modern.{modern_month, modern_weekday, modern_week_number, modern_year, modern_hour, modern_timestamp}

@@ -2,34 +2,34 @@
 use Rattle.std.proofs.Common.{◌≡◌, ℕ, ◌<◌, Bool, true, false, refl, sym, ap, subst, true≢false}
 use Rattle.std.proofs.Math.Bool.{beq}
 use Rattle.std.proofs.Math.Bridge.{le_prop}
-use Rattle.description_date_modifiers.specs.declared.choices.Padding.{Padding}
-use Rattle.description_date_modifiers.specs.declared.choices.Padding.TheVariants as padding
-use Rattle.description_date_modifiers.specs.contracts.choices.PaddingPartialEq.TheImpl as padding_equality
-use Rattle.description_date_modifiers.specs.declared.choices.MonthRepr.{MonthRepr}
-use Rattle.description_date_modifiers.specs.declared.choices.MonthRepr.TheVariants as month_repr
-use Rattle.description_date_modifiers.specs.contracts.choices.MonthReprPartialEq.TheImpl as month_repr_equality
-use Rattle.description_date_modifiers.specs.declared.choices.WeekdayRepr.{WeekdayRepr}
-use Rattle.description_date_modifiers.specs.declared.choices.WeekdayRepr.TheVariants as weekday_repr
-use Rattle.description_date_modifiers.specs.contracts.choices.WeekdayReprPartialEq.TheImpl as weekday_repr_equality
-use Rattle.description_date_modifiers.specs.declared.choices.WeekNumberRepr.{WeekNumberRepr}
-use Rattle.description_date_modifiers.specs.declared.choices.WeekNumberRepr.TheVariants as week_number_repr
-use Rattle.description_date_modifiers.specs.contracts.choices.WeekNumberReprPartialEq.TheImpl as week_number_repr_equality
-use Rattle.description_date_modifiers.specs.declared.choices.YearRepr.{YearRepr}
-use Rattle.description_date_modifiers.specs.declared.choices.YearRepr.TheVariants as year_repr
-use Rattle.description_date_modifiers.specs.contracts.choices.YearReprPartialEq.TheImpl as year_repr_equality
-use Rattle.description_date_modifiers.specs.declared.choices.YearRange.{YearRange}
-use Rattle.description_date_modifiers.specs.declared.choices.YearRange.TheVariants as year_range
-use Rattle.description_date_modifiers.specs.contracts.choices.YearRangePartialEq.TheImpl as year_range_equality
-use Rattle.description_time_modifiers.specs.declared.choices.SubsecondDigits.{SubsecondDigits}
-use Rattle.description_time_modifiers.specs.declared.choices.SubsecondDigits.TheVariants as digits
-use Rattle.description_time_modifiers.specs.contracts.choices.SubsecondDigitsPartialEq.TheImpl as digits_equality
-use Rattle.description_time_modifiers.specs.declared.choices.UnixTimestampPrecision.{UnixTimestampPrecision}
-use Rattle.description_time_modifiers.specs.declared.choices.UnixTimestampPrecision.TheVariants as precision
-use Rattle.description_time_modifiers.specs.contracts.choices.UnixTimestampPrecisionPartialEq.TheImpl as precision_equality
-use Rattle.description_time_modifiers.specs.declared.choices.TrailingInput.{TrailingInput}
-use Rattle.description_time_modifiers.specs.declared.choices.TrailingInput.TheVariants as trailing_input
-use Rattle.description_time_modifiers.specs.contracts.choices.TrailingInputPartialEq.TheImpl as trailing_input_equality
-use Rattle.description_time_modifiers.specs.declared.ignore.Ignore.{Ignore}
+use Rattle.description_modifiers.specs.declared.choices.Padding.{Padding}
+use Rattle.description_modifiers.specs.declared.choices.Padding.TheVariants as padding
+use Rattle.description_modifiers.specs.contracts.choices.PaddingPartialEq.TheImpl as padding_equality
+use Rattle.description_modifiers.specs.declared.choices.MonthRepr.{MonthRepr}
+use Rattle.description_modifiers.specs.declared.choices.MonthRepr.TheVariants as month_repr
+use Rattle.description_modifiers.specs.contracts.choices.MonthReprPartialEq.TheImpl as month_repr_equality
+use Rattle.description_modifiers.specs.declared.choices.WeekdayRepr.{WeekdayRepr}
+use Rattle.description_modifiers.specs.declared.choices.WeekdayRepr.TheVariants as weekday_repr
+use Rattle.description_modifiers.specs.contracts.choices.WeekdayReprPartialEq.TheImpl as weekday_repr_equality
+use Rattle.description_modifiers.specs.declared.choices.WeekNumberRepr.{WeekNumberRepr}
+use Rattle.description_modifiers.specs.declared.choices.WeekNumberRepr.TheVariants as week_number_repr
+use Rattle.description_modifiers.specs.contracts.choices.WeekNumberReprPartialEq.TheImpl as week_number_repr_equality
+use Rattle.description_modifiers.specs.declared.choices.YearRepr.{YearRepr}
+use Rattle.description_modifiers.specs.declared.choices.YearRepr.TheVariants as year_repr
+use Rattle.description_modifiers.specs.contracts.choices.YearReprPartialEq.TheImpl as year_repr_equality
+use Rattle.description_modifiers.specs.declared.choices.YearRange.{YearRange}
+use Rattle.description_modifiers.specs.declared.choices.YearRange.TheVariants as year_range
+use Rattle.description_modifiers.specs.contracts.choices.YearRangePartialEq.TheImpl as year_range_equality
+use Rattle.description_modifiers.specs.declared.choices.SubsecondDigits.{SubsecondDigits}
+use Rattle.description_modifiers.specs.declared.choices.SubsecondDigits.TheVariants as digits
+use Rattle.description_modifiers.specs.contracts.choices.SubsecondDigitsPartialEq.TheImpl as digits_equality
+use Rattle.description_modifiers.specs.declared.choices.UnixTimestampPrecision.{UnixTimestampPrecision}
+use Rattle.description_modifiers.specs.declared.choices.UnixTimestampPrecision.TheVariants as precision
+use Rattle.description_modifiers.specs.contracts.choices.UnixTimestampPrecisionPartialEq.TheImpl as precision_equality
+use Rattle.description_modifiers.specs.declared.choices.TrailingInput.{TrailingInput}
+use Rattle.description_modifiers.specs.declared.choices.TrailingInput.TheVariants as trailing_input
+use Rattle.description_modifiers.specs.contracts.choices.TrailingInputPartialEq.TheImpl as trailing_input_equality
+use Rattle.description_modifiers.specs.declared.ignore.Ignore.{Ignore}
 
 pub same_truth : (a b : Bool) → beq a b ≡ true → a ≡ b
 same_truth true true h = refl

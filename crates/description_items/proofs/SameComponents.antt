@@ -2,27 +2,27 @@
 use Rattle.std.proofs.Common.{◌≡◌, Bool, true, ◌&&◌, sym, ap, true≢false, eqb-true}
 use Rattle.std.specs.Cmp.{first_so, second_so}
 use Rattle.std.proofs.Math.Bool.{beq}
-use Rattle.description_date_modifiers.specs.declared.choices.Padding.{Padding}
-use Rattle.description_date_modifiers.specs.contracts.choices.PaddingPartialEq.TheImpl as padding_equality
-use Rattle.description_date_modifiers.specs.declared.choices.MonthRepr.{MonthRepr}
-use Rattle.description_date_modifiers.specs.contracts.choices.MonthReprPartialEq.TheImpl as month_repr_equality
-use Rattle.description_date_modifiers.specs.declared.choices.WeekdayRepr.{WeekdayRepr}
-use Rattle.description_date_modifiers.specs.contracts.choices.WeekdayReprPartialEq.TheImpl as weekday_repr_equality
-use Rattle.description_date_modifiers.specs.declared.choices.WeekNumberRepr.{WeekNumberRepr}
-use Rattle.description_date_modifiers.specs.declared.choices.YearRepr.{YearRepr}
-use Rattle.description_date_modifiers.specs.contracts.choices.YearReprPartialEq.TheImpl as year_repr_equality
-use Rattle.description_date_modifiers.specs.declared.choices.YearRange.{YearRange}
-use Rattle.description_date_modifiers.specs.contracts.choices.YearRangePartialEq.TheImpl as year_range_equality
-use Rattle.description_time_modifiers.specs.declared.choices.SubsecondDigits.{SubsecondDigits}
-use Rattle.description_time_modifiers.specs.declared.choices.UnixTimestampPrecision.{UnixTimestampPrecision}
-use Rattle.description_time_modifiers.specs.contracts.choices.UnixTimestampPrecisionPartialEq.TheImpl as precision_equality
-use Rattle.description_time_modifiers.specs.declared.choices.TrailingInput.{TrailingInput}
-use Rattle.description_date_modifiers.specs.declared.month.Month.{Month}
-use Rattle.description_date_modifiers.specs.contracts.month.MonthPartialEq.TheImpl as month_equality
-use Rattle.description_date_modifiers.specs.declared.weekday.Weekday.{Weekday}
-use Rattle.description_date_modifiers.specs.contracts.weekday.WeekdayPartialEq.TheImpl as weekday_equality
-use Rattle.description_date_modifiers.specs.declared.year.Year.{Year}
-use Rattle.description_date_modifiers.specs.contracts.year.YearPartialEq.TheImpl as year_equality
+use Rattle.description_modifiers.specs.declared.choices.Padding.{Padding}
+use Rattle.description_modifiers.specs.contracts.choices.PaddingPartialEq.TheImpl as padding_equality
+use Rattle.description_modifiers.specs.declared.choices.MonthRepr.{MonthRepr}
+use Rattle.description_modifiers.specs.contracts.choices.MonthReprPartialEq.TheImpl as month_repr_equality
+use Rattle.description_modifiers.specs.declared.choices.WeekdayRepr.{WeekdayRepr}
+use Rattle.description_modifiers.specs.contracts.choices.WeekdayReprPartialEq.TheImpl as weekday_repr_equality
+use Rattle.description_modifiers.specs.declared.choices.WeekNumberRepr.{WeekNumberRepr}
+use Rattle.description_modifiers.specs.declared.choices.YearRepr.{YearRepr}
+use Rattle.description_modifiers.specs.contracts.choices.YearReprPartialEq.TheImpl as year_repr_equality
+use Rattle.description_modifiers.specs.declared.choices.YearRange.{YearRange}
+use Rattle.description_modifiers.specs.contracts.choices.YearRangePartialEq.TheImpl as year_range_equality
+use Rattle.description_modifiers.specs.declared.choices.SubsecondDigits.{SubsecondDigits}
+use Rattle.description_modifiers.specs.declared.choices.UnixTimestampPrecision.{UnixTimestampPrecision}
+use Rattle.description_modifiers.specs.contracts.choices.UnixTimestampPrecisionPartialEq.TheImpl as precision_equality
+use Rattle.description_modifiers.specs.declared.choices.TrailingInput.{TrailingInput}
+use Rattle.description_modifiers.specs.declared.month.Month.{Month}
+use Rattle.description_modifiers.specs.contracts.month.MonthPartialEq.TheImpl as month_equality
+use Rattle.description_modifiers.specs.declared.weekday.Weekday.{Weekday}
+use Rattle.description_modifiers.specs.contracts.weekday.WeekdayPartialEq.TheImpl as weekday_equality
+use Rattle.description_modifiers.specs.declared.year.Year.{Year}
+use Rattle.description_modifiers.specs.contracts.year.YearPartialEq.TheImpl as year_equality
 use Rattle.description_items.specs.declared.component.Component.{Component}
 use Rattle.description_items.specs.declared.component.Component.TheVariants as component
 use Rattle.description_items.specs.contracts.component.ComponentPartialEq.TheImpl as component_equality

@@ -1,18 +1,18 @@
 -- The component that says the same with only the modifiers that matter there.
 use Rattle.std.specs.Prelude.{Bool, true, false}
-use Rattle.description_date_modifiers.specs.declared.choices.Padding.{Padding}
-use Rattle.description_date_modifiers.specs.declared.choices.MonthRepr.{MonthRepr}
-use Rattle.description_date_modifiers.specs.declared.choices.MonthRepr.TheVariants as month
-use Rattle.description_date_modifiers.specs.declared.choices.WeekdayRepr.{WeekdayRepr}
-use Rattle.description_date_modifiers.specs.declared.choices.WeekdayRepr.TheVariants as weekday
-use Rattle.description_date_modifiers.specs.declared.choices.WeekNumberRepr.{WeekNumberRepr}
-use Rattle.description_date_modifiers.specs.declared.choices.WeekNumberRepr.TheVariants as week
-use Rattle.description_date_modifiers.specs.declared.choices.YearRepr.{YearRepr}
-use Rattle.description_date_modifiers.specs.declared.choices.YearRepr.TheVariants as year
-use Rattle.description_date_modifiers.specs.declared.choices.YearRange.{YearRange}
-use Rattle.description_date_modifiers.specs.declared.choices.YearRange.TheVariants as range
-use Rattle.description_time_modifiers.specs.declared.choices.UnixTimestampPrecision.{UnixTimestampPrecision}
-use Rattle.description_time_modifiers.specs.declared.choices.UnixTimestampPrecision.TheVariants as unit
+use Rattle.description_modifiers.specs.declared.choices.Padding.{Padding}
+use Rattle.description_modifiers.specs.declared.choices.MonthRepr.{MonthRepr}
+use Rattle.description_modifiers.specs.declared.choices.MonthRepr.TheVariants as month
+use Rattle.description_modifiers.specs.declared.choices.WeekdayRepr.{WeekdayRepr}
+use Rattle.description_modifiers.specs.declared.choices.WeekdayRepr.TheVariants as weekday
+use Rattle.description_modifiers.specs.declared.choices.WeekNumberRepr.{WeekNumberRepr}
+use Rattle.description_modifiers.specs.declared.choices.WeekNumberRepr.TheVariants as week
+use Rattle.description_modifiers.specs.declared.choices.YearRepr.{YearRepr}
+use Rattle.description_modifiers.specs.declared.choices.YearRepr.TheVariants as year
+use Rattle.description_modifiers.specs.declared.choices.YearRange.{YearRange}
+use Rattle.description_modifiers.specs.declared.choices.YearRange.TheVariants as range
+use Rattle.description_modifiers.specs.declared.choices.UnixTimestampPrecision.{UnixTimestampPrecision}
+use Rattle.description_modifiers.specs.declared.choices.UnixTimestampPrecision.TheVariants as unit
 use Rattle.description_items.specs.declared.component.Component.{Component}
 use Rattle.description_items.specs.declared.component.Component.TheVariants as component
 

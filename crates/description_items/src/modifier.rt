@@ -1,6 +1,6 @@
 //! How the components are written and read.
 
-pub use description_date_modifiers::{
+pub use description_modifiers::{
     CalendarYearCenturyExtendedRange, CalendarYearCenturyStandardRange,
     CalendarYearFullExtendedRange, CalendarYearFullStandardRange, CalendarYearLastTwo, Day,
     IsoYearCenturyExtendedRange, IsoYearCenturyStandardRange, IsoYearFullExtendedRange,
@@ -9,7 +9,7 @@ pub use description_date_modifiers::{
     WeekNumberSunday, Weekday, WeekdayLong, WeekdayMonday, WeekdayRepr, WeekdayShort,
     WeekdaySunday, Year, YearRange, YearRepr,
 };
-pub use description_time_modifiers::{
+pub use description_modifiers::{
     End, Hour, Hour12, Hour24, Ignore, Minute, OffsetHour, OffsetMinute, OffsetSecond, Period,
     Second, Subsecond, SubsecondDigits, TrailingInput, UnixTimestamp, UnixTimestampMicrosecond,
     UnixTimestampMillisecond, UnixTimestampNanosecond, UnixTimestampPrecision, UnixTimestampSecond,

@@ -1,8 +1,8 @@
 -- Flags, and what follows them.
 use Rattle.std.proofs.Common.{◌≡◌, ℕ, ◌+◌, List, [], ◌∷◌, ◌++◌, length, Option, Some, None, true, false, refl, sym, ap, subst, ◌∙◌, arith, cond, ◌==◌}
 use Rattle.std.proofs.lemmas.Bool.Decides.{nat_tests}
-use Rattle.description_date_modifiers.specs.declared.choices.Padding.{Padding}
-use Rattle.description_date_modifiers.specs.declared.choices.Padding.TheVariants as padding
+use Rattle.description_modifiers.specs.declared.choices.Padding.{Padding}
+use Rattle.description_modifiers.specs.declared.choices.Padding.TheVariants as padding
 use Rattle.description_items.specs.Tree.{Tree}
 use Rattle.description_lexer.specs.Text.{Rest}
 use Rattle.description_strftime.specs.Letters.{flag_of, day_number, year_number, time_number, unpadded, component_of, text_of, item_of, composite, letter_items}

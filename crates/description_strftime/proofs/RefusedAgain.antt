@@ -4,8 +4,8 @@ use Rattle.std.specs.Prelude.{codes, ◌==◌, ◌||◌, Bool, cond, ◌⊎◌}
 use Rattle.std.specs.List.{prefix_len}
 use Rattle.std.proofs.lemmas.List.{take_at}
 use Rattle.std.proofs.lemmas.Bool.Decides.{nat_tests}
-use Rattle.description_date_modifiers.specs.declared.choices.Padding.{Padding}
-use Rattle.description_date_modifiers.specs.declared.choices.Padding.TheVariants as padding
+use Rattle.description_modifiers.specs.declared.choices.Padding.{Padding}
+use Rattle.description_modifiers.specs.declared.choices.Padding.TheVariants as padding
 use Rattle.description_lexer.specs.Fault.{Fault, InvalidComponentName, Expected}
 use Rattle.description_lexer.proofs.Readings.{chosen}
 use Rattle.description_strftime.specs.Text.{is_continuation, Each, Stops}

@@ -6,7 +6,7 @@ use Rattle.std.proofs.lemmas.List.Folds.{length-prefix_len}
 use Rattle.std.proofs.lemmas.Bool.{eqb-true}
 use Rattle.std.proofs.lemmas.Bool.Decides.{nat_tests}
 use Rattle.base.specs.Bytes.{percent}
-use Rattle.description_date_modifiers.specs.declared.choices.Padding.{Padding}
+use Rattle.description_modifiers.specs.declared.choices.Padding.{Padding}
 use Rattle.description_lexer.specs.Fault.{Fault}
 use Rattle.description_items.specs.Tree.{Tree, Literal}
 use Rattle.description_lexer.specs.Text.{Rest, after}

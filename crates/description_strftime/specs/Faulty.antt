@@ -1,7 +1,7 @@
 -- The first fault of a text that is none of strftime.
 use Rattle.std.specs.Prelude.{◌≡◌, ℕ, ◌+◌, List, ◌∷◌, ◌++◌, length, Option, Some, None, codes, ◌⊎◌}
 use Rattle.base.specs.Bytes.{percent}
-use Rattle.description_date_modifiers.specs.declared.choices.Padding.{Padding}
+use Rattle.description_modifiers.specs.declared.choices.Padding.{Padding}
 use Rattle.description_lexer.specs.Fault.{Fault, InvalidComponentName, Expected, NotSupported}
 use Rattle.description_items.specs.Tree.{Tree}
 use Rattle.description_strftime.specs.Letters.{flag_of, letter_items, refused}

@@ -1,8 +1,8 @@
 -- The texts of strftime: which items a text spells.
 use Rattle.std.specs.Prelude.{◌≡◌, ℕ, ◌<◌, List, [], ◌∷◌, ◌++◌, length, Option, Some, None, codes, ◌⊎◌}
 use Rattle.base.specs.Bytes.{percent}
-use Rattle.description_date_modifiers.specs.declared.choices.Padding.{Padding}
-use Rattle.description_date_modifiers.specs.declared.choices.Padding.TheVariants as padding
+use Rattle.description_modifiers.specs.declared.choices.Padding.{Padding}
+use Rattle.description_modifiers.specs.declared.choices.Padding.TheVariants as padding
 use Rattle.description_items.specs.Tree.{Tree, Literal}
 use Rattle.description_strftime.specs.Letters.{letter_items}
 use Rattle.description_strftime.specs.Text.{is_plain, Each, Stops, joined}

@@ -1,24 +1,24 @@
 -- What a text names is a modern component.
 use Rattle.std.proofs.Common.{◌≡◌, Bool, true, false, Option, Some, None, refl}
 use Rattle.std.specs.Prelude.{IfSome}
-use Rattle.description_date_modifiers.specs.declared.choices.Padding.{Padding}
-use Rattle.description_date_modifiers.specs.declared.choices.MonthRepr.{MonthRepr}
-use Rattle.description_date_modifiers.specs.declared.choices.MonthRepr.TheVariants as month
-use Rattle.description_date_modifiers.specs.declared.choices.WeekdayRepr.{WeekdayRepr}
-use Rattle.description_date_modifiers.specs.declared.choices.WeekdayRepr.TheVariants as weekday
-use Rattle.description_date_modifiers.specs.declared.choices.WeekNumberRepr.{WeekNumberRepr}
-use Rattle.description_date_modifiers.specs.declared.choices.WeekNumberRepr.TheVariants as week
-use Rattle.description_date_modifiers.specs.declared.choices.YearRepr.{YearRepr}
-use Rattle.description_date_modifiers.specs.declared.choices.YearRepr.TheVariants as year
-use Rattle.description_date_modifiers.specs.declared.choices.YearRange.{YearRange}
-use Rattle.description_date_modifiers.specs.declared.choices.YearRange.TheVariants as range
-use Rattle.description_time_modifiers.specs.declared.choices.UnixTimestampPrecision.{UnixTimestampPrecision}
-use Rattle.description_time_modifiers.specs.declared.choices.UnixTimestampPrecision.TheVariants as unit
+use Rattle.description_modifiers.specs.declared.choices.Padding.{Padding}
+use Rattle.description_modifiers.specs.declared.choices.MonthRepr.{MonthRepr}
+use Rattle.description_modifiers.specs.declared.choices.MonthRepr.TheVariants as month
+use Rattle.description_modifiers.specs.declared.choices.WeekdayRepr.{WeekdayRepr}
+use Rattle.description_modifiers.specs.declared.choices.WeekdayRepr.TheVariants as weekday
+use Rattle.description_modifiers.specs.declared.choices.WeekNumberRepr.{WeekNumberRepr}
+use Rattle.description_modifiers.specs.declared.choices.WeekNumberRepr.TheVariants as week
+use Rattle.description_modifiers.specs.declared.choices.YearRepr.{YearRepr}
+use Rattle.description_modifiers.specs.declared.choices.YearRepr.TheVariants as year
+use Rattle.description_modifiers.specs.declared.choices.YearRange.{YearRange}
+use Rattle.description_modifiers.specs.declared.choices.YearRange.TheVariants as range
+use Rattle.description_modifiers.specs.declared.choices.UnixTimestampPrecision.{UnixTimestampPrecision}
+use Rattle.description_modifiers.specs.declared.choices.UnixTimestampPrecision.TheVariants as unit
 use Rattle.description_items.specs.declared.component.Component.{Component}
 use Rattle.description_items.specs.declared.component.Component.TheVariants as component
 use Rattle.std.specs.Option.{option_map, option_and_then}
-use Rattle.description_time_modifiers.specs.Ignored.{ignored}
-use Rattle.description_time_modifiers.specs.declared.ignore.Ignore.{Ignore}
+use Rattle.description_modifiers.specs.Ignored.{ignored}
+use Rattle.description_modifiers.specs.declared.ignore.Ignore.{Ignore}
 use Rattle.description_items.specs.Modern.{modern, modern_month, modern_weekday, modern_week_number, modern_year, modern_hour, modern_timestamp}
 use Rattle.description_lexer.specs.declared.version.DescriptionVersion.{DescriptionVersion}
 use Rattle.description_tables.specs.declared.names.Name.{Name}

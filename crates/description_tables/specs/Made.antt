@@ -1,21 +1,21 @@
 -- The component that a name and its chosen values make; the defaults where nothing was chosen.
 use Rattle.std.specs.Prelude.{Bool, true, false, Option, Some}
 use Rattle.std.specs.Option.{option_map, option_and_then, unwrap_or}
-use Rattle.description_date_modifiers.specs.declared.choices.Padding.TheVariants as padding
-use Rattle.description_date_modifiers.specs.declared.choices.MonthRepr.{MonthRepr}
-use Rattle.description_date_modifiers.specs.declared.choices.MonthRepr.TheVariants as month
-use Rattle.description_date_modifiers.specs.declared.choices.WeekdayRepr.{WeekdayRepr}
-use Rattle.description_date_modifiers.specs.declared.choices.WeekdayRepr.TheVariants as weekday
-use Rattle.description_date_modifiers.specs.declared.choices.WeekNumberRepr.{WeekNumberRepr}
-use Rattle.description_date_modifiers.specs.declared.choices.WeekNumberRepr.TheVariants as week
-use Rattle.description_date_modifiers.specs.declared.choices.YearRepr.{YearRepr}
-use Rattle.description_date_modifiers.specs.declared.choices.YearRepr.TheVariants as year
-use Rattle.description_date_modifiers.specs.declared.choices.YearRange.{YearRange}
-use Rattle.description_date_modifiers.specs.declared.choices.YearRange.TheVariants as range
-use Rattle.description_time_modifiers.specs.Ignored.{ignored}
-use Rattle.description_time_modifiers.specs.declared.choices.SubsecondDigits.TheVariants as digits
-use Rattle.description_time_modifiers.specs.declared.choices.UnixTimestampPrecision.TheVariants as unit
-use Rattle.description_time_modifiers.specs.declared.choices.TrailingInput.TheVariants as trailing
+use Rattle.description_modifiers.specs.declared.choices.Padding.TheVariants as padding
+use Rattle.description_modifiers.specs.declared.choices.MonthRepr.{MonthRepr}
+use Rattle.description_modifiers.specs.declared.choices.MonthRepr.TheVariants as month
+use Rattle.description_modifiers.specs.declared.choices.WeekdayRepr.{WeekdayRepr}
+use Rattle.description_modifiers.specs.declared.choices.WeekdayRepr.TheVariants as weekday
+use Rattle.description_modifiers.specs.declared.choices.WeekNumberRepr.{WeekNumberRepr}
+use Rattle.description_modifiers.specs.declared.choices.WeekNumberRepr.TheVariants as week
+use Rattle.description_modifiers.specs.declared.choices.YearRepr.{YearRepr}
+use Rattle.description_modifiers.specs.declared.choices.YearRepr.TheVariants as year
+use Rattle.description_modifiers.specs.declared.choices.YearRange.{YearRange}
+use Rattle.description_modifiers.specs.declared.choices.YearRange.TheVariants as range
+use Rattle.description_modifiers.specs.Ignored.{ignored}
+use Rattle.description_modifiers.specs.declared.choices.SubsecondDigits.TheVariants as digits
+use Rattle.description_modifiers.specs.declared.choices.UnixTimestampPrecision.TheVariants as unit
+use Rattle.description_modifiers.specs.declared.choices.TrailingInput.TheVariants as trailing
 use Rattle.description_items.specs.declared.component.Component.{Component}
 use Rattle.description_items.specs.declared.component.Component.TheVariants as component
 use Rattle.description_items.specs.Modern.{modern}

@@ -3,8 +3,8 @@ use Rattle.std.specs.Prelude.{◌≡◌, ℕ, ◌+◌, ◌≤◌, max, if◌then
 use Rattle.description_items.specs.declared.component.Component.{Component}
 use Rattle.description_items.specs.declared.component.Component.TheVariants as component
 use Rattle.description_items.specs.Tree.{Tree, Literal, Part, Compound, Optional, First, Trees, none, also}
-use Rattle.description_time_modifiers.specs.declared.choices.SubsecondDigits.{SubsecondDigits}
-use Rattle.description_time_modifiers.specs.declared.choices.SubsecondDigits.TheVariants.{One, Two, Three, Four, Five, Six, Seven, Eight, Nine, OneOrMore}
+use Rattle.description_modifiers.specs.declared.choices.SubsecondDigits.{SubsecondDigits}
+use Rattle.description_modifiers.specs.declared.choices.SubsecondDigits.TheVariants.{One, Two, Three, Four, Five, Six, Seven, Eight, Nine, OneOrMore}
 
 abbrev pub digits_width : SubsecondDigits → ℕ
 digits_width One = 1

@@ -1,8 +1,8 @@
 -- What is taken of a padded or signed number.
 use Rattle.std.proofs.Common.{◌≡◌, ◌∙◌, ℕ, suc, Bool, List, [], None, refl}
 use Rattle.std.specs.Prelude.{if◌then◌else◌}
-use Rattle.description_date_modifiers.specs.declared.choices.Padding.{Padding}
-use Rattle.description_date_modifiers.specs.declared.choices.Padding.TheVariants as padding
+use Rattle.description_modifiers.specs.declared.choices.Padding.{Padding}
+use Rattle.description_modifiers.specs.declared.choices.Padding.TheVariants as padding
 use Rattle.parsing_combinator.specs.Pieces.{Piece, digits, sign}
 use Rattle.parsing_combinator.specs.Shape.{taken, digits_between, spaced_between}
 use Rattle.parsing_combinator.specs.Numbers.{padded, year, century, offset_hour, timestamp}

@@ -1,7 +1,7 @@
 -- The shapes of numbers: padded, and after a sign.
 use Rattle.std.specs.Prelude.{ℕ, Bool, if◌then◌else◌}
-use Rattle.description_date_modifiers.specs.declared.choices.Padding.{Padding}
-use Rattle.description_date_modifiers.specs.declared.choices.Padding.TheVariants as padding
+use Rattle.description_modifiers.specs.declared.choices.Padding.{Padding}
+use Rattle.description_modifiers.specs.declared.choices.Padding.TheVariants as padding
 use Rattle.parsing_combinator.specs.Shape.{Shape, nothing, digits_between, spaced_between, signed}
 
 -- n to m digits with zeros, n to m bytes with spaces, 1 to m digits with neither

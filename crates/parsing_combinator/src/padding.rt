@@ -6,7 +6,7 @@ ghost use Rattle.parsing_combinator.specs.Numbers as Numbers;
 
 use crate::digits::{digits_between, spaced_between};
 use crate::{four_digits, one_digit, two_digits};
-use description_date_modifiers::Padding;
+use description_modifiers::Padding;
 
 /// `n` to `m` digits with zeros, `n` to `m` bytes with spaces, 1 to `m` digits with neither.
 #[tactic(auto, using(crate::proofs::Components::taken_padded))]

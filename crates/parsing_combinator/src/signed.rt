@@ -7,7 +7,7 @@ ghost use Rattle.parsing_combinator.specs.Numbers as Numbers;
 use crate::padding::{padded, padded_four, padded_two};
 use crate::sign;
 use crate::wide::wide_digits;
-use description_date_modifiers::Padding;
+use description_modifiers::Padding;
 
 // What is read after a sign, and whether that is a minus, or else what is read where none is due.
 macro_rules! by_sign {

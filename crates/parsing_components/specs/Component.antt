@@ -1,10 +1,10 @@
 -- What each component reads.
 use Rattle.std.specs.Prelude.{ℕ, Bool, true, false, List, [], ◌∷◌, length, drop, Option, Some, None, Ok, Err, option_map, nat_le, not, codes, if◌then◌else◌}
 use Rattle.std.specs.Int.{is_in_range}
-use Rattle.description_time_modifiers.specs.declared.choices.SubsecondDigits.{SubsecondDigits}
-use Rattle.description_time_modifiers.specs.declared.choices.SubsecondDigits.TheVariants as digits
-use Rattle.description_time_modifiers.specs.declared.choices.TrailingInput.{TrailingInput}
-use Rattle.description_time_modifiers.specs.declared.choices.TrailingInput.TheVariants as trailing_input
+use Rattle.description_modifiers.specs.declared.choices.SubsecondDigits.{SubsecondDigits}
+use Rattle.description_modifiers.specs.declared.choices.SubsecondDigits.TheVariants as digits
+use Rattle.description_modifiers.specs.declared.choices.TrailingInput.{TrailingInput}
+use Rattle.description_modifiers.specs.declared.choices.TrailingInput.TheVariants as trailing_input
 use Rattle.description_items.specs.declared.component.Component.{Component}
 use Rattle.description_items.specs.declared.component.Component.TheVariants as component
 use Rattle.description_items.specs.Modern.{modern}

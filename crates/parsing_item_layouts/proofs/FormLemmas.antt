@@ -7,10 +7,10 @@ use Rattle.std.specs.Str.Parse.{digits_value}
 use Rattle.std.specs.Prelude.{◌==◌, ◌&&◌, ◌||◌, option_map, nat_le, IfOk, IfSome, if◌then◌else◌}
 use Rattle.calendar_count.specs.Month.{month_number}
 use Rattle.calendar_count.specs.Range.{greatest_year}
-use Rattle.description_date_modifiers.specs.declared.choices.Padding.{Padding}
-use Rattle.description_date_modifiers.specs.declared.choices.Padding.TheVariants as padding
-use Rattle.description_time_modifiers.specs.declared.choices.SubsecondDigits.{SubsecondDigits}
-use Rattle.description_time_modifiers.specs.declared.choices.SubsecondDigits.TheVariants as digits_of
+use Rattle.description_modifiers.specs.declared.choices.Padding.{Padding}
+use Rattle.description_modifiers.specs.declared.choices.Padding.TheVariants as padding
+use Rattle.description_modifiers.specs.declared.choices.SubsecondDigits.{SubsecondDigits}
+use Rattle.description_modifiers.specs.declared.choices.SubsecondDigits.TheVariants as digits_of
 use Rattle.description_items.specs.declared.component.Component.{Component}
 use Rattle.description_items.specs.declared.component.Component.TheVariants as component
 use Rattle.parsing_combinator.specs.Fault.{Fault}

@@ -1,9 +1,9 @@
 -- The form of the texts of each component.
 use Rattle.std.specs.Prelude.{◌≡◌, ◌⊎◌, ◌&&◌, ℕ, Bool, true, false, not, List, Some, IfOk}
-use Rattle.description_date_modifiers.specs.declared.choices.Padding.{Padding}
-use Rattle.description_date_modifiers.specs.declared.choices.Padding.TheVariants as padding
-use Rattle.description_time_modifiers.specs.declared.choices.SubsecondDigits.{SubsecondDigits}
-use Rattle.description_time_modifiers.specs.declared.choices.SubsecondDigits.TheVariants as digits_of
+use Rattle.description_modifiers.specs.declared.choices.Padding.{Padding}
+use Rattle.description_modifiers.specs.declared.choices.Padding.TheVariants as padding
+use Rattle.description_modifiers.specs.declared.choices.SubsecondDigits.{SubsecondDigits}
+use Rattle.description_modifiers.specs.declared.choices.SubsecondDigits.TheVariants as digits_of
 use Rattle.description_items.specs.declared.component.Component.{Component}
 use Rattle.description_items.specs.declared.component.Component.TheVariants as component
 use Rattle.parsing_combinator.specs.Pieces.{sign}

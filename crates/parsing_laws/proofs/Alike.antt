@@ -1,6 +1,6 @@
 -- Items that versions 2 and 3 read alike.
 use Rattle.std.proofs.Common.{◌≡◌, ℕ, suc, List, [], ◌∷◌, Option, Result, refl, sym, ap, ◌∙◌, arith}
-use Rattle.description_time_modifiers.specs.declared.ignore.Ignore.{Ignore}
+use Rattle.description_modifiers.specs.declared.ignore.Ignore.{Ignore}
 use Rattle.description_items.specs.declared.component.Component.{Component}
 use Rattle.description_items.specs.declared.component.Component.TheVariants as component
 use Rattle.description_items.specs.Tree.{Tree, Literal, Part, Compound, Optional, First, listed}

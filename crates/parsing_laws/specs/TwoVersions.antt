@@ -1,6 +1,6 @@
 -- What version 2 reads by a text of version 3.
 use Rattle.std.specs.Prelude.{◌≡◌, ℕ, List, Option, Contains}
-use Rattle.description_time_modifiers.specs.declared.ignore.Ignore.{Ignore}
+use Rattle.description_modifiers.specs.declared.ignore.Ignore.{Ignore}
 use Rattle.description_items.specs.declared.component.Component.TheVariants as component
 use Rattle.description_items.specs.Tree.{Tree, Part}
 use Rattle.description_lexer.specs.declared.version.DescriptionVersion.TheVariants.{Two, Three}

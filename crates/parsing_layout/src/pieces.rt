@@ -11,7 +11,7 @@ use crate::names::{
 };
 use crate::parts::{Names, Part};
 use calendar_count::Weekday;
-use description_date_modifiers::Padding;
+use description_modifiers::Padding;
 use parsing_combinator::{
     any_byte, byte, digit_run, four_digits, fraction, fraction_between, long_month, long_weekday,
     one_digit, padded_two, period, short_month, short_weekday, sign, three_digits, two_digits,

@@ -2,8 +2,8 @@
 use Rattle.std.proofs.Common.{ℕ, zero, suc, Bool, true, false, cond, List, [], ◌∷◌, length, take, drop, Option, Some, None, refl, sym, arith}
 use Rattle.std.specs.Prelude.{nat_le, option_map, codes}
 use Rattle.std.proofs.lemmas.List.{append-nil}
-use Rattle.description_time_modifiers.specs.declared.choices.TrailingInput.{TrailingInput}
-use Rattle.description_time_modifiers.specs.declared.choices.TrailingInput.TheVariants as trailing_input
+use Rattle.description_modifiers.specs.declared.choices.TrailingInput.{TrailingInput}
+use Rattle.description_modifiers.specs.declared.choices.TrailingInput.TheVariants as trailing_input
 use Rattle.description_items.specs.declared.component.Component.{Component}
 use Rattle.description_items.specs.declared.component.Component.TheVariants as component
 use Rattle.description_items.specs.Modern.{modern}
