@@ -34,8 +34,7 @@ ALONE = (
 # The calls of the crates below these of which CLAIMS.md speaks: all that a crate gives on, or some of them.
 BELOW = {
     "parsing_combinator": {"digit_chunk", "nine_digits"},
-    "parsing_values": set(),
-    "parsing_layout": {"read_long_numbers"},
+    "parsing_shapes": {"read_long_numbers"},
     "parsing_values": {"Fields", "Fraction", "Year", "minute_of_day"},
     "parsing_components": {"Record", "read", "read_component", "read_component_v3"},
     "parsing_item_layouts": {"FirstBounds", "FirstBytes"},

@@ -13,10 +13,9 @@ use parsing_combinator::{
     Parse, ParseFromDescription, byte, four_digits, padded_two, short_month, short_weekday,
     two_digits,
 };
-use parsing_values::{Fields, Fraction, minute_of_day};
 use parsing_layout::{Field, Item, Names, Part};
 use parsing_strides::{Found, Strides};
-use parsing_values::{OffsetDateTime, resolve};
+use parsing_values::{Fields, Fraction, OffsetDateTime, minute_of_day, resolve};
 
 // The parts of a text, one after another.
 static ITEMS: [Item; 13] = [

@@ -3,8 +3,7 @@ ghost use Rattle.std.specs.Prelude.{◌≡◌};
 ghost use Rattle.description_modifiers.specs.declared.choices.Padding.TheVariants as Padding;
 ghost use Rattle.description_modifiers.specs.declared.choices.SubsecondDigits.TheVariants as SubsecondDigits;
 
-use crate::choices::SubsecondDigits;
-use crate::choices::Padding;
+use crate::choices::{Padding, SubsecondDigits};
 
 /// The minute of the hour, 0 to 59, two digits wide: `[minute]`.
 #[derive(Clone, Copy, Debug, PartialEq, Eq)]

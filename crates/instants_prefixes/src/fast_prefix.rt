@@ -6,8 +6,8 @@ ghost use Rattle.parsing_record.specs.Prefix.{NamesPrefix};
 ghost use Rattle.parsing_record.specs.Record.{empty};
 
 use instants_edges::byte_at;
-use parsing_values::Fields;
 use parsing_parsable::laws::two_roads_of_rfc3339;
+use parsing_values::Fields;
 
 // The bytes of a date and a time of day to the second.
 const SECONDS_END: usize = 19;

@@ -13,9 +13,9 @@ ghost use Rattle.instants_sources.specs.Written.{reads_written, written};
 
 use calendar::UtcOffset;
 use description::Description;
-use parsing_values::Fields;
 use parsing_item_layouts::{FirstBounds, FirstBytes};
 use parsing_plan::Plan;
+use parsing_values::Fields;
 
 /// A description that reads a line: items, one after the other, or a tree of version 3.
 #[derive(Drop)]

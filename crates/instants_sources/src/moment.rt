@@ -13,9 +13,9 @@ use crate::ruled_out::{begins_no_day, begins_no_part, has_no_hyphen, has_no_spac
 use crate::source::Source;
 use calendar::UtcOffset;
 use datetime_types::OffsetDateTime;
-use parsing_values::Fields;
 use parsing_parsable::laws::{one_road_of_iso8601, two_roads_of_rfc2822, two_roads_of_rfc3339};
 use parsing_plan::Plan;
+use parsing_values::Fields;
 
 /// A well-known format names the moment that it reads from a line by itself, whatever offset is assumed.
 #[inline(always)]

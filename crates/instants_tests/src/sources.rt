@@ -5,8 +5,8 @@ use datetime::OffsetDateTime;
 use description::Description;
 use instants::SourceText;
 use instants_sources::{Source, directly_named, is_no_rfc3339, starting};
-use parsing_values::Fields;
 use parsing_plan::Plan;
+use parsing_values::Fields;
 use std::alloc::Global;
 
 // The Unix time that a source names for a line with an offset of an hour assumed, by the exact way, the shortest and the

@@ -5,8 +5,8 @@ ghost use Rattle.parsing_iso8601_shapes.specs.Layout as Layout;
 ghost use Rattle.parsing_iso8601_shapes.specs.Layout.{front_parts};
 
 use crate::form::{Dating, Form};
-use parsing_shapes::Shape;
 use parsing_places::{LANES, Moves, Window, Windows};
+use parsing_shapes::Shape;
 
 // Where the parts of a text stand, with two windows of sixteen bytes: the first ones, and those from `back.at` on.
 struct Row {

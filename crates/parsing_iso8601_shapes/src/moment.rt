@@ -9,10 +9,9 @@ ghost use Rattle.parsing_iso8601.specs.Moment.{IsOfOffset};
 use crate::calendar_days::{of_weeks, of_year};
 use crate::form::{Dating, Form};
 use crate::forms::{form_at, form_of};
-use parsing_values::{Fields, Fraction};
-use parsing_shapes::{Numbers, read_long_numbers, read_numbers};
 use parsing_places::LANES;
-use parsing_values::OffsetDateTime;
+use parsing_shapes::{Numbers, read_long_numbers, read_numbers};
+use parsing_values::{Fields, Fraction, OffsetDateTime};
 
 // The fields of the numbers of a text, where their date is one of a form.
 #[inline(always)]

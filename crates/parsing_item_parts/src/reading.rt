@@ -16,9 +16,9 @@ ghost use Rattle.parsing_item_parts.specs.Recorded.{recorded};
 use crate::listed::Listed;
 use calendar::UtcOffset;
 use parsing_components::assumed_minutes;
-use parsing_values::{Fields, has_day, offset_minutes};
 use parsing_layout::Field;
 use parsing_strides::Found;
+use parsing_values::{Fields, has_day, offset_minutes};
 
 impl Listed {
     // The hour of the whole day.

@@ -9,10 +9,10 @@ ghost use Rattle.parsing_plan.specs.Fields.{IsOffset};
 
 use calendar::UtcOffset;
 use parsing_components::assumed_minutes;
-use parsing_values::Fraction;
 use parsing_layout::{month_name_at, weekday_name_at};
-use parsing_shapes::{Beside, Shape};
 use parsing_places::signed;
+use parsing_shapes::{Beside, Shape};
+use parsing_values::Fraction;
 
 /// The number of the weekday, where there is one, and else any number.
 #[inline(always)]

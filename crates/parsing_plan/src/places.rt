@@ -9,8 +9,8 @@ ghost use Rattle.parsing_plan.specs.Parts.{IsPlain, IsSplit, SayMoment};
 mod calls;
 
 use parsing_item_parts::Parts;
-use parsing_shapes::Front;
 use parsing_places::LastBytes;
+use parsing_shapes::Front;
 
 /// What follows a fraction of a second of any number of digits.
 #[derive(Clone, Copy)]

@@ -18,8 +18,8 @@ use calendar::UtcOffset;
 use description_items::BorrowedFormatItem;
 use description_tree::FormatDescriptionV3;
 use parsing_components::{Node, NodeStep};
-use parsing_values::Fields;
 use parsing_item_parts::Listed;
+use parsing_values::Fields;
 
 /// How lines of a description are read at once.
 #[derive(Clone, Copy)]

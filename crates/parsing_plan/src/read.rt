@@ -16,9 +16,9 @@ ghost use Rattle.parsing_plan.specs.Places.{ArePlacesOf};
 use crate::parts::{day_of, fraction_of, month_of, offset_of, weekday_of};
 use crate::places::{Back, NEVER, Places};
 use calendar::UtcOffset;
-use parsing_values::{Fields, Fraction, Year, has_day};
-use parsing_shapes::{Beside, Shape, Sums, split_sums_of, sums_of};
 use parsing_places::LANES;
+use parsing_shapes::{Beside, Shape, Sums, split_sums_of, sums_of};
+use parsing_values::{Fields, Fraction, Year, has_day};
 
 // The most digits of a fraction.
 const MOST_DIGITS: usize = 9;

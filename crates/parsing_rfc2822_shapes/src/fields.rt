@@ -20,10 +20,9 @@ use crate::shape::{
     TWO_DIGITS_SHORT_YEAR, TWO_DIGITS_USUAL, TWO_DIGITS_WITH_NAME, TWO_DIGITS_WITHOUT_SECOND,
 };
 use parsing_combinator::two_digits as digit_pair;
-use parsing_values::{Fields, Year, has_day, offset_minutes};
-use parsing_shapes::{Shape, read_named_moment};
 use parsing_rfc2822::{is_plain_comment, past_spacing, zone_of};
-use parsing_values::OffsetDateTime;
+use parsing_shapes::{Shape, read_named_moment};
+use parsing_values::{Fields, OffsetDateTime, Year, has_day, offset_minutes};
 
 // The first year that four digits may write.
 const FIRST_YEAR: u16 = 1900;

@@ -1,7 +1,7 @@
 //! Where lanes take the parts of a text from its day on.
 
-use parsing_shapes::Shape;
 use parsing_places::{Moves, Window, Windows};
+use parsing_shapes::Shape;
 
 // Lanes that take a day of two digits.
 const DAY_OF_TWO_DIGITS: Moves = Moves {

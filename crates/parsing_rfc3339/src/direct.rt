@@ -11,9 +11,8 @@ use crate::parts::Rfc3339Parts;
 use crate::reading::parse_prefix;
 use crate::shape::shape;
 use parsing_combinator::{Parse, ParseFromDescription, four_digits};
-use parsing_values::Fields;
 use parsing_shapes::{read_long_moment, read_moment, read_small_moment};
-use parsing_values::{OffsetDateTime, leap_checked, resolve};
+use parsing_values::{Fields, OffsetDateTime, leap_checked, resolve};
 
 // The moment of the numbers that a text has, with what follows them.
 #[tactic(auto, unfolding(crate::specs::Direct::moment_of))]

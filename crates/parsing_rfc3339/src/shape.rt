@@ -3,8 +3,8 @@ ghost use Rattle.std.specs.Prelude.{◌≡◌, false, true};
 ghost use Rattle.parsing_shapes.specs.Shape.{fits};
 ghost use Rattle.parsing_rfc3339.specs.Layout.{front_parts};
 
-use parsing_shapes::Shape;
 use parsing_places::{Moves, Window, Windows};
+use parsing_shapes::Shape;
 
 /// The shape of `1985-04-12T23:20:50`, where any byte separates date and time.
 #[inline(always)]

@@ -3,8 +3,8 @@ ghost use Rattle.std.specs.Prelude.{◌≡◌, ◌≤◌, ◌<◌, ◌+◌, true
 ghost use Rattle.parsing_shapes.specs.Shape.{most_of, own, pair_of, takes_digits, takes_pair_at, takes_part};
 ghost use Rattle.parsing_shapes.specs.Windows.{are_bounded, is_bounded, is_lane_bounded, is_offset_bounded, is_sign_bounded, lets, lets_at, lets_year, source, spares, spares_one, spares_two, takes, takes_one, takes_sign, takes_two};
 
-use parsing_layout::{Field, Part};
 use crate::shape::Shape;
+use parsing_layout::{Field, Part};
 use parsing_places::{LANES, Window, Windows};
 
 /// A place that is past all that windows take.

@@ -13,8 +13,8 @@ ghost use Rattle.parsing_shapes.specs.Tail.{zone_parts, small_parts};
 use crate::dated::{read_long_numbers, read_numbers, read_small_numbers};
 use crate::shape::Shape;
 use crate::sums::Sums;
-use parsing_values::{Fields, Fraction};
 use parsing_places::{LANES, Moves, Window, are_digits, digits_of_whole, joined, paired, sums};
+use parsing_values::{Fields, Fraction};
 use std::simd::prelude::*;
 
 // The sums of a text that has a shape and an end, and the digits that other lanes take of its end.

@@ -5,8 +5,8 @@ ghost use Rattle.parsing_shapes.specs.Moment.{AreTaken};
 ghost use Rattle.parsing_shapes.specs.Sums.{AreSums};
 
 use crate::shape::Shape;
-use parsing_values::Fraction;
 use parsing_places::{LANES, LastBytes, fraction_of, joined, paired, sums};
+use parsing_values::Fraction;
 
 /// Month and 64 days, the minute of the day, the minutes of an offset, and a sign and 64 seconds.
 pub type Sums = (u32, u32, u32, u32);

@@ -2,9 +2,9 @@
 ghost use Rattle.std.specs.Prelude.{◌≤◌, ◌<◌, ◌≡◌, true, false};
 
 use crate::lanes::{all_above, are_at_most};
-use parsing_values::{Fraction, Year};
 use parsing_layout::{Field, place_of};
 use parsing_places::LANES;
+use parsing_values::{Fraction, Year};
 use std::simd::prelude::*;
 
 /// The numbers that were found in a text, by what they mean.

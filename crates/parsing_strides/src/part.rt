@@ -8,8 +8,8 @@ ghost use Rattle.parsing_strides.specs.Found.{values_in};
 
 use crate::found::Found;
 use parsing_combinator::{nine_digits, one_digit};
-use parsing_values::Fraction;
 use parsing_layout::{Field, Part, field_of, number_at};
+use parsing_values::Fraction;
 
 // All digits of a fraction of a second, at most nine.
 #[inline(always)]

@@ -6,9 +6,9 @@ ghost use Rattle.parsing_strides.specs.Places.{lets, lets_year};
 
 use crate::found::Found;
 use crate::lanes::{all_above, are_at_most, first_sixteen, numbers_of, put_taken, taken_by};
-use parsing_values::Year;
 use parsing_layout::{Field, Item, Part, place_of, say};
 use parsing_places::{LANES, Moves};
+use parsing_values::Year;
 use std::simd::prelude::*;
 
 /// The place of a year that is not there.

@@ -7,10 +7,10 @@ use description::{
 };
 use parsing_combinator::digit_chunk;
 use parsing_components::assumed_minutes;
-use parsing_values::{Fields, Fraction, Year, digit_pair, minute_of_day};
 use parsing_item_parts::Listed;
 use parsing_places::{Moves, Window, Windows};
 use parsing_plan::Plan;
+use parsing_values::{Fields, Fraction, Year, digit_pair, minute_of_day};
 use std::alloc::Global;
 
 // The seconds since 1970 of the moment of fields, and its nanosecond.

@@ -4,10 +4,13 @@ ghost use Rattle.std.specs.Prelude.{◌≡◌, true, false};
 ghost use Rattle.parsing_shapes.specs.Windows.{spares_two};
 
 use datetime_types::WallClock;
-use parsing_values::Fields;
 use parsing_layout::{Field, Part, month_name_at, weekday_name_at};
-use parsing_shapes::{Front, Numbers, Shape, Sums, last_bytes_of, read_long_moment, read_long_numbers, read_moment, read_named_moment, read_numbers, read_small_moment, split_sums_of, sums_of};
 use parsing_places::{LANES, Moves, Window, Windows};
+use parsing_shapes::{
+    Front, Numbers, Shape, Sums, last_bytes_of, read_long_moment, read_long_numbers, read_moment,
+    read_named_moment, read_numbers, read_small_moment, split_sums_of, sums_of,
+};
+use parsing_values::Fields;
 
 // `20210102T030405`.
 fn basic() -> Shape

@@ -4,12 +4,12 @@ ghost use Rattle.std.specs.Int.{IsInRange};
 ghost use Rattle.calendar_count.specs.Calendar.{IsDay, days_in_month};
 ghost use Rattle.datetime_wall.specs.Wall.{second_nanos};
 
-use crate::fraction::Fraction;
+use crate::OffsetDateTime;
 use crate::four_digits::Year;
+use crate::fraction::Fraction;
 use calendar::{Date, Time, UtcOffset};
 use calendar_count::{closed, march};
 use datetime_wall::{count_of_seconds, day_of_count, second_of_day};
-use crate::OffsetDateTime;
 
 /// The fields of a date-time in a year of four digits: a day of the calendar, a time of day, and an offset of whole minutes,
 /// at most 25:59. No second is a leap second.

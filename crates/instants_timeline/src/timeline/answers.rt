@@ -22,8 +22,8 @@ use instants_answers::{Answer, fill_fields};
 use instants_faults::{LineFault, fill_no_year};
 use instants_sources::{Named, Source, directly_named};
 use parsing_combinator::Parse;
-use parsing_values::Fields;
 use parsing_plan::Plan;
+use parsing_values::Fields;
 
 impl Timeline<'_> {
     // Writes a moment as it is shown at the target, or that its year there is not written. A call of its own, since few are

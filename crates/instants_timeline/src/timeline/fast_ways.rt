@@ -14,8 +14,8 @@ use calendar::UtcOffset;
 use instants_answers::Answer;
 use instants_sources::{directly_named, is_no_rfc3339};
 use instants_stream::AnswersLines;
-use parsing_values::Fields;
 use parsing_plan::{Places, Plan, UnixTime};
+use parsing_values::Fields;
 
 /// A way to answer the lines of a timeline, by the kind of its first source. All answer alike: a run over a stream is compiled
 /// once for each, with that source's fast way within it, so that what it holds and the fields of a line stay in registers.

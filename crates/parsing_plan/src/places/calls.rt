@@ -11,8 +11,8 @@ use super::{Back, NEVER, Places};
 use parsing_components::Node;
 use parsing_item_parts::Parts;
 use parsing_layout::{Field, Part, say};
-use parsing_shapes::{Beside, Front, last_bytes_of};
 use parsing_places::LANES;
+use parsing_shapes::{Beside, Front, last_bytes_of};
 
 // Whether parts say a day, an hour, a minute and a second.
 fn say_clock(parts: &[Part]) -> bool

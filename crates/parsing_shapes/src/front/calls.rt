@@ -8,8 +8,8 @@ ghost use Rattle.parsing_shapes.specs.Shape.{takes_all};
 use super::{Beside, Front};
 use crate::fits::{FAR, are_bounded, lets_at, lets_year, spares_one, takes_one, takes_part};
 use crate::made::{Made, width};
-use parsing_layout::{Field, Names, Part, field_of};
 use crate::shape::Shape;
+use parsing_layout::{Field, Names, Part, field_of};
 use parsing_places::LANES;
 
 impl Beside {
