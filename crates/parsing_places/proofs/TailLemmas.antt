@@ -8,22 +8,22 @@ use Rattle.parsing_places.specs.Tail.{LetsByte, TakesSigned, TakesZulu, TakesFra
 use Rattle.parsing_places.specs.declared.ending.Ending.{Ending}
 use Rattle.parsing_places.specs.declared.ending.Ending.TheVariants.{Zulu, Colon, Plain}
 use Rattle.parsing_places.specs.declared.shape.Window.{Window}
-use Rattle.parsing_places.specs.declared.tails.TheConstants.{LOW, ABOVE, DIGITS, OFFSETS}
+use Rattle.parsing_places.specs.declared.tails.TheConstants.{TABLES}
 use Rattle.parsing_places.proofs.Checks.{takes, takes_is, lets, lets_is}
 
 -- a row of the tables, for `Z`, an offset without a colon, and one with it
 abbrev low_of : ℕ → ℕ → List ℕ
-low_of n g = get_or LOW (3 * n + g) []
+low_of n g = get_or TABLES.low (3 * n + g) []
 
 abbrev above_of : ℕ → ℕ → List ℕ
-above_of n g = get_or ABOVE (3 * n + g) []
+above_of n g = get_or TABLES.above (3 * n + g) []
 
 abbrev digits_of : ℕ → ℕ → List ℕ
-digits_of n g = get_or DIGITS (3 * n + g) []
+digits_of n g = get_or TABLES.digits (3 * n + g) []
 
 -- the lanes of an offset of each kind
 abbrev pub moved : ℕ → List ℕ
-moved g = get_or OFFSETS g []
+moved g = get_or TABLES.offsets g []
 
 -- how many bytes an offset of each kind has, and how many it leaves for a fraction, as a number of 64 bits
 abbrev width : ℕ → ℕ
