@@ -1,6 +1,5 @@
 -- The letters of names.
-use Rattle.std.specs.Prelude.{◌≡◌, ◌<◌, ◌+◌, ◌*◌, ◌-◌, ◌++◌, ℕ, List, [], ◌∷◌, Some, true, drop, get_or, map}
-use Rattle.parsing_combinator.specs.Names.{long_months, long_weekdays}
+use Rattle.std.specs.Prelude.{◌≡◌, ◌<◌, ◌+◌, ◌*◌, ℕ, List, ◌∷◌, Some, true}
 use Rattle.parsing_layout.specs.Layout.{Names, name_piece}
 
 -- three letters in one number, the first one lowest, after a byte of zero
@@ -13,14 +12,3 @@ pub record AreLetters (word first second third : ℕ) : Type 0 where
 -- the name of a number has these letters
 abbrev pub IsNamed : Names → ℕ → ℕ → ℕ → ℕ → Type 0
 IsNamed names first second third number = (rest : List ℕ) → name_piece names true (first ∷ second ∷ third ∷ rest) ≡ Some (number, rest)
-
--- what stands after the first three letters of the long name of a month, and of a weekday
-abbrev pub month_end : ℕ → List ℕ
-month_end number = drop 3 (get_or (map (λ entry. entry.0) long_months) (number - 1) [])
-
-abbrev pub weekday_end : ℕ → List ℕ
-weekday_end number = drop 3 (get_or (map (λ entry. entry.0) long_weekdays) (number - 1) [])
-
--- the long name of a number begins with these letters, and this stands after them
-abbrev pub IsLong : Names → (ℕ → List ℕ) → ℕ → ℕ → ℕ → ℕ → Type 0
-IsLong names end first second third number = (rest : List ℕ) → name_piece names true (first ∷ second ∷ third ∷ end number ++ rest) ≡ Some (number, rest)

@@ -1,7 +1,7 @@
 //! Names of three letters at places of a text, each looked up at once with the byte beside it.
-ghost use Rattle.std.specs.Prelude.{◌≡◌, ◌≤◌, ◌+◌, ◌++◌, ℕ, Some, IfSome, drop, get_or, length, true};
+ghost use Rattle.std.specs.Prelude.{◌≡◌, ◌≤◌, ◌+◌, ℕ, Some, IfSome, drop, get_or, length, true};
 ghost use Rattle.parsing_layout.specs.Layout.{name_piece};
-ghost use Rattle.parsing_layout.specs.Letters.{AreLetters, IsLong, IsNamed, month_end, weekday_end};
+ghost use Rattle.parsing_layout.specs.Letters.{AreLetters, IsNamed};
 ghost use Rattle.parsing_layout.specs.declared.parts.Names.TheVariants as names;
 
 use std::simd::prelude::*;
@@ -59,8 +59,6 @@ fn letters_at(text: &[u8], place: usize) -> u32
 fn month_number(word: u32) -> Option<u8>
     ensures named { (first second third : ℕ) → AreLetters word first second third
         → IfSome result (IsNamed names.ShortMonth first second third) }
-    ensures long { (first second third : ℕ) → AreLetters word first second third
-        → IfSome result (IsLong names.LongMonth month_end first second third) }
     ensures bound { IfSome result (λ n. (1 ≤ n) × (n ≤ 12)) }
 {
     let place = word.wrapping_mul(0x11c) >> 28;
@@ -76,8 +74,6 @@ fn month_number(word: u32) -> Option<u8>
 fn weekday_number(word: u32) -> Option<u8>
     ensures named { (first second third : ℕ) → AreLetters word first second third
         → IfSome result (IsNamed names.ShortWeekday first second third) }
-    ensures long { (first second third : ℕ) → AreLetters word first second third
-        → IfSome result (IsLong names.LongWeekday weekday_end first second third) }
     ensures bound { IfSome result (λ n. (1 ≤ n) × (n ≤ 7)) }
 {
     let place = word.wrapping_mul(0x7c) >> 29;
@@ -107,79 +103,4 @@ pub fn weekday_name_at(text: &[u8], place: usize) -> Option<u8>
     ensures bound { IfSome result (λ n. (1 ≤ n) × (n ≤ 7)) }
 {
     weekday_number(letters_at(text, place))
-}
-
-// What stands after the first three letters of the long name of a month.
-fn month_end(number: u8) -> Option<&'static [u8]>
-    ensures { IfSome result (λ end. end.now ≡ month_end number) }
-{
-    match number {
-        1 => Some(b"uary"),
-        2 => Some(b"ruary"),
-        3 => Some(b"ch"),
-        4 => Some(b"il"),
-        5 => Some(b""),
-        6 => Some(b"e"),
-        7 => Some(b"y"),
-        8 => Some(b"ust"),
-        9 => Some(b"tember"),
-        10 => Some(b"ober"),
-        11 | 12 => Some(b"ember"),
-        _ => None,
-    }
-}
-
-// What stands after those of a weekday.
-fn weekday_end(number: u8) -> Option<&'static [u8]>
-    ensures { IfSome result (λ end. end.now ≡ weekday_end number) }
-{
-    match number {
-        1 | 5 | 7 => Some(b"day"),
-        2 => Some(b"sday"),
-        3 => Some(b"nesday"),
-        4 => Some(b"rsday"),
-        6 => Some(b"urday"),
-        _ => None,
-    }
-}
-
-// What follows these bytes, where a text begins with them.
-#[inline(always)]
-fn after<'a>(bytes: &[u8], text: &'a [u8]) -> Option<&'a [u8]>
-    ensures { IfSome result (λ rest. text.now ≡ bytes.now ++ rest.now) }
-{
-    let mut rest = text;
-    for wanted in bytes {
-        let [byte, others @ ..] = rest else {
-            return None;
-        };
-        if byte != wanted {
-            return None;
-        }
-        rest = others;
-    }
-    Some(rest)
-}
-
-/// The number of the month whose long name a text begins with, as it is written, and what follows the name.
-#[inline(always)]
-pub fn long_month(text: &[u8]) -> Option<(u8, &[u8])>
-    requires { 4 ≤ length text.now }
-    ensures { IfSome result (λ x. name_piece names.LongMonth true text.now ≡ Some (x.0, x.1.now)) }
-{
-    let number = month_number(letters_at(text, 0))?;
-    let rest = after(month_end(number)?, &text[3..])?;
-    Some((number, rest))
-}
-
-/// The number of the weekday whose long name a text begins with, as it is written, and what follows the name.
-#[inline(always)]
-pub fn long_weekday(text: &[u8]) -> Option<(u8, &[u8])>
-    requires { 4 ≤ length text.now }
-    ensures { IfSome result
-        (λ x. name_piece names.LongWeekday true text.now ≡ Some (x.0, x.1.now)) }
-{
-    let number = weekday_number(letters_at(text, 0))?;
-    let rest = after(weekday_end(number)?, &text[3..])?;
-    Some((number, rest))
 }

@@ -1,14 +1,10 @@
 //! Numbers at the start of a text.
-ghost use Rattle.std.specs.Prelude.{◌≡◌, ◌≤◌, ◌<◌, ◌^◌, None, Some, IfSome, length, true};
+ghost use Rattle.std.specs.Prelude.{◌≡◌, ◌≤◌, ◌<◌, ◌^◌, None, Some, IfSome, length};
 ghost use Rattle.std.specs.Str.Parse.{digits_value};
 ghost use Rattle.parsing_combinator.specs.Pieces as Pieces;
 ghost use Rattle.parsing_combinator.specs.Shape as Shape;
 ghost use Rattle.parsing_layout.specs.Layout as Layout;
-ghost use Rattle.parsing_layout.specs.declared.parts.Names.TheVariants as names;
 
-use crate::names::{
-    long_month as long_month_at, long_weekday as long_weekday_at, month_name_at, weekday_name_at,
-};
 use crate::parts::{Names, Part};
 use calendar_count::Weekday;
 use description_modifiers::Padding;
@@ -103,7 +99,7 @@ fn spaced(text: &[u8]) -> Option<(u8, &[u8])>
 
 // The number of a weekday, from 1 on Monday.
 #[inline(always)]
-fn weekday_number(weekday: Weekday) -> u8
+fn weekday_number(weekday: Weekday) -> u64
     ensures { result ≡ Layout.weekday_number weekday }
 {
     match weekday {
@@ -117,39 +113,20 @@ fn weekday_number(weekday: Weekday) -> u8
     }
 }
 
-// The number of the name of a month or of a weekday, whose case counts.
+// The number of a name.
+#[tactic(auto, unfolding(parsing_combinator::specs::Names::period))]
 #[inline(always)]
-fn name_as_written(names: Names, text: &[u8]) -> Option<(u8, &[u8])>
-    requires { 4 ≤ length text.now }
-    ensures { IfSome result (λ x. Layout.name_piece names true text.now ≡ Some (x.0, x.1.now)) }
-{
-    match names {
-        Names::ShortMonth => {
-            let month = month_name_at(text, 0)?;
-            Some((month, &text[3..]))
-        }
-        Names::LongMonth => long_month_at(text),
-        Names::ShortWeekday => {
-            let weekday = weekday_name_at(text, 0)?;
-            Some((weekday, &text[3..]))
-        }
-        Names::LongWeekday => long_weekday_at(text),
-        Names::HalfOfDay => None,
-    }
-}
-
-// The number of the name of a month or of a weekday.
-fn name_in_any_case(names: Names, case_counts: bool, text: &[u8]) -> Option<(u8, &[u8])>
+fn name(names: Names, case_counts: bool, text: &[u8]) -> Option<(u64, &[u8])>
     ensures { IfSome result (λ x. Layout.name_piece names case_counts text.now ≡ Some (x.0, x.1.now)) }
 {
     match names {
         Names::ShortMonth => {
             let (month, rest) = short_month(case_counts, text)?;
-            Some((month.number(), rest))
+            Some((u64::from(month.number()), rest))
         }
         Names::LongMonth => {
             let (month, rest) = long_month(case_counts, text)?;
-            Some((month.number(), rest))
+            Some((u64::from(month.number()), rest))
         }
         Names::ShortWeekday => {
             let (weekday, rest) = short_weekday(case_counts, text)?;
@@ -159,33 +136,11 @@ fn name_in_any_case(names: Names, case_counts: bool, text: &[u8]) -> Option<(u8,
             let (weekday, rest) = long_weekday(case_counts, text)?;
             Some((weekday_number(weekday), rest))
         }
-        Names::HalfOfDay => None,
+        Names::HalfOfDay => {
+            let (is_later, rest) = period(true, case_counts, text)?;
+            Some((if is_later { 1 } else { 0 }, rest))
+        }
     }
-}
-
-// The number of a half of the day.
-#[tactic(auto, unfolding(parsing_combinator::specs::Names::period))]
-#[inline(always)]
-fn half(case_counts: bool, text: &[u8]) -> Option<(u8, &[u8])>
-    ensures { IfSome result (λ x. Layout.name_piece names.HalfOfDay case_counts text.now
-        ≡ Some (x.0, x.1.now)) }
-{
-    let (is_later, rest) = period(true, case_counts, text)?;
-    Some((if is_later { 1 } else { 0 }, rest))
-}
-
-// The number of a name.
-#[inline(always)]
-fn name(names: Names, case_counts: bool, text: &[u8]) -> Option<(u8, &[u8])>
-    ensures { IfSome result (λ x. Layout.name_piece names case_counts text.now ≡ Some (x.0, x.1.now)) }
-{
-    if let Names::HalfOfDay = names {
-        return half(case_counts, text);
-    }
-    if case_counts && text.len() >= 4 {
-        return name_as_written(names, text);
-    }
-    name_in_any_case(names, case_counts, text)
 }
 
 /// The number that a part reads at the start of a text, or 0 for a byte, and what follows it: `None` says nothing of the text.
@@ -213,10 +168,7 @@ pub fn number_at(part: Part, text: &[u8]) -> Option<(u64, &[u8])>
             let (number, rest) = spaced(text)?;
             Some((u64::from(number), rest))
         }
-        Part::Name(names, case_counts) => {
-            let (number, rest) = name(names, case_counts, text)?;
-            Some((u64::from(number), rest))
-        }
+        Part::Name(names, case_counts) => name(names, case_counts, text),
         Part::Sign => {
             let (byte, rest) = sign(text)?;
             Some((u64::from(byte), rest))

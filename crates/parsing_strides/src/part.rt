@@ -101,9 +101,7 @@ pub(crate) fn read_part<'l>(part: Part, text: &'l [u8], found: &mut Found) -> Op
             Some(rest)
         }
         Part::Run(Field::Unix, most) => {
-            let Some((number, rest)) = ten_digits(most, text) else {
-                return read_number(part, text, found);
-            };
+            let (number, rest) = ten_digits(most, text)?;
             found.unix = number;
             Some(rest)
         }
