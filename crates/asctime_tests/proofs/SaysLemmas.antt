@@ -12,20 +12,15 @@ use Rattle.parsing_values.proofs.lemmas.Moments.{fields_date, fields_time, momen
 use Rattle.parsing_layout.specs.Layout.{Values, Says}
 use Rattle.parsing_layout.specs.declared.parts.Field.TheVariants as field
 use Rattle.parsing_layout.proofs.LayoutLemmas.{numbered}
-use Rattle.parsing_layout.proofs.PieceLemmas.{literal_said, inside}
-use Rattle.asctime_tests.specs.Asctime.{asctime, asctime_parts, moment, moment_of, numbers}
+use Rattle.parsing_layout.proofs.PieceLemmas.{inside, literal_said}
+use Rattle.asctime_tests.specs.Asctime.{asctime, asctime_parts, moment_of, numbers}
 
 -- what was read as a number
-record IsSaid {A : Type 0} (f : A → ℕ) (o : Option (A × List ℕ)) (n : ℕ) (after : List ℕ) : Type 0 where
-  what : A
-  read : o ≡ Some (what, after)
-  number : f what ≡ n
-
-said : {A : Type 0} → (f : A → ℕ) (o : Option (A × List ℕ)) (n : ℕ) (after : List ℕ) → numbered f o ≡ Some (n, after) → IsSaid f o n after
+said : {A : Type 0} → (f : A → ℕ) (o : Option (A × List ℕ)) (n : ℕ) (after : List ℕ) → numbered f o ≡ Some (n, after) → (what : A) × (o ≡ Some (what, after)) × (f what ≡ n)
 said f None n after e = absurd cc
 said f (Some x) n after e =
     let is = inside (f x.0, x.1) (n, after) e in
-    record { what = x.0; read = ap (λ (r : List ℕ). Some (x.0, r)) (ap (λ (z : ℕ × List ℕ). z.1) is); number = ap (λ (z : ℕ × List ℕ). z.0) is }
+    (x.0, ap (λ (z : ℕ × List ℕ). Some (x.0, z.1)) is, ap (λ (z : ℕ × List ℕ). z.0) is)
 
 numbers_with : (text : List ℕ) (v : Values) (w : Weekday) (m : Month) (says : Says asctime_parts text v [])
     → taken (named true short_weekdays) text ≡ Some (w, says.0) → taken (named true short_months) says.2.0 ≡ Some (m, says.2.2.0)
@@ -59,11 +54,11 @@ numbers_read : (text : List ℕ) (v : Values) → Says asctime_parts text v []
 numbers_read text v says =
     let weekday = said _ _ _ _ says.1 in
     let month = said month_number _ _ _ says.2.2.1 in
-    (month.what, month.number, numbers_with text v weekday.what month.what says weekday.read month.read)
+    (month.0, month.2, numbers_with text v weekday.0 month.0 says weekday.1 month.1)
 
 pub text_read : (text : List ℕ) (v : Values) (f : Fields) → Says asctime_parts text v [] → v field.Hour ≤ 23 → v field.Minute ≤ 59
     → HaveNumbers f (v field.Year) (v field.Month) (v field.Day) (v field.Hour * 60 + v field.Minute) (v field.Second) 0 (pos 0) → asctime text ≡ Ok (Moment.moment_of f)
-unfolding asctime moment moment_of
+unfolding asctime moment_of
 text_read text v f says hour_few minute_few n =
     let read = numbers_read text v says in
     rw (read.2, read.1, fields_date f _ _ _ _ _ _ _ n, fields_time f _ _ _ _ _ _ _ _ n hour_few minute_few (lit< tt), ← moment_is f, n.same_offset) refl

@@ -42,13 +42,8 @@ moment_of n = do
   time ← resolved (time_of n.3 n.4 n.5 0)
   give (record { wall = wall_clock date time; offset = pos 0 })
 
-unfoldable pub moment : Reading Shown
-moment = do
-  n ← numbers
-  moment_of n
-
 unfoldable pub asctime : List ℕ → Result Shown Fault
-asctime text = value_read (moment text)
+asctime text = value_read ((numbers >>= moment_of) text)
 
 -- the same as parts
 abbrev pub asctime_parts : List Part

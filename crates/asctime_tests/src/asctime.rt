@@ -89,7 +89,7 @@ fn resolved(numbers: Numbers, rest: &[u8]) -> Result<OffsetDateTime, Parse>
 }
 
 /// The moment that a text names, or its first fault.
-#[tactic(auto, unfolding(crate::specs::Asctime::asctime, crate::specs::Asctime::moment))]
+#[tactic(auto, unfolding(crate::specs::Asctime::asctime))]
 pub fn read_exact(text: &[u8]) -> Result<OffsetDateTime, Parse>
     ensures { Gives (λ d. d) fault_of result (asctime text.now) }
 {
