@@ -32,6 +32,13 @@ fn told_in_two(finder: &Finder, line: &[u8]) -> Told {
     as_told(finder.find_from(&NOTHING, line, start))
 }
 
+// What is found at once, where bytes are passed over before it.
+fn told_at_once(finder: &Finder, line: &[u8]) -> Told {
+    let start = finder.undated_len(line)?;
+    let date = finder.plain_date(&NOTHING, line, start)?;
+    as_told(Some(Finding::There(date)))
+}
+
 // Where a date of the second source goes on in the line.
 fn going_on(finder: &Finder, line: &[u8]) -> Option<(usize, usize)> {
     let doubted = finder.doubt_of(&NOTHING, line, 1)?;
@@ -99,7 +106,6 @@ fn plain_date(rt: HostRuntime) -> Result<(), Fail> {
     let finder = Finder::new(rt.alloc(), sources, 100)?;
     let line = b"[02/Jan/2021:03:04:05 +0000] up".as_slice();
     assert!(rt; finder.undated_len(line) == Some(1));
-    let date = finder.plain_date(&NOTHING, line, 1).map(Finding::There);
-    assert!(rt; as_told(date) == Some((1, 27, 1_609_556_645)));
+    assert!(rt; told_at_once(&finder, line) == Some((1, 27, 1_609_556_645)));
     Ok(())
 }
