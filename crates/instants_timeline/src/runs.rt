@@ -7,11 +7,11 @@ ghost use Rattle.instants_timeline.specs.Place.{answer_to};
 ghost use Rattle.instants_timeline.specs.Settings.{setting_of};
 
 use crate::timeline::{
-    AnswerWay, ExactWay, Iso8601Way, Led, PlainPlaces, PlannedWay, Rfc2822Way, Rfc3339Way, Timeline,
+    AnswerWay, ExactWay, Iso8601Way, Led, PlannedWay, Rfc2822Way, Rfc3339Way, Timeline,
 };
 use instants_sources::Source;
 use instants_stream::{ByteReader, ByteWriter, RunFault, TooLittleRoom, lines_over, run_lines};
-use parsing_plan::Plan;
+use parsing_plan::PlanAt;
 
 /// Writes the answer to each line that the reader gives, each followed by a line feed. The answers are handed on before
 /// each read, and the writer is flushed at the end.
@@ -59,18 +59,24 @@ pub(crate) fn answer_lines<R: ByteReader, W: ByteWriter>(
         Source::Rfc2822 => run_by(Rfc2822Way, timeline, limit, buffer, reader, writer),
         Source::Iso8601 => run_by(Iso8601Way, timeline, limit, buffer, reader, writer),
         described => match described.plan() {
-            Some(Plan::Places(places)) if places.is_plain() => {
-                let plan = PlainPlaces { places };
-                run_by(PlannedWay { plan }, timeline, limit, buffer, reader, writer)
-            }
-            Some(Plan::Places(plan)) => {
-                run_by(PlannedWay { plan }, timeline, limit, buffer, reader, writer)
-            }
-            Some(Plan::Unix(plan)) => {
-                run_by(PlannedWay { plan }, timeline, limit, buffer, reader, writer)
-            }
-            Some(plan) => run_by(PlannedWay { plan }, timeline, limit, buffer, reader, writer),
             None => run_by(ExactWay, timeline, limit, buffer, reader, writer),
+            Some(plan) => match plan.at(timeline.assumed()) {
+                PlanAt::Plain(plan) => {
+                    run_by(PlannedWay { plan }, timeline, limit, buffer, reader, writer)
+                }
+                PlanAt::Whole(plan) => {
+                    run_by(PlannedWay { plan }, timeline, limit, buffer, reader, writer)
+                }
+                PlanAt::Split(plan) => {
+                    run_by(PlannedWay { plan }, timeline, limit, buffer, reader, writer)
+                }
+                PlanAt::Unix(plan) => {
+                    run_by(PlannedWay { plan }, timeline, limit, buffer, reader, writer)
+                }
+                PlanAt::Other(plan) => {
+                    run_by(PlannedWay { plan }, timeline, limit, buffer, reader, writer)
+                }
+            },
         },
     }
 }
@@ -125,18 +131,44 @@ pub fn run_over(
         Source::Rfc2822 => run_over_by(Rfc2822Way, timeline, limit, input, room),
         Source::Iso8601 => run_over_by(Iso8601Way, timeline, limit, input, room),
         described => match described.plan() {
-            Some(Plan::Places(places)) if places.is_plain() => {
-                let plan = PlainPlaces { places };
-                run_over_by(PlannedWay { plan }, timeline, limit, input, room)
-            }
-            Some(Plan::Places(plan)) => {
-                run_over_by(PlannedWay { plan }, timeline, limit, input, room)
-            }
-            Some(Plan::Unix(plan)) => {
-                run_over_by(PlannedWay { plan }, timeline, limit, input, room)
-            }
-            Some(plan) => run_over_by(PlannedWay { plan }, timeline, limit, input, room),
             None => run_over_by(ExactWay, timeline, limit, input, room),
+            Some(plan) => match plan.at(timeline.assumed()) {
+                PlanAt::Plain(plan) => run_over_by(
+                    PlannedWay { plan },
+                    timeline,
+                    limit,
+                    input,
+                    room,
+                ),
+                PlanAt::Whole(plan) => run_over_by(
+                    PlannedWay { plan },
+                    timeline,
+                    limit,
+                    input,
+                    room,
+                ),
+                PlanAt::Split(plan) => run_over_by(
+                    PlannedWay { plan },
+                    timeline,
+                    limit,
+                    input,
+                    room,
+                ),
+                PlanAt::Unix(plan) => run_over_by(
+                    PlannedWay { plan },
+                    timeline,
+                    limit,
+                    input,
+                    room,
+                ),
+                PlanAt::Other(plan) => run_over_by(
+                    PlannedWay { plan },
+                    timeline,
+                    limit,
+                    input,
+                    room,
+                ),
+            },
         },
     }
 }

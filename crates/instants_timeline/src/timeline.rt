@@ -13,7 +13,7 @@ mod search;
 
 use calendar::UtcOffset;
 pub(crate) use fast_ways::{
-    AnswerWay, ExactWay, Iso8601Way, Led, PlainPlaces, PlannedWay, Rfc2822Way, Rfc3339Way,
+    AnswerWay, ExactWay, Iso8601Way, Led, PlannedWay, Rfc2822Way, Rfc3339Way,
 };
 use instants_answers::Target;
 use instants_sources::Source;

@@ -1,20 +1,17 @@
 -- The moment that parts say whose fields are those of sums of lanes.
-use Rattle.std.proofs.Common.{◌≡◌, ◌∙◌, ◌≤◌, ◌<◌, ◌+◌, ◌-◌, ◌*◌, ◌/◌, ◌%◌, ◌==◌, ◌||◌, ℕ, Bool, true, false, List, get_or, length, drop, Option, Some, None, Ok, refl, sym, ap, arith, pos, ℤ}
-use Rattle.std.specs.Prelude.{◌*ℤ◌, nat_eq, IfSome, IsSome, is_some, if◌then◌else◌}
+use Rattle.std.proofs.Common.{◌≡◌, ◌∙◌, ◌≤◌, ◌<◌, ◌+◌, ◌-◌, ◌%◌, ◌||◌, ℕ, Bool, true, false, List, get_or, length, drop, Option, Some, None, Ok, refl, sym, ap, arith, pos, ℤ}
+use Rattle.std.specs.Prelude.{◌*ℤ◌, IfSome, IsSome, is_some}
 use Rattle.std.specs.Option.{ForSome}
 use Rattle.std.proofs.lemmas.Bool.Decides.{nat_tests}
 use Rattle.std.proofs.lemmas.List.{drop-drop}
 use Rattle.calendar_count.specs.Calendar.{days_in_month}
-use Rattle.datetime_wall.specs.Wall.{Shown}
 use Rattle.parsing_components.specs.Prefix.{beginning}
 use Rattle.parsing_components.specs.Whole.{moment_named, offset_named}
 use Rattle.parsing_values.specs.Moment.{moment_of}
-use Rattle.parsing_values.specs.Numbers.{HaveNumbers}
 use Rattle.parsing_values.specs.Written.{WriteFraction}
 use Rattle.parsing_values.specs.declared.fields.Fields.{Fields}
 use Rattle.parsing_item_parts.specs.Recorded.{recorded, said_or}
 use Rattle.parsing_item_parts.proofs.MomentLemmas.{hour_said, moment_said, offset_assumed, offset_said}
-use Rattle.parsing_item_parts.proofs.SaidLemmas.{SayDay}
 use Rattle.parsing_shapes.specs.Beside.{IsFraction, ReadAt}
 use Rattle.parsing_shapes.specs.Front.{fits_beside}
 use Rattle.parsing_layout.specs.Layout.{Values, Says}

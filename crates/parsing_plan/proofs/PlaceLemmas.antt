@@ -1,6 +1,6 @@
 -- The fields of places name what the items read.
 use Rattle.std.proofs.Common.{◌≡◌, ◌≤◌, ◌<◌, ◌+◌, ◌-◌, ℕ, true, false, List, get_or, length, drop, Option, Some, None, refl, sym, ◌∙◌, ℤ}
-use Rattle.std.specs.Prelude.{IfSome, is_some}
+use Rattle.std.specs.Prelude.{IfSome, is_some, not}
 use Rattle.parsing_combinator.specs.Pieces.{digits}
 use Rattle.parsing_components.specs.Meaning.{Meaning}
 use Rattle.parsing_components.specs.Prefix.{NamesPrefix, beginning}
@@ -19,7 +19,7 @@ use Rattle.parsing_plan.specs.declared.places.Places.{Places}
 use Rattle.parsing_plan.proofs.FieldLemmas.{values, front_said, in_range, names_moment, neither}
 use Rattle.parsing_shapes.specs.declared.front.Beside.{Beside}
 use Rattle.parsing_layout.proofs.TestLemmas.{both, is_not}
-use Rattle.parsing_plan.specs.Parts.{is_plain}
+use Rattle.parsing_plan.specs.Parts.{are_numbers, is_plain}
 use Rattle.parsing_plan.proofs.SplitLemmas.{no_place, split_said, sums}
 
 -- all parts have fixed widths
@@ -65,3 +65,10 @@ plain_beside b e =
     let day = neither (is_some b.day) _ (is_not _ month.1) in
     let weekday = neither (is_some b.weekday) (is_some b.fraction) day.1 in
     rw (offset.0, no_place b.day day.0, no_place b.weekday weekday.0, no_place b.fraction weekday.1) refl
+
+pub number_beside : (b : Beside) → are_numbers b ≡ true → b ≡ record { month = None; day = None; weekday = None; fraction = None; has_offset = b.has_offset }
+number_beside b e =
+    let month = both (not (is_some b.month)) _ e in
+    let day = both (not (is_some b.day)) _ month.1 in
+    let weekday = both (not (is_some b.weekday)) _ day.1 in
+    rw (no_place b.month (is_not _ month.0), no_place b.day (is_not _ day.0), no_place b.weekday (is_not _ weekday.0), no_place b.fraction (is_not _ weekday.1)) refl

@@ -55,6 +55,10 @@ pub record IsSplit (front : Front) (count : ℕ) (last : LastBytes) (ps : List P
   pub clock : spares_clock last.window ≡ true
   pub offset : is_end_bounded last.window front.beside.has_offset ≡ true
 
+-- whether nothing is read beside lanes, but for an offset
+abbrev pub are_numbers : Beside → Bool
+are_numbers b = not (is_some b.month) && (not (is_some b.day) && (not (is_some b.weekday) && not (is_some b.fraction)))
+
 -- whether nothing but the name of a month is read beside lanes, and an offset is written
 abbrev pub is_plain : Beside → Bool
 is_plain b = b.has_offset && (is_some b.month && not (is_some b.day || (is_some b.weekday || is_some b.fraction)))

@@ -8,5 +8,6 @@ mod read;
 mod unix;
 
 pub use places::Places;
-pub use plan::Plan;
+pub use plan::{Plan, PlanAt};
+pub use read::{SplitPlaces, WholePlaces};
 pub use unix::UnixTime;

@@ -5,7 +5,7 @@ ghost use Rattle.parsing_shapes.specs.Beside.{HasSpaced, IsFraction, ReadAt, is_
 ghost use Rattle.parsing_layout.specs.declared.parts.Field.TheVariants as field;
 ghost use Rattle.parsing_layout.specs.declared.parts.Names.TheVariants as names;
 ghost use Rattle.parsing_layout.specs.declared.parts.Part.TheVariants as part;
-ghost use Rattle.parsing_plan.specs.Fields.{IsOffset};
+ghost use Rattle.parsing_plan.specs.Fields.{Assumes, IsOffset};
 
 use calendar::UtcOffset;
 use parsing_components::assumed_minutes;
@@ -103,22 +103,39 @@ pub(crate) fn fraction_of(
     }
 }
 
-/// The minutes of the offset, of the sums or else of the one that is assumed.
+/// The minutes of an offset.
+#[derive(Clone, Copy)]
+pub struct Minutes {
+    pub(crate) number: i16,
+    ghost few: { unsigned_abs number ≤ 1559 },
+}
+
+/// The minutes of the offset, of the sums or else those that are assumed.
 #[inline(always)]
-pub(crate) fn offset_of(
-    beside: &Beside,
-    offset: u32,
-    seconds: u32,
-    assumed: Option<UtcOffset>,
-) -> Option<i16>
+pub(crate) fn offset_of(beside: &Beside, offset: u32, seconds: u32, minutes: Minutes) -> i16
     requires few { offset < 1440 }
     requires even { seconds % 2 ≡ 0 }
-    ensures says { IfSome result (IsOffset beside.now.has_offset offset seconds assumed) }
-    ensures bound { IfSome result (λ o. unsigned_abs o ≤ 1559) }
+    ensures says { (assumed : Option ℤ) → Assumes beside.now.has_offset assumed minutes.number
+        → IsOffset beside.now.has_offset offset seconds assumed result }
+    ensures bound { unsigned_abs result ≤ 1559 }
 {
     if beside.has_offset {
-        return Some(signed(offset, seconds % 4 == 2));
+        signed(offset, seconds % 4 == 2)
+    } else {
+        minutes.number
+    }
+}
+
+/// The minutes that are assumed for lines without an offset, and any others where an offset is written: `None` where neither is.
+#[inline(always)]
+pub(crate) fn minutes_of(beside: &Beside, assumed: Option<UtcOffset>) -> Option<Minutes>
+    ensures { IfSome result (λ minutes. Assumes beside.now.has_offset assumed minutes.number) }
+{
+    if beside.has_offset {
+        return Some(Minutes { number: 0 });
     }
     let offset = assumed?;
-    Some(assumed_minutes(offset))
+    Some(Minutes {
+        number: assumed_minutes(offset),
+    })
 }

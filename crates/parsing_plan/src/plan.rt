@@ -1,5 +1,5 @@
 //! Plans of descriptions.
-ghost use Rattle.std.specs.Prelude.{map, IfSome, Option};
+ghost use Rattle.std.specs.Prelude.{◌≡◌, map, IfSome, Option};
 ghost use Rattle.description_items.specs.Tree.{listed, trees};
 ghost use Rattle.description_tree.specs.Description.{v3_tree};
 ghost use Rattle.parsing_combinator.specs.Tame.{EndsWith};
@@ -10,9 +10,10 @@ ghost use Rattle.parsing_components.specs.Prefix.{NamesPrefix, beginning};
 ghost use Rattle.parsing_components.specs.Reads.{reading, reading_of_all};
 ghost use Rattle.parsing_components.specs.Whole.{whole, names};
 ghost use Rattle.parsing_item_parts.specs.Listed.{NamesWhole};
-ghost use Rattle.parsing_plan.specs.Plan.{IsPlanOf};
+ghost use Rattle.parsing_plan.specs.Plan.{HasAssumed, IsPlanOf, plan_of};
 
 use crate::places::Places;
+use crate::read::{SplitPlaces, WholePlaces};
 use crate::unix::UnixTime;
 use calendar::UtcOffset;
 use description_items::BorrowedFormatItem;
@@ -30,6 +31,21 @@ pub enum Plan {
     Unix(UnixTime),
     /// A part after the other.
     Listed(Listed),
+}
+
+/// A plan, by the way in which its lines are read, with the offset that is assumed for them.
+#[derive(Clone, Copy)]
+pub enum PlanAt<'p> {
+    /// The name of a month, an offset, and no other parts but numbers: `Places::read_plain`.
+    Plain(&'p Places),
+    /// Parts of fixed widths.
+    Whole(WholePlaces<'p>),
+    /// Numbers, with a fraction of any number of digits among them.
+    Split(SplitPlaces<'p>),
+    /// Unix time alone.
+    Unix(&'p UnixTime),
+    /// Any other.
+    Other(&'p Plan),
 }
 
 // The plan of items that are read one after the other.
@@ -66,6 +82,22 @@ impl Plan {
         }
     }
 
+    /// The plan, with an offset that is assumed or none, by the way in which its lines are read.
+    pub fn at(&self, assumed: Option<UtcOffset>) -> PlanAt<'_>
+        ensures plan { plan_of result ≡ self.now }
+        ensures assumed { HasAssumed result assumed }
+    {
+        match self {
+            Plan::Places(places) if places.is_plain() => PlanAt::Plain(places),
+            Plan::Places(places) => match places.at(assumed) {
+                Some(way) => way,
+                None => PlanAt::Other(self),
+            },
+            Plan::Unix(unix) => PlanAt::Unix(unix),
+            Plan::Listed(_) => PlanAt::Other(self),
+        }
+    }
+
     /// The fields of a line that the plan finds, with an offset assumed or none, which counts only where the line has
     /// none: what the items of the plan read of the whole line names their moment. `None` says nothing of the line.
     #[inline(always)]
@@ -73,7 +105,10 @@ impl Plan {
         ensures { NamesWhole (λ m. IsPlanOf m self.now) line.now assumed result }
     {
         match self {
-            Plan::Places(places) => places.read(line, assumed),
+            Plan::Places(places) => match places.read_prefix(line, assumed) {
+                Some((fields, [])) => Some(fields),
+                _ => None,
+            },
             Plan::Unix(unix) => unix.read(line),
             Plan::Listed(listed) => listed.read(line, assumed),
         }

@@ -98,9 +98,7 @@ impl Timeline<'_> {
                 room,
             ),
             Source::Items(_) | Source::V3(_) => match source.plan() {
-                Some(Plan::Places(places)) => {
-                    self.fill_found(places.read(line, self.assumed), room)
-                }
+                Some(Plan::Places(places)) => { self.fill_found(places.read_plain(line), room) }
                 _ => None,
             },
         }

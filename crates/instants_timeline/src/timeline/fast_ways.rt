@@ -1,6 +1,7 @@
 //! The ways in which the lines of a timeline are answered, each by fast ways first.
-ghost use Rattle.std.specs.Prelude.{◌≡◌, ◌≤◌, length, IfSome, Ok};
+ghost use Rattle.std.specs.Prelude.{◌≡◌, ◌≤◌, length, IfSome, Ok, Option, Unit, ℤ};
 ghost use Rattle.parsing_values.specs.Moment.{moment_of};
+ghost use Rattle.parsing_plan.specs.Places.{AssumesMinutes};
 ghost use Rattle.parsing_plan.specs.declared.plan.Plan.{Plan};
 ghost use Rattle.instants_answers.specs.Line.{HoldsLine};
 ghost use Rattle.instants_sources.specs.Grammar.{Grammar};
@@ -14,7 +15,7 @@ use calendar::UtcOffset;
 use instants_answers::Answer;
 use instants_sources::{directly_named, is_no_rfc3339};
 use instants_stream::AnswersLines;
-use parsing_plan::{Places, Plan, UnixTime};
+use parsing_plan::{Places, Plan, SplitPlaces, UnixTime, WholePlaces};
 use parsing_values::Fields;
 
 /// A way to answer the lines of a timeline, by the kind of its first source. All answer alike: a run over a stream is compiled
@@ -100,39 +101,59 @@ pub(crate) trait ReadsPlanned {
     /// The plan.
     ghost planned: { Self → Plan };
 
+    /// With which offsets that are assumed it reads.
+    ghost assumes: { Self → Option ℤ → Type 0 };
+
     /// The fields of the moment of a line, where they are found, with an offset assumed or none: `None` says nothing of the
     /// line.
     fn read_planned(&self, line: &[u8], assumed: Option<UtcOffset>) -> Option<Fields>
+        requires { ∥ assumes self.now assumed ∥₁ }
         ensures { (grammar : Grammar) → IsPlanned grammar (planned self.now) → IfSome result
             (λ fields. named assumed grammar line.now ≡ Ok (moment_of fields)) };
 }
 
-// A place for each component.
+// Parts of fixed widths.
+impl ReadsPlanned for WholePlaces<'_> {
+    ghost use Rattle.parsing_plan.specs.declared.plan.Plan.TheVariants as plan;
+
+    ghost planned = { λ whole. plan.Places whole.places.now };
+
+    ghost assumes = { λ whole. AssumesMinutes whole.places.now whole.minutes };
+
+    #[inline(always)]
+    fn read_planned(&self, line: &[u8], assumed: Option<UtcOffset>) -> Option<Fields> {
+        let _ = assumed;
+        self.read(line)
+    }
+}
+
+// A fraction of any number of digits among them.
+impl ReadsPlanned for SplitPlaces<'_> {
+    ghost use Rattle.parsing_plan.specs.declared.plan.Plan.TheVariants as plan;
+
+    ghost planned = { λ split. plan.Places split.places.now };
+
+    ghost assumes = { λ split. AssumesMinutes split.places.now split.minutes };
+
+    #[inline(always)]
+    fn read_planned(&self, line: &[u8], assumed: Option<UtcOffset>) -> Option<Fields> {
+        let _ = assumed;
+        self.read(line)
+    }
+}
+
+// The name of a month, an offset, and numbers alone, as in a web server's log.
 impl ReadsPlanned for &Places {
     ghost use Rattle.parsing_plan.specs.declared.plan.Plan.TheVariants as plan;
 
     ghost planned = { λ places. plan.Places places.now };
 
-    #[inline(always)]
-    fn read_planned(&self, line: &[u8], assumed: Option<UtcOffset>) -> Option<Fields> {
-        self.read(line, assumed)
-    }
-}
-
-/// Places with the name of a month, an offset and numbers alone, as a web server's.
-#[derive(Drop)]
-pub(crate) struct PlainPlaces<'p> {
-    pub(crate) places: &'p Places,
-}
-
-impl ReadsPlanned for PlainPlaces<'_> {
-    ghost use Rattle.parsing_plan.specs.declared.plan.Plan.TheVariants as plan;
-
-    ghost planned = { λ plain. plan.Places plain.places.now };
+    ghost assumes = { λ _ _. Unit {0} };
 
     #[inline(always)]
     fn read_planned(&self, line: &[u8], assumed: Option<UtcOffset>) -> Option<Fields> {
-        self.places.read_plain(line, assumed)
+        let _ = assumed;
+        self.read_plain(line)
     }
 }
 
@@ -140,6 +161,8 @@ impl ReadsPlanned for &UnixTime {
     ghost use Rattle.parsing_plan.specs.declared.plan.Plan.TheVariants as plan;
 
     ghost planned = { λ unix. plan.Unix unix.now };
+
+    ghost assumes = { λ _ _. Unit {0} };
 
     #[inline(always)]
     fn read_planned(&self, line: &[u8], assumed: Option<UtcOffset>) -> Option<Fields> {
@@ -152,6 +175,8 @@ impl ReadsPlanned for &UnixTime {
 // Any other plan.
 impl ReadsPlanned for &Plan {
     ghost planned = { λ plan. plan.now };
+
+    ghost assumes = { λ _ _. Unit {0} };
 
     #[inline(always)]
     fn read_planned(&self, line: &[u8], assumed: Option<UtcOffset>) -> Option<Fields> {
@@ -168,7 +193,7 @@ pub(crate) struct PlannedWay<P> {
 impl<P: ReadsPlanned> AnswerWay for PlannedWay<P> {
     ghost use Rattle.instants_timeline.specs.FirstNamed.{IsLedByPlan};
 
-    ghost leads = { λ way setting. IsLedByPlan setting (P.planned way.plan) };
+    ghost leads = { λ way setting. IsLedByPlan setting (P.planned way.plan) × P.assumes way.plan setting.assumed };
 
     #[inline(always)]
     fn fill_answer(&self, timeline: &Timeline, line: &[u8], room: &mut [u8]) -> usize {

@@ -1,4 +1,4 @@
-use Rattle.std.proofs.Common.{◌≡◌, refl, arith, to_z, of_z, w16}
+use Rattle.std.proofs.Common.{◌≡◌, arith, to_z, of_z, w16}
 use Rattle.std.proofs.lemmas.Int.{ints}
 use Rattle.parsing_shapes.proofs.FrontLemmas.{spaced_there}
 use Rattle.parsing_shapes.proofs.WindowLemmas.{year_pairs}
@@ -21,10 +21,10 @@ of_digits-year-requires-clause-low c =
     (year_pairs s.windows c.args.line.now c.requires.sums.front s.length s.year c.requires.sums.front_taken (λ k. (omega (arith, c.type_inv.line k))) s.year_is c.requires.long).1
 
 pub returns : goal.returns
-returns c =
+returns c = λ assumed assumes.
     let h = c.of_numbers.ensures in
-    let o = c.in_ok-offset.offset in
-    let same : to_z w16 (of_z w16 o) ≡ o = omega (arith, ints, c.in_ok-offset.ensures.bound) in
+    let o = c.offset_of-offset.result in
+    let same : to_z w16 (of_z w16 o) ≡ o = omega (arith, ints, c.offset_of-offset.ensures.bound) in
     record {
       weekday = c.in_ok-_weekday._weekday;
       year_is = rw h.same_year c.of_digits-year.ensures.digits;
@@ -38,6 +38,6 @@ returns c =
       second_is = h.same_second;
       fraction_is = rw h.same_fraction c.in_ok-fraction.ensures.says;
       fraction_few = rw h.same_fraction c.in_ok-fraction.ensures.bound;
-      offset_is = rw (h.same_offset, same) c.in_ok-offset.ensures.says;
+      offset_is = rw (h.same_offset, same) (c.offset_of-offset.ensures.says assumed assumes);
       even = omega (arith, c.if-seconds-ne0.false);
     }

@@ -12,4 +12,4 @@ pub fields_of-requires-clause-sums : goal.fields_of-requires-clause-sums
 fields_of-requires-clause-sums c = c.in_ok-sums.ensures
 
 pub returns : goal.returns
-returns c = λ m is. whole_read c.args.places.now c.args.line.now _ _ _ _ c.in_ok-sums.ensures (λ k. (omega (arith, c.type_inv.line k))) c.requires.long c.args.assumed c.fields_of.result c.requires.whole c.fields_of.ensures m is
+returns c = λ m assumed is assumes. whole_read c.args.places.now c.args.line.now _ _ _ _ c.in_ok-sums.ensures (λ k. (omega (arith, c.type_inv.line k))) c.requires.long assumed c.fields_of.result c.requires.whole (c.fields_of.ensures assumed assumes) m is

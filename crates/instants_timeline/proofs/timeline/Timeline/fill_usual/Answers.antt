@@ -20,5 +20,5 @@ pub returns-in-Some-Places-clause-line : goal.returns-in-Some-Places-clause-line
 returns-in-Some-Places-clause-line c =
     let grammar = grammar_of c.args.source.now in
     let places = c.in-Some-Places.places in
-    held_if (setting_of c.args.self.now) c.read.result grammar c.args.line.now c.fill_found-in-Some-Places.new.room c.fill_found-in-Some-Places.result
-    (places_named grammar places c.args.line.now c.args.self.now.assumed c.read.result (rw c.in-Some-Places.field-0-is at c.in-Some-Places.ensures) c.read.ensures) c.fill_found-in-Some-Places.ensures.line
+    held_if (setting_of c.args.self.now) c.read_plain.result grammar c.args.line.now c.fill_found-in-Some-Places.new.room c.fill_found-in-Some-Places.result
+    (places_named grammar places c.args.line.now c.args.self.now.assumed c.read_plain.result (rw c.in-Some-Places.field-0-is at c.in-Some-Places.ensures) (c.read_plain.ensures c.args.self.now.assumed)) c.fill_found-in-Some-Places.ensures.line
