@@ -1,5 +1,5 @@
 //! The ways in which the lines of a timeline are answered, each by fast ways first.
-ghost use Rattle.std.specs.Prelude.{◌≡◌, ◌≤◌, length, IfSome, Ok, Option, Unit, ℤ};
+ghost use Rattle.std.specs.Prelude.{◌≡◌, ◌≤◌, length, IfSome, Ok, Option, ℤ};
 ghost use Rattle.parsing_values.specs.Moment.{moment_of};
 ghost use Rattle.parsing_plan.specs.Places.{AssumesMinutes};
 ghost use Rattle.parsing_plan.specs.declared.plan.Plan.{Plan};
