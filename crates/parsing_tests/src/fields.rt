@@ -9,7 +9,7 @@ use parsing_combinator::digit_chunk;
 use parsing_components::assumed_minutes;
 use parsing_item_parts::Listed;
 use parsing_places::{Moves, Window, Windows};
-use parsing_plan::Plan;
+use parsing_plan::{Plan, PlanAt};
 use parsing_values::{Fields, Fraction, Year, digit_pair, minute_of_day};
 use std::alloc::Global;
 
@@ -144,25 +144,25 @@ fn planned_by_items(items: &[BorrowedFormatItem<'_>], line: &[u8]) -> Option<(i6
     instant(Plan::of_items(items)?.read(line, None))
 }
 
-// The same by its places, or by Unix time alone.
-fn planned_alone(items: &[BorrowedFormatItem<'_>], line: &[u8]) -> Option<(i64, u32)> {
-    match Plan::of_items(items)? {
-        Plan::Places(places) => {
-            if places.is_plain() {
-                instant(places.read_plain(line, None))
-            } else {
-                instant(places.read(line, None))
-            }
-        }
-        Plan::Unix(unix) => instant(unix.read_within(line)),
-        Plan::Listed(_) => None,
+// The same by its way, but for those that are read by strides.
+fn planned_alone(plan: &Plan, line: &[u8]) -> Option<(i64, u32)> {
+    match plan.at(Some(UtcOffset::UTC)) {
+        PlanAt::Plain(places) => instant(places.read_plain(line)),
+        PlanAt::Whole(whole) => instant(whole.read(line)),
+        PlanAt::Split(split) => instant(split.read(line)),
+        PlanAt::Unix(unix) => instant(unix.read_within(line)),
+        PlanAt::Other(_) => None,
     }
+}
+
+fn planned_by_way(items: &[BorrowedFormatItem<'_>], line: &[u8]) -> Option<(i64, u32)> {
+    planned_alone(&Plan::of_items(items)?, line)
 }
 
 // Both, by the letters of `strftime`.
 fn planned_by_letters(alloc: Global, text: &str, line: &[u8]) -> [Option<(i64, u32)>; 2] {
     match parse_strftime_borrowed(alloc, text) {
-        Ok(items) => [planned_by_items(&items, line), planned_alone(&items, line)],
+        Ok(items) => [planned_by_items(&items, line), planned_by_way(&items, line)],
         Err(_) => [None, None],
     }
 }
@@ -215,12 +215,20 @@ const SPACED_STAMP: &str =
 // With places.
 const PLACED: &str = "[year]-[month]-[day] [hour]:[minute]:[second] UTC";
 
+// With a fraction among them.
+const SPLIT: &str = "[year]-[month]-[day] [hour]:[minute]:[second].[subsecond] UTC";
+
 // What the plan of a description of version 3 reads of a line.
 fn planned_by_tree(description: &Description<'_>, line: &[u8]) -> Option<(i64, u32)> {
     let Description::V3(tree) = description else {
         return None;
     };
-    instant(Plan::of_description(tree)?.read(line, Some(UtcOffset::UTC)))
+    let plan = Plan::of_description(tree)?;
+    let fields = plan.read(line, Some(UtcOffset::UTC));
+    match plan.at(Some(UtcOffset::UTC)) {
+        PlanAt::Other(_) => instant(fields),
+        _ => planned_alone(&plan, line),
+    }
 }
 
 fn planned(alloc: Global, text: &str, line: &[u8]) -> Option<(i64, u32)> {
@@ -251,6 +259,7 @@ fn steps(rt: HostRuntime) {
     );
     assert!(rt; night == [WHOLE, WHOLE]);
     assert!(rt; planned(rt.alloc(), PLACED, b"2021-01-02 02:04:05 UTC") == WHOLE);
+    assert!(rt; planned(rt.alloc(), SPLIT, b"2021-01-02 02:04:05.50 UTC") == HALF);
     assert!(rt; planned(rt.alloc(), UNIX, b"1609553045.5") == HALF);
 }
 
