@@ -1,15 +1,15 @@
 -- The digits of a fraction past the ninth have no effect.
-use Rattle.std.proofs.Common.{◌≡◌, ℕ, suc, Bool, true, false, cond, ◌+◌, ◌-◌, ◌*◌, ◌/◌, ◌^◌, ◌<◌, ◌≤◌, List, [], ◌∷◌, length, take, drop, refl, sym, ap, ◌∙◌, arith, lit<, inl, inr, leb, Option, Some, None, unwrap_or}
+use Rattle.std.proofs.Common.{◌≡◌, ℕ, suc, Bool, true, false, cond, ◌+◌, ◌-◌, ◌*◌, ◌/◌, ◌^◌, ◌<◌, ◌≤◌, List, [], ◌∷◌, ◌++◌, length, replicate, eqb, take, drop, refl, sym, ap, ◌∙◌, arith, lit<, inl, inr, leb, Option, Some, None, unwrap_or}
 use Rattle.std.specs.Char.{is_ascii_digit}
 use Rattle.std.specs.Str.Parse.{digits_value, AllDigits}
 use Rattle.std.proofs.lemmas.Bool.{cases_lt}
 use Rattle.std.proofs.lemmas.Bool.Decides.{nat_tests}
-use Rattle.std.proofs.lemmas.List.{take-append-drop, length-take-le, take_all, length-drop}
-use Rattle.std.proofs.lemmas.List.Sums.{prefix_len-le-length}
+use Rattle.std.proofs.lemmas.List.{take-append-drop, take_all, length-drop}
+use Rattle.std.proofs.lemmas.List.Folds.{prefix_len-append, prefix_len-replicate}
 use Rattle.std.proofs.lemmas.Int.Digits.{digits_value-lt}
 use Rattle.std.proofs.lemmas.Nat.{pow-add, le-div, div_below}
 use Rattle.std.proofs.Math.Nat.{mul-lt-mul_of_pos_right, mul-div_cancel, mul_assoc, mul-div-mul_right, one-le-pow}
-use Rattle.parsing_combinator.proofs.Decimal.{digit_here, value_after, value_append, count_drop}
+use Rattle.parsing_combinator.proofs.Decimal.{digit_here, value_after, value_append, value_zeros, count_drop}
 use Rattle.parsing_combinator.specs.Pieces.{digits, digit_count, digit_run, fraction, nanoseconds_of}
 
 counted_first : (b : Bool) (n k : ℕ) → cond b (1 + n) 0 ≡ suc k → (b ≡ true) × (n ≡ k)
@@ -93,15 +93,20 @@ none_there bytes h =
           cc
     ]
 
--- nine digits and no tenth are the nanoseconds of a fraction
-pub fraction_of_nine : (bytes : List ℕ) (v : ℕ) (rest : List ℕ) → digits 9 bytes ≡ Some (v, rest) → digits 1 rest ≡ None → fraction bytes ≡ Some (v, rest)
+-- digits, and zeros after them
+pub padded_count : (run : List ℕ) (m : ℕ) → digit_count run ≡ length run → digit_count (run ++ replicate m 48) ≡ length run + m
+padded_count run m all =
+    let same : eqb (digit_count run) (length run) ≡ true = grind (arith, nat_tests) in
+    prefix_len-append is_ascii_digit run (replicate m 48) ∙ rw (same, prefix_len-replicate is_ascii_digit m 48 refl) refl
+
+pub padded_value : (run : List ℕ) (m : ℕ) → length run + m ≡ 9 → digits_value 10 (run ++ replicate m 48) ≡ nanoseconds_of run
+padded_value run m nine =
+    let left : m ≡ 9 - length run = omega arith in
+    value_append 0 run (replicate m 48) ∙ value_zeros (digits_value 10 run) m ∙ ap (λ (n : ℕ). digits_value 10 run * 10 ^ n) left ∙ short_fraction run (omega arith)
+
+-- the digits that are all that are there are a fraction
+pub fraction_there : (bytes : List ℕ) (count : ℕ) → 0 < count → digit_count bytes ≡ count → fraction bytes ≡ Some (nanoseconds_of (take count bytes), drop count bytes)
 unfolding fraction digit_run
-fraction_of_nine bytes v rest nine none =
-    let r = digits_read 9 bytes v rest nine in
-    let left = none_there rest none in
-    let count = count_drop 9 bytes r.enough in
-    let k : digit_count (drop 9 bytes) ≡ 0 = ap digit_count r.after ∙ left in
-    let e : digit_count bytes ≡ 9 = omega arith in
-    let long : length (take 9 bytes) ≡ 9 = length-take-le 9 bytes (omega (arith, prefix_len-le-length is_ascii_digit bytes)) in
-    let w : nanoseconds_of (take 9 bytes) ≡ v = sym (short_fraction (take 9 bytes) (omega arith)) ∙ rw long (omega (arith, r.value)) in
-    rw (e, w, r.after) refl
+fraction_there bytes count some is =
+    let nonzero : eqb count 0 ≡ false = grind (arith, nat_tests) in
+    rw (is, nonzero) refl

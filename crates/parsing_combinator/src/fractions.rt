@@ -3,12 +3,11 @@ ghost use Rattle.std.specs.Prelude.{◌≡◌, ◌≤◌, ◌<◌, ◌^◌, IfSo
 ghost use Rattle.std.specs.Str.Parse.{digits_value};
 ghost use Rattle.parsing_combinator.specs.Pieces as Pieces;
 
-use crate::chunk::{nine_digits, short_fraction};
-use crate::cut::{digit_run, one_digit};
+use crate::cut::digit_run;
 
-// The number that at most nine digits write.
+/// The number that at most nine digits write.
 #[inline(always)]
-pub(crate) fn number(prefix: &[u8]) -> u32
+pub fn number(prefix: &[u8]) -> u32
     requires short { length prefix.now ≤ 9 }
     requires all { Pieces.digit_count prefix.now ≡ length prefix.now }
     ensures value { result ≡ digits_value 10 prefix.now }
@@ -54,33 +53,14 @@ fn nanoseconds(run: &[u8]) -> u32
     number(&run[..used]) * power_of_ten(9 - used)
 }
 
-// A fraction of any number of digits.
-#[cold]
+/// The whole nanoseconds of a fraction of a second: all digits that are there, at least one.
+///
+/// Digits past the ninth are read and have no effect.
 #[tactic(auto, unfolding(crate::specs::Pieces::fraction))]
-fn any_fraction(bytes: &[u8]) -> Option<(u32, &[u8])>
+pub fn fraction(bytes: &[u8]) -> Option<(u32, &[u8])>
     ensures cut { Pieces.cut_view result ≡ Pieces.fraction bytes.now }
     ensures bound { IfSome result (λ x. x.0 < 1_000_000_000) }
 {
     let (run, rest) = digit_run(bytes)?;
     Some((nanoseconds(run), rest))
-}
-
-/// The whole nanoseconds of a fraction of a second: all digits that are there, at least one.
-///
-/// Digits past the ninth are read and have no effect.
-#[tactic(auto, using(crate::proofs::FractionDigits::fraction_of_nine))]
-#[inline(always)]
-pub fn fraction(bytes: &[u8]) -> Option<(u32, &[u8])>
-    ensures cut { Pieces.cut_view result ≡ Pieces.fraction bytes.now }
-    ensures bound { IfSome result (λ x. x.0 < 1_000_000_000) }
-{
-    if let Some(read) = short_fraction(bytes) {
-        return Some(read);
-    }
-    if let Some((value, rest)) = nine_digits(bytes)
-        && one_digit(rest).is_none()
-    {
-        return Some((value, rest));
-    }
-    any_fraction(bytes)
 }

@@ -67,7 +67,7 @@ fn obsolete_byte(bytes: &[u8]) -> Option<&[u8]>
 }
 
 // The obsolete text after a backslash: it may be empty.
-#[tactic(auto, using(crate::proofs::WhiteSpaceLemmas::obsolete_step, crate::proofs::WhiteSpaceLemmas::obsolete_end), unfolding(crate::specs::WhiteSpace::past_obsolete_text))]
+#[tactic(auto, using(crate::proofs::Many::many_step, crate::proofs::Many::many_end, crate::proofs::lemmas::Ends::obsolete_ends), unfolding(crate::specs::WhiteSpace::past_obsolete_text))]
 fn past_obsolete_text(bytes: &[u8]) -> &[u8]
     ensures skips { result.now ≡ White.past_obsolete_text bytes.now }
     ensures not_longer { length result.now ≤ length bytes.now }
@@ -94,7 +94,7 @@ fn quoted_pair(bytes: &[u8]) -> Option<&[u8]>
 
 // A comment of at most so many levels.
 #[cycle(comments)]
-#[tactic(auto, using(crate::proofs::WhiteSpaceLemmas::comment_read, crate::proofs::WhiteSpaceLemmas::comment_not_open, crate::proofs::WhiteSpaceLemmas::comment_none))]
+#[tactic(auto, using(crate::proofs::WhiteSpaceLemmas::comment_at, crate::proofs::WhiteSpaceLemmas::comment_none))]
 fn comment(levels: u8, bytes: &[u8]) -> Option<&[u8]>
     ensures skips { option_map (λ r. r.now) result ≡ White.comment levels bytes.now }
     ensures shorter { IfSome result (λ r. length r.now < length bytes.now) }
@@ -140,7 +140,7 @@ fn content(levels: u8, bytes: &[u8]) -> Option<&[u8]>
 
 // What stands between the parentheses of a comment.
 #[cycle(comments)]
-#[tactic(auto, using(crate::proofs::WhiteSpaceLemmas::contents_step, crate::proofs::WhiteSpaceLemmas::contents_end))]
+#[tactic(auto, using(crate::proofs::Many::many_step, crate::proofs::Many::many_end, crate::proofs::lemmas::Ends::contents_ends))]
 fn contents(levels: u8, bytes: &[u8]) -> &[u8]
     ensures skips { result.now ≡ Skips.many (White.content levels) bytes.now }
     ensures not_longer { length result.now ≤ length bytes.now }
@@ -168,7 +168,7 @@ fn white_or_comment(bytes: &[u8]) -> Option<&[u8]>
 }
 
 // What follows all comments and white space at the start.
-#[tactic(auto, using(crate::proofs::WhiteSpaceLemmas::white_step, crate::proofs::WhiteSpaceLemmas::white_end))]
+#[tactic(auto, using(crate::proofs::Many::many_step, crate::proofs::Many::many_end, crate::proofs::lemmas::Ends::white_ends))]
 fn past_white_and_comments(bytes: &[u8]) -> &[u8]
     ensures skips { result.now ≡ Skips.many White.white_or_comment bytes.now }
     ensures not_longer { length result.now ≤ length bytes.now }
@@ -181,7 +181,7 @@ fn past_white_and_comments(bytes: &[u8]) -> &[u8]
 }
 
 /// Whether white space or a comment may begin the bytes: where it is `false`, none does.
-#[tactic(auto, using(crate::proofs::WhiteSpaceLemmas::none_there, crate::proofs::WhiteSpaceLemmas::none_of_empty, crate::proofs::WhiteSpaceLemmas::white_none_there, crate::proofs::WhiteSpaceLemmas::white_none_of_empty))]
+#[tactic(auto, using(crate::proofs::WhiteSpaceLemmas::white_none_there, crate::proofs::WhiteSpaceLemmas::white_none_of_empty), unfolding(crate::specs::WhiteSpace::comments_and_white_space))]
 #[inline(always)]
 pub fn may_begin(bytes: &[u8]) -> bool
     ensures absent { result ≡ false → White.comments_and_white_space bytes.now ≡ None }

@@ -43,7 +43,7 @@ fn folded_line(bytes: &[u8]) -> Option<&[u8]>
 }
 
 // All folded lines that are there.
-#[tactic(auto, using(crate::proofs::WhiteSpaceLemmas::folded_step, crate::proofs::WhiteSpaceLemmas::folded_end))]
+#[tactic(auto, using(crate::proofs::Many::many_step, crate::proofs::Many::many_end, crate::proofs::lemmas::Ends::folded_ends))]
 fn folded_lines(bytes: &[u8]) -> &[u8]
     ensures skips { result.now ≡ Skips.many White.folded_line bytes.now }
     ensures not_longer { length result.now ≤ length bytes.now }

@@ -9,7 +9,7 @@ ghost use Rattle.parsing_values.specs.Written.{WriteFraction};
 
 use crate::before::digits_before;
 use crate::digits::digit_pair;
-use parsing_combinator::{digit_chunk, fraction, one_digit};
+use parsing_combinator::{digit_chunk, number, one_digit};
 use std::marker::Model;
 
 /// A fraction of a second, in whole nanoseconds.
@@ -98,10 +98,7 @@ impl Fraction {
         ensures value { result ≡ self }
         ensures bound { result < 1_000_000_000 }
     {
-        match fraction(&self.digits()) {
-            Some((nanosecond, _)) => nanosecond,
-            None => unreachable!(),
-        }
+        number(&self.digits())
     }
 
     /// The fraction of the digits at the start, where they are at most nine, and what follows them: `None` says nothing.

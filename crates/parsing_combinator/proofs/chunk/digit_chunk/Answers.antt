@@ -16,10 +16,12 @@ returns c =
     let says = count_says bytes count (λ (k : ℕ). omega (arith, c.type_inv.bytes k)) (c.likely_digits-count.ensures.value ∙ ap likely_digits c.chunk_of-chunk.ensures) in
     let e = c.padded_chunk-digits.ensures in
     record {
-      some = omega arith;
-      few = says.few;
-      within = says.within;
-      number_is = e;
-      digits_are = padded_counted bytes count says.few says.within (λ (k : ℕ). omega (arith, c.type_inv.bytes k)) says.here (rw e at c.if-sum-ne3472328296227680304.false);
+      of_digits = record {
+        some = omega arith;
+        few = says.few;
+        within = says.within;
+        number_is = e;
+        digits_are = padded_counted bytes count says.few says.within (λ (k : ℕ). omega (arith, c.type_inv.bytes k)) (record { here = says.here; above = rw e at c.if-sum-ne3472328296227680304.false });
+      };
       ends = says.ends;
     }
