@@ -1,23 +1,17 @@
 -- A comment of plain text, with one space before it and nothing after it.
-use Rattle.std.proofs.Common.{◌≡◌, ◌≤◌, ◌-◌, ℕ, suc, false, true, List, [], ◌∷◌, ◌++◌, length, get_or, take, drop, Some, None, eqb, refl, ap, ◌∙◌, arith, lit<}
+use Rattle.std.proofs.Common.{◌≡◌, ◌≤◌, ◌-◌, ℕ, suc, true, List, [], ◌∷◌, ◌++◌, length, get_or, take, drop, Some, None, refl, ap, ◌∙◌, arith, lit<}
 use Rattle.std.specs.List.{list_all}
 use Rattle.std.proofs.lemmas.Bool.{and_parts}
-use Rattle.std.proofs.lemmas.Bool.Decides.{nat_tests}
 use Rattle.parsing_rfc2822.specs.Skips.{many, byte_where}
 use Rattle.parsing_rfc2822.specs.WhiteSpace.{is_comment_text, lone_white, folding_white_space, quoted_pair, content, white_or_comment, comments_and_white_space}
-use Rattle.parsing_rfc2822.proofs.WhiteSpaceLemmas.{folding_other, comment_at, comment_not_open, white_none_of_empty}
+use Rattle.parsing_rfc2822.proofs.WhiteSpaceLemmas.{folding_other, text_alone, comment_at, comment_not_open, white_none_of_empty}
 use Rattle.parsing_rfc2822.proofs.Many.{many_step, many_end}
 use Rattle.parsing_rfc2822.proofs.lemmas.Ends.{contents_ends, white_ends}
-
-text_apart : (c : ℕ) → is_comment_text c ≡ true → (eqb c 13 ≡ false) × (eqb c 32 ≡ false) × (eqb c 9 ≡ false)
-unfolding is_comment_text
-text_apart c h = (grind (arith, nat_tests), grind (arith, nat_tests), grind (arith, nat_tests))
 
 text_step : (level c : ℕ) (rest : List ℕ) → is_comment_text c ≡ true → content level (c ∷ rest) ≡ Some rest
 unfolding content byte_where
 text_step level c rest h =
-    let apart = text_apart c h in
-    rw (folding_other c rest apart.0 apart.1 apart.2, h) refl
+    rw (text_alone (c ∷ rest) rest (rw h refl), h) refl
 
 closed : (level : ℕ) (rest : List ℕ) → content level (41 ∷ rest) ≡ None
 unfolding content quoted_pair is_comment_text byte_where

@@ -1,10 +1,10 @@
 -- Loops over white space and comments, and the bytes that begin none of them.
-use Rattle.std.proofs.Common.{◌≡◌, ℕ, zero, suc, ◌-◌, ◌<◌, ◌≤◌, false, List, [], ◌∷◌, length, Some, None, refl, ap, arith, ◌==◌}
+use Rattle.std.proofs.Common.{◌≡◌, ℕ, zero, suc, ◌-◌, ◌<◌, ◌≤◌, Bool, true, false, cond, List, [], ◌∷◌, length, Some, None, refl, ap, arith, ◌==◌}
 use Rattle.std.proofs.lemmas.Bool.Decides.{nat_tests}
 use Rattle.std.proofs.Common.{eqb, get_or, take, drop}
 use Rattle.std.proofs.lemmas.List.{take_all}
 use Rattle.parsing_rfc2822.specs.Skips.{many, then_skip, byte_where, past_some}
-use Rattle.parsing_rfc2822.specs.WhiteSpace.{lone_white, line_end, folded_line, unless_line_end, folded_blanks, folding_white_space, content_by, comment, content, white_or_comment, comments_and_white_space}
+use Rattle.parsing_rfc2822.specs.WhiteSpace.{is_comment_text, lone_white, line_end, folded_line, unless_line_end, folded_blanks, folding_white_space, content_by, comment, content, white_or_comment, comments_and_white_space}
 use Rattle.parsing_rfc2822.proofs.Many.{many_end}
 
 -- ---- comments
@@ -28,16 +28,26 @@ pub folding_other : (c : ℕ) (rest : List ℕ) → eqb c 13 ≡ false → eqb c
 unfolding folding_white_space lone_white folded_line line_end folded_blanks past_some byte_where
 folding_other c rest a b d = rw (a, b, d) refl
 
+-- text of a comment is none
+text_apart : (c : ℕ) → is_comment_text c ≡ true → (eqb c 13 ≡ false) × (eqb c 32 ≡ false) × (eqb c 9 ≡ false)
+unfolding is_comment_text
+text_apart c h = (grind (arith, nat_tests), grind (arith, nat_tests), grind (arith, nat_tests))
+
+shown : {A : Type 0} (b : Bool) (x y : A) → cond b (Some x) None ≡ Some y → b ≡ true
+shown true x y e = refl
+shown false x y e = absurd cc
+
+pub text_alone : (bytes rest : List ℕ) → byte_where is_comment_text bytes ≡ Some rest → folding_white_space bytes ≡ None
+unfolding byte_where
+text_alone [] rest e = absurd cc
+text_alone (c ∷ cs) rest e = let a = text_apart c (shown (is_comment_text c) cs rest e) in folding_other c cs a.0 a.1 a.2
+
 -- a byte above the parentheses
 above : (c : ℕ) → 41 ≤ c → (eqb c 13 ≡ false) × (eqb c 32 ≡ false) × (eqb c 9 ≡ false) × (eqb c 10 ≡ false) × (eqb c 40 ≡ false)
 above c h = search (arith, nat_tests)
 
 folding_none : (c : ℕ) (rest : List ℕ) → 41 ≤ c → folding_white_space (c ∷ rest) ≡ None
 folding_none c rest h = let a = above c h in folding_other c rest a.0 a.1 a.2
-
-pub folding_none_there : (bytes : List ℕ) → 1 ≤ length bytes → 41 < get_or bytes 0 0 → folding_white_space bytes ≡ None
-folding_none_there [] le h = absurd (omega arith)
-folding_none_there (c ∷ rest) le h = folding_none c rest (omega arith)
 
 -- .. and opens no comment
 pub white_none : (c : ℕ) (rest : List ℕ) → 41 ≤ c → white_or_comment (c ∷ rest) ≡ None

@@ -106,30 +106,17 @@ fn comment(levels: u8, bytes: &[u8]) -> Option<&[u8]>
     byte(b')', contents(levels - 1, rest))
 }
 
-// Folding white space, which no byte above the parentheses begins.
-#[tactic(auto, using(crate::proofs::WhiteSpaceLemmas::folding_none_there))]
-#[inline(always)]
-fn leading_white_space(bytes: &[u8]) -> Option<&[u8]>
-    ensures skips { option_map (λ r. r.now) result ≡ White.folding_white_space bytes.now }
-    ensures shorter { IfSome result (λ r. length r.now < length bytes.now) }
-{
-    match bytes {
-        [first, ..] if *first > b')' => None,
-        _ => folding_white_space(bytes),
-    }
-}
-
 // A piece of a comment: text, a quoted pair, or a comment in it.
 #[cycle(comments)]
-#[tactic(auto, unfolding(crate::specs::WhiteSpace::content))]
+#[tactic(auto, using(crate::proofs::WhiteSpaceLemmas::text_alone), unfolding(crate::specs::WhiteSpace::content))]
 fn content(levels: u8, bytes: &[u8]) -> Option<&[u8]>
     ensures skips { option_map (λ r. r.now) result ≡ White.content levels bytes.now }
     ensures shorter { IfSome result (λ r. length r.now < length bytes.now) }
 {
-    if let Some(rest) = leading_white_space(bytes) {
+    if let Some(rest) = text(bytes) {
         return Some(rest);
     }
-    if let Some(rest) = text(bytes) {
+    if let Some(rest) = folding_white_space(bytes) {
         return Some(rest);
     }
     if let Some(rest) = quoted_pair(bytes) {
