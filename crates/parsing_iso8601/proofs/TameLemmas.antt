@@ -1,20 +1,16 @@
 -- What the reading leaves is the end of what was there, and the name in its fault is short.
 use Rattle.std.proofs.Common.{lit≤, ℕ, ◌||◌, Bool, true, false, cond, List, Option, Some, None, Result, Ok, Err, lit<, ℤ}
-use Rattle.std.specs.Borrow.{Bor}
-use Rattle.std.specs.Prelude.{IfOk, IfErr, not, is_some, option_map}
+use Rattle.std.specs.Prelude.{IfErr, not, is_some, option_map}
 use Rattle.std.specs.Result.{is_ok}
 use Rattle.base.specs.Bytes.{hyphen}
 use Rattle.parsing_combinator.specs.Fault.{Fault, literal}
-use Rattle.parsing_combinator.specs.FaultOf.{Gives, reading_fault}
 use Rattle.parsing_combinator.specs.Pieces.{Piece, byte}
 use Rattle.parsing_combinator.specs.Readings.{Reading, then_read}
 use Rattle.parsing_combinator.specs.ShortName.{HasShortName}
 use Rattle.parsing_combinator.specs.Tame.{EndsWith, Leaves, Tame, IsTame}
-use Rattle.parsing_combinator.specs.declared.fault.ParseFromDescription.{ParseFromDescription}
-use Rattle.parsing_combinator.proofs.lemmas.Tame.{joined, whole_end, digits_leaves, byte_leaves, skip_leaves, run_leaves, piece_tame, further, then_tame, require_tame, entered_tame, prefix_ends, prefix_short}
+use Rattle.parsing_combinator.proofs.lemmas.Tame.{joined, whole_end, digits_leaves, byte_leaves, skip_leaves, run_leaves, piece_tame, further, then_tame, require_tame, entered_tame}
 use Rattle.parsing_iso8601.specs.declared.kind.Kind.{Kind}
 use Rattle.parsing_iso8601.specs.declared.kind.Kind.TheVariants.{Unknown, Basic, Extended}
-use Rattle.parsing_iso8601.specs.declared.written.Iso8601Parts.{Iso8601Parts}
 use Rattle.parsing_iso8601.specs.declared.written.WrittenDate.{WrittenDate}
 use Rattle.parsing_iso8601.specs.declared.written.WrittenTime.{WrittenTime}
 use Rattle.parsing_iso8601.specs.declared.written.WrittenOffset.{WrittenOffset}
@@ -180,10 +176,3 @@ iso8601_tame b0 =
     then_dated b0 (dated b0) _ (dated_tame b0) (λ d b1 short.
     then_tame b1 _ _ (maybe_tame b1 (time d.1 (is_ok d.0) b1) (time_leaves d.1 (is_ok d.0) b1)) (λ t b2.
     then_tame b2 _ _ (offset_after_tame (is_ok d.0) (is_some t) _ b2) (λ o b3. gathered_tame d.0 _ o b3 short)))
-
--- what a function returns that reads the prefix of the bytes
-pub given_end : (result : Result (Iso8601Parts × Bor (List ℕ)) ParseFromDescription) (bytes : List ℕ) → Gives (λ x. (x.0, x.1.now)) reading_fault result (iso8601 bytes) → IfOk result (λ x. EndsWith bytes x.1.now)
-given_end result bytes given = prefix_ends (λ w. w) result bytes (iso8601 bytes) given (iso8601_tame bytes)
-
-pub given_short : (result : Result (Iso8601Parts × Bor (List ℕ)) ParseFromDescription) (bytes : List ℕ) → Gives (λ x. (x.0, x.1.now)) reading_fault result (iso8601 bytes) → IfErr result (λ e. HasShortName (reading_fault e))
-given_short result bytes given = prefix_short (λ w. w) result bytes (iso8601 bytes) given (iso8601_tame bytes)

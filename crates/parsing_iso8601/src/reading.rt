@@ -6,7 +6,6 @@ ghost use Rattle.parsing_iso8601.specs.Ranges.{IsDateInRange, IsTimeInRange, IsO
 ghost use Rattle.parsing_combinator.specs.FaultOf.{Gives, reading_fault};
 ghost use Rattle.parsing_iso8601.specs.Reading as Reading;
 ghost use Rattle.parsing_iso8601.specs.Times as Times;
-ghost use Rattle.parsing_iso8601.specs.Offsets as Offsets;
 ghost use Rattle.parsing_iso8601.specs.ReadView.{date_view};
 
 use crate::date::{date_after, year_and_kind};
@@ -47,17 +46,6 @@ fn maybe_time(kind: Kind, after_date: bool, bytes: &[u8]) -> (Option<(WrittenTim
     }
 }
 
-// The offset, where it is there.
-fn maybe_offset(kind: Kind, bytes: &[u8]) -> (Option<WrittenOffset>, &[u8])
-    ensures gives { Reading.maybe (Offsets.offset kind) bytes.now ≡ Ok (result.0, result.1.now) }
-    ensures range { IfSome result.0 IsOffsetInRange }
-{
-    match offset(kind, bytes) {
-        Some((read, rest)) => (Some(read), rest),
-        None => (None, bytes),
-    }
-}
-
 // The offset, where it may stand and is there.
 fn offset_after(
     has_date: bool,
@@ -69,20 +57,9 @@ fn offset_after(
         ≡ Ok (result.0, result.1.now) }
     ensures range { IfSome result.0 IsOffsetInRange }
 {
-    if has_time || !has_date {
-        maybe_offset(kind, bytes)
-    } else {
-        (None, bytes)
-    }
-}
-
-// The kind after the time.
-fn handed_on(kind: Kind, read: Option<(WrittenTime, Kind)>) -> Kind
-    ensures { result ≡ Reading.handed_on kind read }
-{
-    match read {
-        None => kind,
-        Some((_, settled)) => settled,
+    match offset(kind, bytes) {
+        Some((read, rest)) if has_time || !has_date => (Some(read), rest),
+        _ => (None, bytes),
     }
 }
 
@@ -116,7 +93,7 @@ fn parts(bytes: &[u8]) -> Result<(Iso8601Parts, &[u8]), ParseFromDescription>
 {
     let ((date, kind), rest) = dated(bytes);
     let (read, rest) = maybe_time(kind, date.is_ok(), rest);
-    let kind = handed_on(kind, read);
+    let kind = read.map_or(kind, |x| x.1);
     let (offset, rest) = offset_after(date.is_ok(), read.is_some(), kind, rest);
     gathered(date, read.map(|x| x.0), offset, rest)
 }

@@ -17,22 +17,6 @@ const NANOSECONDS_IN_MINUTE: u64 = 60_000_000_000;
 
 const NANOSECONDS_IN_HOUR: u64 = 3_600_000_000_000;
 
-// The time so many nanoseconds after an hour.
-#[tactic(auto, unfolding(crate::specs::Times::after_hour))]
-fn after_hour(hour: u8, nanos: u64) -> WrittenTime
-    requires hour { hour ≤ 23 }
-    requires nanos { nanos < 3_600_000_000_000 }
-    ensures value { result ≡ Times.after_hour hour nanos }
-    ensures range { IsTimeInRange result }
-{
-    WrittenTime {
-        hour,
-        minute: (nanos / NANOSECONDS_IN_MINUTE) as u8,
-        second: (nanos / NANOSECONDS_IN_SECOND % 60) as u8,
-        subsecond: (nanos % NANOSECONDS_IN_SECOND) as u32,
-    }
-}
-
 // The time so many nanoseconds after a minute.
 #[tactic(auto, unfolding(crate::specs::Times::after_minute))]
 #[inline(always)]
@@ -162,7 +146,7 @@ fn designator(after_date: bool, bytes: &[u8]) -> Option<&[u8]>
 
 /// The time of day at the start of the bytes, and the kind that it hands on: ISO 8601-1:2019, section 5.3. Its `T`
 /// may be missing where no date stands before it. There is no hour 24.
-#[tactic(auto, unfolding(crate::specs::Times::time, crate::specs::Times::from_hour))]
+#[tactic(auto, unfolding(crate::specs::Times::time, crate::specs::Times::from_hour, crate::specs::Times::after_hour, crate::specs::Times::after_minute))]
 #[inline(always)]
 pub fn time(kind: Kind, after_date: bool, bytes: &[u8]) -> Option<((WrittenTime, Kind), &[u8])>
     ensures cut { cut_view result ≡ Times.time kind after_date bytes.now }
@@ -175,7 +159,9 @@ pub fn time(kind: Kind, after_date: bool, bytes: &[u8]) -> Option<((WrittenTime,
     }
     match fraction {
         Some(run) => {
-            let time = after_hour(hour, part_of(NANOSECONDS_IN_HOUR, run));
+            let nanos = part_of(NANOSECONDS_IN_HOUR, run);
+            let minute = (nanos / NANOSECONDS_IN_MINUTE) as u8;
+            let time = after_minute(hour, minute, nanos % NANOSECONDS_IN_MINUTE);
             Some(((time, kind), rest))
         }
         None => {

@@ -24,13 +24,6 @@ fn is_quotable(byte: u8) -> bool
     matches!(byte, 1..=9 | 11..=12 | 14..=127)
 }
 
-#[tactic(auto, unfolding(crate::specs::WhiteSpace::is_obsolete_text))]
-fn is_obsolete_text(byte: u8) -> bool
-    ensures { result ≡ White.is_obsolete_text byte }
-{
-    byte != b')' && (byte == 0 || is_quotable(byte))
-}
-
 // A byte of a comment's text.
 #[tactic(auto, unfolding(crate::specs::Skips::byte_where))]
 #[inline(always)]
@@ -55,13 +48,13 @@ fn past_line_ends(bytes: &[u8]) -> &[u8]
 }
 
 // A byte of obsolete text, and the line feeds and carriage returns after it.
-#[tactic(auto, unfolding(crate::specs::WhiteSpace::obsolete_byte, crate::specs::Skips::byte_where))]
+#[tactic(auto, unfolding(crate::specs::WhiteSpace::obsolete_byte, crate::specs::WhiteSpace::is_obsolete_text, crate::specs::Skips::byte_where))]
 fn obsolete_byte(bytes: &[u8]) -> Option<&[u8]>
     ensures skips { option_map (λ r. r.now) result ≡ White.obsolete_byte bytes.now }
     ensures shorter { IfSome result (λ r. length r.now < length bytes.now) }
 {
     match bytes {
-        [b, rest @ ..] if is_obsolete_text(*b) => Some(past_line_ends(rest)),
+        [b, rest @ ..] if *b != b')' && (*b == 0 || is_quotable(*b)) => Some(past_line_ends(rest)),
         _ => None,
     }
 }
@@ -154,19 +147,6 @@ fn white_or_comment(bytes: &[u8]) -> Option<&[u8]>
     comment(31, bytes)
 }
 
-// What follows all comments and white space at the start.
-#[tactic(auto, using(crate::proofs::Many::many_step, crate::proofs::Many::many_end, crate::proofs::lemmas::Ends::white_ends))]
-fn past_white_and_comments(bytes: &[u8]) -> &[u8]
-    ensures skips { result.now ≡ Skips.many White.white_or_comment bytes.now }
-    ensures not_longer { length result.now ≤ length bytes.now }
-{
-    let mut rest = bytes;
-    while let Some(after) = white_or_comment(rest) {
-        rest = after;
-    }
-    rest
-}
-
 /// Whether white space or a comment may begin the bytes: where it is `false`, none does.
 #[tactic(auto, using(crate::proofs::WhiteSpaceLemmas::white_none_there, crate::proofs::WhiteSpaceLemmas::white_none_of_empty), unfolding(crate::specs::WhiteSpace::comments_and_white_space))]
 #[inline(always)]
@@ -200,13 +180,16 @@ pub fn one_space(bytes: &[u8]) -> Option<&[u8]>
 
 // Comments and white space, whatever they begin with.
 #[cold]
-#[tactic(auto, unfolding(crate::specs::WhiteSpace::comments_and_white_space))]
+#[tactic(auto, using(crate::proofs::Many::many_step, crate::proofs::Many::many_end, crate::proofs::lemmas::Ends::white_ends), unfolding(crate::specs::WhiteSpace::comments_and_white_space))]
 fn any_comments_and_white_space(bytes: &[u8]) -> Option<&[u8]>
     ensures skips { option_map (λ r. r.now) result ≡ White.comments_and_white_space bytes.now }
     ensures shorter { IfSome result (λ r. length r.now < length bytes.now) }
 {
-    let rest = white_or_comment(bytes)?;
-    Some(past_white_and_comments(rest))
+    let mut rest = white_or_comment(bytes)?;
+    while let Some(after) = white_or_comment(rest) {
+        rest = after;
+    }
+    Some(rest)
 }
 
 /// Comments and folding white space: at least one of them, as many as there are.

@@ -76,11 +76,7 @@ pub fn folding_white_space(bytes: &[u8]) -> Option<&[u8]>
     ensures skips { option_map (λ r. r.now) result ≡ White.folding_white_space bytes.now }
     ensures shorter { IfSome result (λ r. length r.now < length bytes.now) }
 {
-    if let Some(rest) = lone_white(bytes) {
-        return Some(rest);
-    }
-    if let Some(rest) = folded_line(bytes) {
-        return Some(rest);
-    }
-    folded_blanks(bytes)
+    lone_white(bytes)
+        .or_else(|| folded_line(bytes))
+        .or_else(|| folded_blanks(bytes))
 }

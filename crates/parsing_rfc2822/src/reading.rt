@@ -15,16 +15,24 @@ use calendar_count::{Month, Weekday};
 use parsing_combinator::ParseFromDescription::{self, InvalidComponent, InvalidLiteral};
 use parsing_combinator::{Zone, byte, four_digits, one_digit, sign, two_digits, within};
 
+// The number that is there and passes, with what follows it.
+macro_rules! number {
+    ($read:expr, $is_strict:expr, $low:literal, $high:literal, $name:literal) => {{
+        let (value, rest) = $read.ok_or(InvalidComponent($name))?;
+        if !within($is_strict, $low, $high, value) {
+            return Err(InvalidComponent($name));
+        }
+        (value, rest)
+    }};
+}
+
 // One digit, or two where there are two.
 #[tactic(auto, unfolding(crate::specs::Reading::one_or_two_digits))]
 #[inline(always)]
 fn one_or_two_digits(bytes: &[u8]) -> Option<(u8, &[u8])>
     ensures { Pieces.cut_view result ≡ Reading.one_or_two_digits bytes.now }
 {
-    if let Some((value, rest)) = two_digits(bytes) {
-        return Some((value, rest));
-    }
-    one_digit(bytes)
+    two_digits(bytes).or_else(|| one_digit(bytes))
 }
 
 // The weekday and its comma, where they are there.
@@ -51,10 +59,7 @@ fn day(
     ensures { Gives (λ x. (x.0, x.1.now)) reading_fault result (Reading.day is_strict bytes.now) }
 {
     let (weekday, rest) = optional_weekday(past_spacing(bytes))?;
-    let (day, rest) = one_or_two_digits(rest).ok_or(InvalidComponent("day"))?;
-    if !within(is_strict, 1, 31, day) {
-        return Err(InvalidComponent("day"));
-    }
+    let (day, rest) = number!(one_or_two_digits(rest), is_strict, 1, 31, "day");
     Ok(((weekday, day), rest))
 }
 
@@ -109,10 +114,7 @@ fn second(is_strict: bool, bytes: &[u8]) -> Result<(Option<u8>, &[u8]), ParseFro
     let Some(rest) = spaced_colon(bytes) else {
         return Ok((None, bytes));
     };
-    let (second, rest) = two_digits(rest).ok_or(InvalidComponent("second"))?;
-    if !within(is_strict, 0, 60, second) {
-        return Err(InvalidComponent("second"));
-    }
+    let (second, rest) = number!(two_digits(rest), is_strict, 0, 60, "second");
     Ok((Some(second), rest))
 }
 
@@ -125,15 +127,9 @@ fn clock(
 ) -> Result<((u8, u8, Option<u8>), &[u8]), ParseFromDescription>
     ensures { Gives (λ x. (x.0, x.1.now)) reading_fault result (Reading.clock is_strict bytes.now) }
 {
-    let (hour, rest) = two_digits(bytes).ok_or(InvalidComponent("hour"))?;
-    if !within(is_strict, 0, 23, hour) {
-        return Err(InvalidComponent("hour"));
-    }
+    let (hour, rest) = number!(two_digits(bytes), is_strict, 0, 23, "hour");
     let rest = spaced_colon(rest).ok_or(InvalidLiteral)?;
-    let (minute, rest) = two_digits(rest).ok_or(InvalidComponent("minute"))?;
-    if !within(is_strict, 0, 59, minute) {
-        return Err(InvalidComponent("minute"));
-    }
+    let (minute, rest) = number!(two_digits(rest), is_strict, 0, 59, "minute");
     let (second, rest) = second(is_strict, rest)?;
     Ok(((hour, minute, second), rest))
 }
@@ -169,14 +165,8 @@ fn zone(is_strict: bool, bytes: &[u8]) -> Result<(Zone, &[u8]), ParseFromDescrip
     let Some((mark, rest)) = sign(bytes) else {
         return named_zone(bytes);
     };
-    let (hours, rest) = two_digits(rest).ok_or(InvalidComponent("offset hour"))?;
-    if !within(is_strict, 0, 25, hours) {
-        return Err(InvalidComponent("offset hour"));
-    }
-    let (minutes, rest) = two_digits(rest).ok_or(InvalidComponent("offset minute"))?;
-    if !within(is_strict, 0, 59, minutes) {
-        return Err(InvalidComponent("offset minute"));
-    }
+    let (hours, rest) = number!(two_digits(rest), is_strict, 0, 25, "offset hour");
+    let (minutes, rest) = number!(two_digits(rest), is_strict, 0, 59, "offset minute");
     let zone = Zone {
         is_named: false,
         is_negative: mark == b'-',

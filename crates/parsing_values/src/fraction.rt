@@ -111,8 +111,7 @@ impl Fraction {
         let (first, count) = digit_chunk(bytes)?;
         let rest = &bytes[count..];
         let Some((last, after)) = ninth_digit(count, rest) else {
-            let last = u64::from(b'0');
-            return Some((Fraction { first, last }, rest));
+            return Some((Fraction { first, last: 0x30 }, rest));
         };
         if one_digit(after).is_some() {
             return None;
@@ -132,8 +131,7 @@ impl Fraction {
         ensures bound { IfSome result (λ f. f < 1_000_000_000) }
     {
         let first = digits_before(line, end, count)?;
-        let last = u64::from(b'0');
-        Some(Fraction { first, last })
+        Some(Fraction { first, last: 0x30 })
     }
 
     /// The nine digits of its nanoseconds, in ASCII.

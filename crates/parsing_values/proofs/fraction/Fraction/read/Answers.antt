@@ -6,11 +6,11 @@ use Rattle.parsing_combinator.proofs.FractionDigits.{digits_read}
 use Rattle.parsing_values.proofs.DigitLemmas.{NineRead, nine_read, short_nine, long_nine, no_digit}
 use Rattle.parsing_values.proofs.fraction.Fraction.read.Goals as goal
 
--- the ninth digit in a wider number, where there are at most eight, and where it is there
-short_there : (bytes : List ℕ) (first count wide : ℕ) → IsDigitChunk bytes first count → ((k : ℕ) → get_or bytes k 0 < 256) → wide ≡ 48 → digits 1 (take (length bytes - count) (drop count bytes)) ≡ None → NineRead first wide bytes (take (length bytes - count) (drop count bytes))
-short_there bytes first count wide c fit is none =
+-- at most eight digits, and nine, of which the last one is in a wider number
+short_there : (bytes : List ℕ) (first count : ℕ) → IsDigitChunk bytes first count → ((k : ℕ) → get_or bytes k 0 < 256) → digits 1 (take (length bytes - count) (drop count bytes)) ≡ None → NineRead first 48 bytes (take (length bytes - count) (drop count bytes))
+short_there bytes first count c fit none =
     let d = c.of_digits in
-    rw (is, take_rest bytes count) (nine_read first 48 count bytes (short_nine bytes first count d fit) d.some (omega (arith, d.few)) (rw (take_rest bytes count) at none))
+    rw (take_rest bytes count) (nine_read first 48 count bytes (short_nine bytes first count d fit) d.some (omega (arith, d.few)) (rw (take_rest bytes count) at none))
 
 nine_there : (bytes rest : List ℕ) (first count last wide : ℕ) → IsDigitChunk bytes first count → ((k : ℕ) → get_or bytes k 0 < 256) → 8 ≤ count → wide ≡ 48 + last
     → digits 1 (take (length bytes - count) (drop count bytes)) ≡ Some (last, rest) → digits 1 rest ≡ None → NineRead first wide bytes rest
@@ -24,20 +24,20 @@ pub ninth_digit-requires : goal.ninth_digit-requires
 ninth_digit-requires c = rw (take_rest c.args.bytes.now c.in_ok-first.count) c.in_ok-first.ensures.ends
 
 pub invariant_of-result : goal.invariant_of-result
-invariant_of-result c = (short_there _ _ _ _ c.in_ok-first.ensures (λ k. omega (arith, c.type_inv.bytes k)) c.from-last.ensures (sym c.in_default.ensures.cut)).are
+invariant_of-result c = (short_there _ _ _ c.in_ok-first.ensures (λ k. omega (arith, c.type_inv.bytes k)) (sym c.in_default.ensures.cut)).are
 
 pub returns-in_default : goal.returns-in_default
 returns-in_default c =
-    let nine = short_there _ _ _ _ c.in_ok-first.ensures (λ k. omega (arith, c.type_inv.bytes k)) c.from-last.ensures (sym c.in_default.ensures.cut) in
+    let nine = short_there _ _ _ c.in_ok-first.ensures (λ k. omega (arith, c.type_inv.bytes k)) (sym c.in_default.ensures.cut) in
     record { fraction = nine.reads; bound = nine.bound; at_most_nine = nine.at_most_nine }
 
 pub invariant_of-result-2 : goal.invariant_of-result-2
 invariant_of-result-2 c =
-    (nine_there _ _ _ _ _ _ c.in_ok-first.ensures (λ k. omega (arith, c.type_inv.bytes k)) c.in-Some.ensures.eight c.from-last-2.ensures
+    (nine_there _ _ _ _ _ _ c.in_ok-first.ensures (λ k. omega (arith, c.type_inv.bytes k)) c.in-Some.ensures.eight c.from-last.ensures
     (sym c.in-Some.ensures.cut) (no_digit _ _ c.one_digit.ensures.cut (sym c.is_some.ensures ∙ c.if-is_some.false))).are
 
 pub returns : goal.returns
 returns c =
-    let nine = nine_there _ _ _ _ _ _ c.in_ok-first.ensures (λ k. omega (arith, c.type_inv.bytes k)) c.in-Some.ensures.eight c.from-last-2.ensures
+    let nine = nine_there _ _ _ _ _ _ c.in_ok-first.ensures (λ k. omega (arith, c.type_inv.bytes k)) c.in-Some.ensures.eight c.from-last.ensures
     (sym c.in-Some.ensures.cut) (no_digit _ _ c.one_digit.ensures.cut (sym c.is_some.ensures ∙ c.if-is_some.false)) in
     record { fraction = nine.reads; bound = nine.bound; at_most_nine = nine.at_most_nine }
