@@ -51,10 +51,8 @@ fn eight_digits(bytes: &[u8]) -> Option<(u32, &[u8])>
     let (first, second) = pairs((digits % 0x1_0000_0000) as u32);
     let (third, fourth) = pairs((digits / 0x1_0000_0000) as u32);
     let high = u32::from(first) * 100 + u32::from(second);
-    Some((
-        high * 10_000 + u32::from(third) * 100 + u32::from(fourth),
-        rest,
-    ))
+    let low = u32::from(third) * 100 + u32::from(fourth);
+    Some((high * 10_000 + low, rest))
 }
 
 // The first eight bytes, or all of them where they are fewer.
@@ -120,14 +118,6 @@ static ZEROS_AFTER: [Chunk; 9] = [
     0,
 ];
 
-#[inline(always)]
-fn first_bytes(count: usize) -> Chunk
-    requires { count ≤ 8 }
-    ensures { result ≡ 2 ^ (8 * count) - 1 }
-{
-    FIRST_BYTES[count]
-}
-
 /// The digit zero at each of eight places after the first so many.
 #[inline(always)]
 pub fn zeros_after(count: usize) -> u64
@@ -135,17 +125,6 @@ pub fn zeros_after(count: usize) -> u64
     ensures { result ≡ Chunks.chunk (replicate (8 - count) digit_zero) * 2 ^ (8 * count) }
 {
     ZEROS_AFTER[count]
-}
-
-// The first bytes as a chunk, with the digit zero after them.
-#[inline(always)]
-fn padded_chunk(bytes: &[u8], chunk: Chunk, count: usize) -> Chunk
-    requires chunk { chunk ≡ Chunks.chunk (take 8 bytes.now) }
-    requires few { count ≤ 8 }
-    requires within { count ≤ length bytes.now }
-    ensures { result ≡ Chunks.chunk (Chunks.padded count bytes.now) }
-{
-    (chunk & first_bytes(count)) + zeros_after(count)
 }
 
 /// At most eight digits at the start, in one number with the digit zero after them, the first one lowest, and how many
@@ -160,7 +139,7 @@ pub fn digit_chunk(bytes: &[u8]) -> Option<(u64, usize)>
         return None;
     }
     // Each byte has the high half of a digit.
-    let digits = padded_chunk(bytes, chunk, count);
+    let digits = (chunk & FIRST_BYTES[count]) + zeros_after(count);
     let sum = digits.wrapping_add(0x0606_0606_0606_0606);
     if sum & 0xf0f0_f0f0_f0f0_f0f0 != 0x3030_3030_3030_3030 {
         return None;

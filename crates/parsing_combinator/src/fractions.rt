@@ -20,27 +20,6 @@ pub fn number(prefix: &[u8]) -> u32
     value
 }
 
-// A power of ten, at most the ninth.
-#[inline(always)]
-fn power_of_ten(exponent: usize) -> u32
-    requires { exponent ≤ 9 }
-    ensures { result ≡ 10 ^ exponent }
-{
-    match exponent {
-        0 => 1,
-        1 => 10,
-        2 => 100,
-        3 => 1_000,
-        4 => 10_000,
-        5 => 100_000,
-        6 => 1_000_000,
-        7 => 10_000_000,
-        8 => 100_000_000,
-        9 => 1_000_000_000,
-        _ => unreachable!(),
-    }
-}
-
 // The whole nanoseconds of a fraction with these digits.
 #[inline(always)]
 #[tactic(auto, using(crate::proofs::Decimal::count_prefix))]
@@ -50,7 +29,9 @@ fn nanoseconds(run: &[u8]) -> u32
     ensures bound { result < 1_000_000_000 }
 {
     let used = run.len().min(9);
-    number(&run[..used]) * power_of_ten(9 - used)
+    let mut digits = [b'0'; 9];
+    digits[..used].copy_from_slice(&run[..used]);
+    number(&digits)
 }
 
 /// The whole nanoseconds of a fraction of a second: all digits that are there, at least one.

@@ -86,13 +86,9 @@ fraction_or_leaves : {A : Type 0} (run : Option (List ℕ)) (ends : List ℕ →
 fraction_or_leaves None ends on bytes h k = k
 fraction_or_leaves (Some ds) ends on bytes h k = h ds
 
-minutes_leaves : (kind : Kind) (hour : ℕ) (bytes : List ℕ) → Leaves bytes (minutes kind hour bytes)
-unfolding minutes from_minute
-minutes_leaves kind hour bytes = search (leaving, number_leaves, fraction_or_leaves, seconds_leaves) depth 20 fits 5000
-
 time_leaves : (kind : Kind) (after_date : Bool) (bytes : List ℕ) → Leaves bytes (time kind after_date bytes)
-unfolding time designator from_hour kind_of_time
-time_leaves kind after_date b0 = search (leaving, number_leaves, fraction_or_leaves, minutes_leaves) depth 20 fits 5000
+unfolding time designator from_hour kind_of_time minutes from_minute
+time_leaves kind after_date b0 = search (leaving, number_leaves, fraction_or_leaves, seconds_leaves) depth 20 fits 50000
 
 -- ---- the offset
 
@@ -109,21 +105,13 @@ dash_tame Extended bytes = piece_tame literal bytes (byte hyphen bytes) (skip_le
 
 ruleset tame = (leaving, then_tame, piece_tame, require_tame, entered_tame, dash_tame, lit<, lit≤)
 
-month_and_day_tame : (kind : Kind) → IsTame (month_and_day kind)
-unfolding month_and_day numbered digits_within
-month_and_day_tame kind b0 = search tame depth 20 fits 5000
-
-without_month_tame : (kind : Kind) (y : ℤ) (fault : Fault) → HasShortName fault → IsTame (date_without_month kind y fault)
-unfolding date_without_month date_of_year date_of_week week_and_weekday numbered digits_within
-without_month_tame kind y fault short bytes = search tame depth 20 fits 5000
-
 either_tame : {A B : Type 0} (bytes : List ℕ) (r : Result (A × List ℕ) Fault) (due : A → Reading B) (other : Fault → Reading B) → Tame bytes r → ((x : A) (rest : List ℕ) → Tame rest (due x rest)) → ((f : Fault) → HasShortName f → Tame bytes (other f bytes)) → Tame bytes (either r due other bytes)
 either_tame bytes (Ok x) due other h k m = further bytes x.1 (due x.0 x.1) h (k x.0 x.1)
 either_tame bytes (Err f) due other h k m = m f h
 
 date_after_tame : (kind : Kind) (y : ℤ) → IsTame (date_after kind y)
-unfolding date_after date_of_month
-date_after_tame kind y bytes = search (tame, either_tame, month_and_day_tame, without_month_tame) depth 20 fits 5000
+unfolding date_after date_of_month month_and_day date_without_month date_of_year date_of_week week_and_weekday numbered digits_within
+date_after_tame kind y bytes = search (tame, either_tame) depth 20 fits 50000
 
 year_and_kind_tame : IsTame year_and_kind
 unfolding year_and_kind kind_of_date

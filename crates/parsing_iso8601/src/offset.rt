@@ -22,22 +22,6 @@ fn maybe_colon(kind: Kind, bytes: &[u8]) -> &[u8]
     }
 }
 
-// The minutes of an offset.
-#[tactic(auto, unfolding(crate::specs::Offsets::offset_minute))]
-#[inline(always)]
-fn offset_minute(bytes: &[u8]) -> Option<(u8, &[u8])>
-    ensures cut { cut_view result ≡ Offsets.offset_minute bytes.now }
-    ensures bound { IfSome result (λ x. x.0 ≤ 59) }
-{
-    let Some((minute, rest)) = two_digits(bytes) else {
-        return Some((0, bytes));
-    };
-    if minute > 59 {
-        return None;
-    }
-    Some((minute, rest))
-}
-
 // Hours and minutes under one sign.
 #[inline(always)]
 fn under_sign(is_negative: bool, hour: u8, minute: u8) -> WrittenOffset
@@ -63,7 +47,7 @@ fn under_sign(is_negative: bool, hour: u8, minute: u8) -> WrittenOffset
 }
 
 /// The offset at the start of the bytes: `Z`, or a sign and hours up to 25, with minutes where they are written.
-#[tactic(auto, unfolding(crate::specs::Offsets::offset, crate::specs::Offsets::signed_offset))]
+#[tactic(auto, unfolding(crate::specs::Offsets::offset, crate::specs::Offsets::signed_offset, crate::specs::Offsets::offset_minute))]
 #[inline(always)]
 pub fn offset(kind: Kind, bytes: &[u8]) -> Option<(WrittenOffset, &[u8])>
     ensures cut { cut_view result ≡ Offsets.offset kind bytes.now }
@@ -82,6 +66,10 @@ pub fn offset(kind: Kind, bytes: &[u8]) -> Option<(WrittenOffset, &[u8])>
     if hour > 25 {
         return None;
     }
-    let (minute, rest) = offset_minute(maybe_colon(kind, rest))?;
+    let rest = maybe_colon(kind, rest);
+    let (minute, rest) = two_digits(rest).unwrap_or((0, rest));
+    if minute > 59 {
+        return None;
+    }
     Some((under_sign(mark == b'-', hour, minute), rest))
 }

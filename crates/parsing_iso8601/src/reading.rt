@@ -5,7 +5,6 @@ ghost use Rattle.parsing_combinator.specs.Tame.{EndsWith};
 ghost use Rattle.parsing_iso8601.specs.Ranges.{IsDateInRange, IsTimeInRange, IsOffsetInRange, AreInRange};
 ghost use Rattle.parsing_combinator.specs.FaultOf.{Gives, reading_fault};
 ghost use Rattle.parsing_iso8601.specs.Reading as Reading;
-ghost use Rattle.parsing_iso8601.specs.Times as Times;
 ghost use Rattle.parsing_iso8601.specs.ReadView.{date_view};
 
 use crate::date::{date_after, year_and_kind};
@@ -31,18 +30,6 @@ fn dated(bytes: &[u8]) -> ((DateOrFault, Kind), &[u8])
             Ok((date, rest)) => ((Ok(date), kind), rest),
             Err(fault) => ((Err(fault), kind), bytes),
         },
-    }
-}
-
-// The time, where it is there, and the kind that it hands on.
-fn maybe_time(kind: Kind, after_date: bool, bytes: &[u8]) -> (Option<(WrittenTime, Kind)>, &[u8])
-    ensures gives { Reading.maybe (Times.time kind after_date) bytes.now
-        ≡ Ok (result.0, result.1.now) }
-    ensures range { IfSome result.0 (λ t. IsTimeInRange t.0) }
-{
-    match time(kind, after_date, bytes) {
-        Some((read, rest)) => (Some(read), rest),
-        None => (None, bytes),
     }
 }
 
@@ -92,7 +79,10 @@ fn parts(bytes: &[u8]) -> Result<(Iso8601Parts, &[u8]), ParseFromDescription>
     ensures range { IfOk result (λ x. AreInRange x.0) }
 {
     let ((date, kind), rest) = dated(bytes);
-    let (read, rest) = maybe_time(kind, date.is_ok(), rest);
+    let (read, rest) = match time(kind, date.is_ok(), rest) {
+        Some((read, rest)) => (Some(read), rest),
+        None => (None, rest),
+    };
     let kind = read.map_or(kind, |x| x.1);
     let (offset, rest) = offset_after(date.is_ok(), read.is_some(), kind, rest);
     gathered(date, read.map(|x| x.0), offset, rest)

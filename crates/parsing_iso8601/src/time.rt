@@ -1,6 +1,6 @@
 //! The time of day of a text.
 ghost use Rattle.std.specs.Prelude.{◌≡◌, ◌≤◌, ◌<◌, IfSome};
-ghost use Rattle.parsing_combinator.specs.Pieces.{cut_view, rest_view};
+ghost use Rattle.parsing_combinator.specs.Pieces.{cut_view};
 ghost use Rattle.parsing_iso8601.specs.Ranges.{IsTimeInRange};
 ghost use Rattle.parsing_iso8601.specs.ReadView.{digits_view, AreDigits};
 ghost use Rattle.parsing_iso8601.specs.Times as Times;
@@ -64,11 +64,8 @@ fn to_second<'a>(
         ≡ Times.to_second hour minute (second.entry.0, digits_view second.entry.1) bytes.now }
     ensures range { IfSome result (λ x. IsTimeInRange x.0) }
 {
-    if second.0 > 60 {
-        return None;
-    }
     let subsecond = subsecond(second.1);
-    if subsecond >= NANOSECONDS_IN_SECOND {
+    if second.0 > 60 || subsecond >= NANOSECONDS_IN_SECOND {
         return None;
     }
     let time = WrittenTime {
@@ -131,28 +128,19 @@ fn minutes(kind: Kind, hour: u8, bytes: &[u8]) -> Option<((WrittenTime, Kind), &
     }
 }
 
-// Past the `T`, which has to be there after a date.
-#[tactic(auto, unfolding(crate::specs::Times::designator))]
-#[inline(always)]
-fn designator(after_date: bool, bytes: &[u8]) -> Option<&[u8]>
-    ensures { rest_view result ≡ Times.designator after_date bytes.now }
-{
-    match byte(b'T', bytes) {
-        Some(rest) => Some(rest),
-        None if after_date => None,
-        None => Some(bytes),
-    }
-}
-
 /// The time of day at the start of the bytes, and the kind that it hands on: ISO 8601-1:2019, section 5.3. Its `T`
 /// may be missing where no date stands before it. There is no hour 24.
-#[tactic(auto, unfolding(crate::specs::Times::time, crate::specs::Times::from_hour, crate::specs::Times::after_hour, crate::specs::Times::after_minute))]
+#[tactic(auto, unfolding(crate::specs::Times::time, crate::specs::Times::designator, crate::specs::Times::from_hour, crate::specs::Times::after_hour, crate::specs::Times::after_minute))]
 #[inline(always)]
 pub fn time(kind: Kind, after_date: bool, bytes: &[u8]) -> Option<((WrittenTime, Kind), &[u8])>
     ensures cut { cut_view result ≡ Times.time kind after_date bytes.now }
     ensures range { IfSome result (λ x. IsTimeInRange x.0.0) }
 {
-    let rest = designator(after_date, bytes)?;
+    let rest = match byte(b'T', bytes) {
+        Some(rest) => rest,
+        None if after_date => return None,
+        None => bytes,
+    };
     let ((hour, fraction), rest) = number(rest)?;
     if hour > 23 {
         return None;
