@@ -87,9 +87,6 @@ module _ (bytes : List ℕ) (k : ℕ) (few : k ≤ 8) (within : k ≤ length byt
   pub padded_whole : take 8 (padded k bytes) ≡ padded k bytes
   padded_whole = take_all 8 (padded k bytes) (omega (arith, padded_long))
 
-  pub padded_rest : drop 8 (padded k bytes) ≡ []
-  padded_rest = drop_all 8 (padded k bytes) (omega (arith, padded_long))
-
   sum : chunk (padded k bytes) ≡ chunk (take k bytes) + chunk (replicate (8 - k) 48) * 2 ^ (8 * k)
   sum = chunk_append (take k bytes) (replicate (8 - k) 48) ∙ rw long refl
 

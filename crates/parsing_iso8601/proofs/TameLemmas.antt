@@ -68,27 +68,19 @@ entry_leaves xs bytes (Some x) h = said_leaves bytes x.1 (counted xs x.0) h
 
 ruleset leaving = (then_leaves, require_leaves, entered_leaves, by_kind_leaves, kept_leaves, entry_leaves, digits_leaves, run_leaves, byte_leaves, skip_leaves, whole_end, nothing)
 
-year_leaves : (bytes : List ℕ) → Leaves bytes (year bytes)
-unfolding year signed_year plain_year
-year_leaves bytes = search leaving depth 20 fits 5000
-
 number_leaves : (bytes : List ℕ) → Leaves bytes (number bytes)
 unfolding number fraction_digits decimal_mark due_digits
 number_leaves bytes = search leaving depth 20 fits 5000
 
 -- ---- the time of day
 
-seconds_leaves : (kind : Kind) (hour minute : ℕ) (bytes : List ℕ) → Leaves bytes (seconds kind hour minute bytes)
-unfolding seconds basic_seconds extended_seconds due_second to_second
-seconds_leaves kind hour minute bytes = search (leaving, number_leaves) depth 20 fits 5000
-
 fraction_or_leaves : {A : Type 0} (run : Option (List ℕ)) (ends : List ℕ → Piece A) (on : Piece A) (bytes : List ℕ) → ((ds : List ℕ) → Leaves bytes (ends ds bytes)) → Leaves bytes (on bytes) → Leaves bytes (fraction_or run ends on bytes)
 fraction_or_leaves None ends on bytes h k = k
 fraction_or_leaves (Some ds) ends on bytes h k = h ds
 
 time_leaves : (kind : Kind) (after_date : Bool) (bytes : List ℕ) → Leaves bytes (time kind after_date bytes)
-unfolding time designator from_hour kind_of_time minutes from_minute
-time_leaves kind after_date b0 = search (leaving, number_leaves, fraction_or_leaves, seconds_leaves) depth 20 fits 50000
+unfolding time designator from_hour kind_of_time minutes from_minute seconds basic_seconds extended_seconds due_second to_second
+time_leaves kind after_date b0 = search (leaving, number_leaves, fraction_or_leaves) depth 20 fits 50000
 
 -- ---- the offset
 
@@ -114,8 +106,8 @@ unfolding date_after date_of_month month_and_day date_without_month date_of_year
 date_after_tame kind y bytes = search (tame, either_tame) depth 20 fits 50000
 
 year_and_kind_tame : IsTame year_and_kind
-unfolding year_and_kind kind_of_date
-year_and_kind_tame b0 = search (tame, year_leaves) depth 20 fits 5000
+unfolding year_and_kind kind_of_date year signed_year plain_year
+year_and_kind_tame b0 = search tame depth 20 fits 5000
 
 -- ---- the parts
 

@@ -30,19 +30,11 @@ fn under_sign(is_negative: bool, hour: u8, minute: u8) -> WrittenOffset
     ensures value { result ≡ Offsets.offset_of is_negative hour minute }
     ensures range { IsOffsetInRange result }
 {
-    let (hour, minute) = (hour as i8, minute as i8);
-    if is_negative {
-        WrittenOffset {
-            hour: -hour,
-            minute: -minute,
-            second: None,
-        }
-    } else {
-        WrittenOffset {
-            hour,
-            minute,
-            second: None,
-        }
+    let (ahead, past) = (hour as i8, minute as i8);
+    WrittenOffset {
+        hour: if is_negative { -ahead } else { ahead },
+        minute: if is_negative { -past } else { past },
+        second: None,
     }
 }
 

@@ -7,8 +7,9 @@ ghost use Rattle.parsing_combinator.specs.FaultOf.{Gives, reading_fault};
 ghost use Rattle.parsing_iso8601.specs.Reading as Reading;
 ghost use Rattle.parsing_iso8601.specs.ReadView.{date_view};
 
-use crate::date::{date_after, year_and_kind};
-use crate::kind::Kind;
+use crate::date::date_after;
+use crate::kind::{Kind, kind_of_date};
+use crate::number::year;
 use crate::offset::offset;
 use crate::time::time;
 use crate::written::{Iso8601Parts, WrittenDate, WrittenOffset, WrittenTime};
@@ -17,19 +18,21 @@ use parsing_combinator::ParseFromDescription;
 type DateOrFault = Result<WrittenDate, ParseFromDescription>;
 
 /// The date or why there is none, the kind that it hands on, and the rest.
-#[tactic(auto, unfolding(crate::specs::Reading::dated))]
+#[tactic(auto, unfolding(crate::specs::Reading::dated, crate::specs::Dates::year_and_kind))]
 #[inline(always)]
 fn dated(bytes: &[u8]) -> ((DateOrFault, Kind), &[u8])
     ensures gives { Reading.dated bytes.now
         ≡ Ok ((date_view result.0.0, result.0.1), result.1.now) }
     ensures range { IfOk result.0.0 IsDateInRange }
 {
-    match year_and_kind(bytes) {
-        Err(fault) => ((Err(fault), Kind::Unknown), bytes),
-        Ok(((year, kind), after)) => match date_after(kind, year, after) {
-            Ok((date, rest)) => ((Ok(date), kind), rest),
-            Err(fault) => ((Err(fault), kind), bytes),
-        },
+    let Some((year, rest)) = year(bytes) else {
+        let fault = ParseFromDescription::InvalidComponent("year");
+        return ((Err(fault), Kind::Unknown), bytes);
+    };
+    let (kind, after) = kind_of_date(rest);
+    match date_after(kind, year, after) {
+        Ok((date, rest)) => ((Ok(date), kind), rest),
+        Err(fault) => ((Err(fault), kind), bytes),
     }
 }
 

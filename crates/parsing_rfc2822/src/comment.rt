@@ -138,13 +138,7 @@ fn white_or_comment(bytes: &[u8]) -> Option<&[u8]>
     ensures skips { option_map (λ r. r.now) result ≡ White.white_or_comment bytes.now }
     ensures shorter { IfSome result (λ r. length r.now < length bytes.now) }
 {
-    if !may_begin(bytes) {
-        return None;
-    }
-    if let Some(rest) = folding_white_space(bytes) {
-        return Some(rest);
-    }
-    comment(31, bytes)
+    folding_white_space(bytes).or_else(|| comment(31, bytes))
 }
 
 /// Whether white space or a comment may begin the bytes: where it is `false`, none does.

@@ -1,7 +1,7 @@
 //! The moments that parts name.
 ghost use Rattle.std.specs.Prelude.{◌≡◌};
 ghost use Rattle.parsing_combinator.specs.FaultOf.{Gives, resolution_fault};
-ghost use Rattle.parsing_values.specs.NamedMoment.{named_wall, is_leap, dated_moment, offset_or_utc, dated_utc, dated_timestamp, unix_subsecond, named_moment, named_utc, named_timestamp};
+ghost use Rattle.parsing_values.specs.NamedMoment.{named_wall, is_leap, dated_moment, dated_utc, dated_timestamp, unix_subsecond, named_moment, named_utc, named_timestamp};
 
 use crate::parts::{MomentParts, OffsetParts, TimeParts};
 use crate::{DateParts, clock, leap_checked};
@@ -41,24 +41,17 @@ fn dated(parts: &MomentParts, offset: &OffsetParts) -> Result<OffsetDateTime, Tr
     Ok(leap_checked(is_leap(parts), plain.assume_offset(offset))?)
 }
 
-// The offset, or that of UTC where none is there.
-#[tactic(auto, unfolding(crate::specs::NamedMoment::offset_or_utc))]
-fn offset_or_utc(offset: &OffsetParts) -> Result<UtcOffset, TryFromParsed>
-    ensures { Gives (λ o. o) resolution_fault result (offset_or_utc offset.now offset.now.hour) }
-{
-    if offset.hour.is_none() {
-        return Ok(UtcOffset::UTC);
-    }
-    clock::offset(offset)
-}
-
 // The moment by date, time of day and offset, in UTC.
-#[tactic(auto, unfolding(crate::specs::NamedMoment::dated_utc))]
+#[tactic(auto, unfolding(crate::specs::NamedMoment::dated_utc, crate::specs::NamedMoment::offset_or_utc))]
 fn dated_utc(parts: &MomentParts, offset: &OffsetParts) -> Result<UtcDateTime, TryFromParsed>
     ensures { Gives (λ i. i) resolution_fault result (dated_utc parts.now offset.now) }
 {
     let plain = plain_date_time(parts.leap_second_is_permitted, &parts.date, &parts.time)?;
-    let offset = offset_or_utc(offset)?;
+    let offset = if offset.hour.is_none() {
+        UtcOffset::UTC
+    } else {
+        clock::offset(offset)?
+    };
     let moment = plain.assume_offset(offset);
     let refused = ComponentRange::unconditional(ComponentName::Year);
     let utc = moment.checked_to_utc().ok_or(refused)?;
