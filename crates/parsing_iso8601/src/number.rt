@@ -49,11 +49,7 @@ pub fn two_from_one(bytes: &[u8]) -> Option<(u8, &[u8])>
     ensures cut { cut_view result ≡ Numbers.digits_within 2 1 99 bytes.now }
     ensures bound { IfSome result (λ x. IsInRange 1 99 x.0) }
 {
-    let (value, rest) = two_digits(bytes)?;
-    if value < 1 {
-        return None;
-    }
-    Some((value, rest))
+    two_digits(bytes).filter(|x| x.0 >= 1)
 }
 
 /// The two digits of a month.
@@ -89,11 +85,7 @@ pub fn ordinal(bytes: &[u8]) -> Option<(u16, &[u8])>
     ensures cut { cut_view result ≡ Numbers.digits_within 3 1 999 bytes.now }
     ensures bound { IfSome result (λ x. IsInRange 1 999 x.0) }
 {
-    let (value, rest) = three_digits(bytes)?;
-    if value == 0 {
-        return None;
-    }
-    Some((value, rest))
+    three_digits(bytes).filter(|x| x.0 >= 1)
 }
 
 /// A year: four digits, or a sign and six.

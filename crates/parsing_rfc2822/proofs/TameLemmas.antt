@@ -53,21 +53,9 @@ unfolding day optional_weekday named_day weekday one_or_two_digits
 day_tame is_strict b0 =
     further b0 (optional comments_and_white_space b0) _ (optional_ends comments_and_white_space spacing_ends b0) (search (tame, either_leaves) depth 20 fits 5000)
 
-month_and_year_tame : IsTame month_and_year
-unfolding month_and_year month year full_year short_year
-month_and_year_tame b0 = search tame depth 20 fits 5000
-
-clock_tame : (is_strict : Bool) → IsTame (clock is_strict)
-unfolding clock hour_and_minute second due_second
-clock_tame is_strict b0 = search tame depth 20 fits 5000
-
-spaced_zone_tame : (is_strict : Bool) → IsTame (spaced_zone is_strict)
-unfolding spaced_zone zone signed_zone named_zone
-spaced_zone_tame is_strict b0 = search (tame, zone_leaves) depth 20 fits 5000
-
 pub rfc2822_tame : (is_strict : Bool) → IsTame (rfc2822 is_strict)
-unfolding rfc2822
-rfc2822_tame is_strict b0 = search (tame, day_tame, month_and_year_tame, clock_tame, spaced_zone_tame) depth 20
+unfolding rfc2822 month_and_year month year full_year short_year clock hour_and_minute second due_second spaced_zone zone signed_zone named_zone
+rfc2822_tame is_strict b0 = search (tame, day_tame, zone_leaves) depth 30 fits 50000
 
 moment_tame : IsTame moment
 unfolding moment moment_of
