@@ -5,7 +5,7 @@ use Rattle.std.proofs.lemmas.Bool.Decides.{nat_tests}
 use Rattle.std.proofs.lemmas.List.{drop-drop, drop_more, get_or-drop, length-drop}
 use Rattle.base.specs.Bytes.{plus, hyphen}
 use Rattle.parsing_combinator.specs.Pieces.{digits, byte, byte_of, sign}
-use Rattle.parsing_combinator.specs.Places.{HasDigit, HasPair}
+use Rattle.parsing_combinator.specs.Places.{HasDigit, HasPair, AreFour}
 use Rattle.parsing_combinator.proofs.Fixed.{digits_two, digits_four}
 use Rattle.parsing_combinator.proofs.Prefixes.{byte_at}
 
@@ -29,38 +29,63 @@ two_there text place h =
 -- ---- digits in one number
 
 -- the pairs that a product makes of four digits
-pub record Pairs (w a b c d : ℕ) : Type 0 where
-  pub least : 808_464_432 ≤ w
-  pub first : (w - 808_464_432) * 2561 % 2 ^ 32 / 256 % 256 ≡ (a - 48) * 10 + (b - 48)
-  pub second : (w - 808_464_432) * 2561 % 2 ^ 32 / 16_777_216 ≡ (c - 48) * 10 + (d - 48)
-  pub first_most : (w - 808_464_432) * 2561 % 2 ^ 32 / 256 % 256 ≤ 99
-  pub second_most : (w - 808_464_432) * 2561 % 2 ^ 32 / 16_777_216 ≤ 99
+product_of : (w x y z t : ℕ) → x ≤ 9 → y ≤ 9 → z ≤ 9 → t ≤ 9 → w ≡ x + y * 256 + z * 65_536 + t * 16_777_216
+    → (w * 2561 % 2 ^ 32 / 256 % 256 ≡ x * 10 + y) × (w * 2561 % 2 ^ 32 / 16_777_216 ≡ z * 10 + t)
+product_of w x y z t hx hy hz ht is =
+    let product : w * 2561 % 2 ^ 32 ≡ x + (x * 10 + y) * 256 + (y * 10 + z) * 65_536 + (z * 10 + t) * 16_777_216 = omega arith in
+    (omega arith, omega arith)
 
-pairs_of : (w x y z t : ℕ) → x ≤ 9 → y ≤ 9 → z ≤ 9 → t ≤ 9 → w ≡ x + 48 + (y + 48) * 256 + (z + 48) * 65_536 + (t + 48) * 16_777_216 → Pairs w (x + 48) (y + 48) (z + 48) (t + 48)
-pairs_of w x y z t hx hy hz ht is =
-    let product : (w - 808_464_432) * 2561 % 2 ^ 32 ≡ x + (x * 10 + y) * 256 + (y * 10 + z) * 65_536 + (z * 10 + t) * 16_777_216 = omega arith in
-    record { least = omega arith; first = omega arith; second = omega arith; first_most = omega arith; second_most = omega arith }
+abbrev pub first_two : ℕ → ℕ
+first_two w = w % 256 * 10 + w / 256 % 256
 
-shifted : (a : ℕ) → 48 ≤ a → a - 48 + 48 ≡ a
-shifted a low = omega arith
+abbrev pub last_two : ℕ → ℕ
+last_two w = w / 65_536 % 256 * 10 + w / 16_777_216
 
-pairs_by : (w a b c d : ℕ) → 48 ≤ a → a ≤ 57 → 48 ≤ b → b ≤ 57 → 48 ≤ c → c ≤ 57 → 48 ≤ d → d ≤ 57 → w ≡ a + b * 256 + c * 65_536 + d * 16_777_216 → Pairs w a b c d
-pairs_by w a b c d la ha lb hb lc hc ld hd is =
-    let p = pairs_of w (a - 48) (b - 48) (c - 48) (d - 48) (omega arith) (omega arith) (omega arith) (omega arith) (omega arith) in
-    rw (shifted a la, shifted b lb, shifted c lc, shifted d ld) at p
+pub product : (w : ℕ) → AreFour w → (w * 2561 % 2 ^ 32 / 256 % 256 ≡ first_two w) × (w * 2561 % 2 ^ 32 / 16_777_216 ≡ last_two w)
+product w are = product_of w (w % 256) (w / 256 % 256) (w / 65_536 % 256) (w / 16_777_216) are.first are.second are.third are.fourth (omega arith)
 
--- the same of the digits at four places
-pub pairs_there : (w : ℕ) (text : List ℕ) (place : ℕ) → HasPair text place → HasPair text (place + 2) → w ≡ get_or text place 0 + get_or text (place + 1) 0 * 256 + get_or text (place + 2) 0 * 65_536 + get_or text (place + 3) 0 * 16_777_216 → Pairs w (get_or text place 0) (get_or text (place + 1) 0) (get_or text (place + 2) 0) (get_or text (place + 3) 0)
-pairs_there w text place h k is =
-    let last : place + 2 + 1 ≡ place + 3 = omega arith in
-    let d : HasDigit text (place + 3) = rw last at k.second in
-    pairs_by w _ _ _ _ h.first.low h.first.high h.second.low h.second.high k.first.low k.first.high d.low d.high is
+-- the number of the four bytes at a place
+abbrev pub four_bytes : List ℕ → ℕ → ℕ
+four_bytes text place = get_or text place 0 + get_or text (place + 1) 0 * 256 + get_or text (place + 2) 0 * 65_536 + get_or text (place + 3) 0 * 16_777_216
+
+-- what it says, without what makes its bytes digits
+pub record Pairs (w : ℕ) (text : List ℕ) (place : ℕ) : Type 0 where
+  pub are : AreFour w
+  pub first : digits 2 (drop place text) ≡ Some (first_two w, drop (place + 2) text)
+  pub second : digits 2 (drop (place + 2) text) ≡ Some (last_two w, drop (place + 4) text)
+
+digits_of : (w a b c d : ℕ) → w + 808_464_432 ≡ a + b * 256 + c * 65_536 + d * 16_777_216 → 48 ≤ a → a ≤ 57 → 48 ≤ b → b ≤ 57 → 48 ≤ c → c ≤ 57 → 48 ≤ d → d ≤ 57
+    → (w % 256 ≡ a - 48) × (w / 256 % 256 ≡ b - 48) × (w / 65_536 % 256 ≡ c - 48) × (w / 16_777_216 ≡ d - 48)
+digits_of w a b c d is la ha lb hb lc hc ld hd = (omega arith, omega arith, omega arith, omega arith)
 
 pub places_two_on : (text : List ℕ) (place : ℕ) → HasPair text (place + 2) → digits 2 (drop (place + 2) text) ≡ Some ((get_or text (place + 2) 0 - 48) * 10 + (get_or text (place + 3) 0 - 48), drop (place + 4) text)
 places_two_on text place h =
     let second : place + 2 + 1 ≡ place + 3 = omega arith in
     let after : place + 2 + 2 ≡ place + 4 = omega arith in
     rw (second, after) at (two_there text (place + 2) h)
+
+last_digit : (text : List ℕ) (place : ℕ) → HasPair text (place + 2) → HasDigit text (place + 3)
+last_digit text place k = let last : place + 2 + 1 ≡ place + 3 = omega arith in rw last at k.second
+
+pub four_bounds : (text : List ℕ) (place : ℕ) → HasPair text place → HasPair text (place + 2) → (808_464_432 ≤ four_bytes text place) × (four_bytes text place < 2 ^ 32)
+four_bounds text place h k =
+    let d = last_digit text place k in
+    (omega (arith, h.first.low, h.second.low, k.first.low, d.low), omega (arith, h.first.high, h.second.high, k.first.high, d.high))
+
+pub pairs_there : (w : ℕ) (text : List ℕ) (place : ℕ) → HasPair text place → HasPair text (place + 2) → w + 808_464_432 ≡ four_bytes text place → Pairs w text place
+pairs_there w text place h k is =
+    let d = last_digit text place k in
+    let e = digits_of w _ _ _ _ is h.first.low h.first.high h.second.low h.second.high k.first.low k.first.high d.low d.high in
+    record {
+      are = record {
+        first = omega (arith, e.0, h.first.high);
+        second = omega (arith, e.1, h.second.high);
+        third = omega (arith, e.2, k.first.high);
+        fourth = omega (arith, e.3, d.high);
+      };
+      first = rw (e.0, e.1) (two_there text place h);
+      second = rw (e.2, e.3) (places_two_on text place k);
+    }
 
 pub four_there : (text : List ℕ) (place high low : ℕ) → digits 2 (drop place text) ≡ Some (high, drop (place + 2) text) → digits 2 (drop (place + 2) text) ≡ Some (low, drop (place + 4) text) → digits 4 (drop place text) ≡ Some (high * 100 + low, drop (place + 4) text)
 four_there text place high low first second =

@@ -1,10 +1,11 @@
 -- The numbers that digits write, and how many digits there are.
-use Rattle.std.proofs.Common.{◌≡◌, ℕ, zero, suc, cond, ◌+◌, ◌-◌, ◌*◌, ◌^◌, ◌<◌, ◌≤◌, Bool, true, false, List, [], ◌∷◌, ◌++◌, length, take, drop, replicate, refl, ap, ◌∙◌, arith}
+use Rattle.std.proofs.Common.{◌≡◌, ℕ, zero, suc, cond, ◌+◌, ◌-◌, ◌*◌, ◌^◌, ◌<◌, ◌≤◌, Bool, true, false, List, [], ◌∷◌, ◌++◌, length, take, drop, replicate, get_or, inl, inr, refl, ap, ◌∙◌, arith}
 use Rattle.std.specs.Char.{is_ascii_digit, digit_value}
 use Rattle.std.specs.Str.Parse.{digits_value_after}
 use Rattle.std.proofs.lemmas.Bool.Decides.{nat_tests}
 use Rattle.std.proofs.lemmas.List.{length-take-le, get_or-take}
-use Rattle.std.proofs.lemmas.List.Sums.{prefix_len_is, prefix_len_passes, prefix_len-le-length}
+use Rattle.std.proofs.lemmas.List.Sums.{prefix_len_is, prefix_len_passes, prefix_len_stops, prefix_len-le-length}
+use Rattle.std.proofs.lemmas.Bool.{cases_lt}
 use Rattle.std.proofs.lemmas.Nat.{pow-add}
 use Rattle.parsing_combinator.specs.Pieces.{digit_count}
 
@@ -51,6 +52,14 @@ count_prefix bytes n le =
     prefix_len_is is_ascii_digit (take n bytes) (length (take n bytes)) 0 (omega arith)
     (λ k lt. let below : k < n = omega arith in rw (get_or-take n bytes k 0 below) (prefix_len_passes is_ascii_digit bytes k 0 (omega arith)))
     (λ lt. absurd (omega arith))
+
+-- digits at the first places are counted
+pub count_least : (n : ℕ) (bytes : List ℕ) → n ≤ length bytes → ((k : ℕ) → k < n → is_ascii_digit (get_or bytes k 0) ≡ true) → n ≤ digit_count bytes
+count_least n bytes le all =
+    elim (cases_lt (digit_count bytes) n) [
+      | inl lt ↦ absurd (let stops = prefix_len_stops is_ascii_digit bytes 0 (omega arith) in let here = all (digit_count bytes) lt in cc)
+      | inr enough ↦ enough
+    ]
 
 pub digit_count_within : (bytes : List ℕ) → digit_count bytes ≤ length bytes
 digit_count_within bytes = prefix_len-le-length is_ascii_digit bytes

@@ -1,15 +1,16 @@
 -- The digits of a fraction past the ninth have no effect.
-use Rattle.std.proofs.Common.{◌≡◌, ℕ, suc, Bool, true, false, cond, ◌+◌, ◌-◌, ◌*◌, ◌/◌, ◌^◌, ◌<◌, ◌≤◌, List, [], ◌∷◌, length, take, drop, refl, sym, ap, ◌∙◌, arith, lit<, inl, inr, leb, Option, Some, None, unwrap_or}
+use Rattle.std.proofs.Common.{◌≡◌, ℕ, suc, Bool, true, false, cond, ◌+◌, ◌-◌, ◌*◌, ◌/◌, ◌^◌, ◌<◌, ◌≤◌, List, [], ◌∷◌, ◌++◌, length, replicate, eqb, take, drop, refl, sym, ap, ◌∙◌, arith, lit<, inl, inr, leb, Some, None, unwrap_or}
 use Rattle.std.specs.Char.{is_ascii_digit}
 use Rattle.std.specs.Str.Parse.{digits_value, AllDigits}
-use Rattle.std.proofs.lemmas.Bool.{cases_lt}
+use Rattle.std.proofs.lemmas.Bool.{cases_lt, le-leb, leb-true}
 use Rattle.std.proofs.lemmas.Bool.Decides.{nat_tests}
-use Rattle.std.proofs.lemmas.List.{take-append-drop, length-take-le, take_all, length-drop}
-use Rattle.std.proofs.lemmas.List.Sums.{prefix_len-le-length}
+use Rattle.std.proofs.lemmas.List.{take-append-drop, take_all, length-drop}
+use Rattle.std.proofs.lemmas.List.{drop-replicate, append-nil, length-append, length-replicate}
+use Rattle.std.proofs.lemmas.List.Folds.{prefix_len-append, prefix_len-replicate}
 use Rattle.std.proofs.lemmas.Int.Digits.{digits_value-lt}
 use Rattle.std.proofs.lemmas.Nat.{pow-add, le-div, div_below}
-use Rattle.std.proofs.Math.Nat.{mul-lt-mul_of_pos_right, mul-div_cancel, mul_assoc, mul-div-mul_right, one-le-pow}
-use Rattle.parsing_combinator.proofs.Decimal.{digit_here, value_after, value_append, count_drop}
+use Rattle.std.proofs.Math.Nat.{mul-div_cancel, mul_assoc, mul-div-mul_right, one-le-pow}
+use Rattle.parsing_combinator.proofs.Decimal.{digit_here, value_after, value_append, value_zeros, count_drop, count_prefix}
 use Rattle.parsing_combinator.specs.Pieces.{digits, digit_count, digit_run, fraction, nanoseconds_of}
 
 counted_first : (b : Bool) (n k : ℕ) → cond b (1 + n) 0 ≡ suc k → (b ≡ true) × (n ≡ k)
@@ -47,61 +48,58 @@ long_fraction run lt all =
     let below = div_below (digits_value 10 run) (10 ^ k) (prefix + 1) (one-le-pow k 10 (lit< tt)) high in
     omega (arith, above, below, less)
 
-pub nanoseconds_is : (run : List ℕ) (used : ℕ) → digit_count run ≡ length run → (length run ≤ 9 → used ≡ length run) → (9 < length run → used ≡ 9) → digits_value 10 (take used run) * 10 ^ (9 - used) ≡ nanoseconds_of run
-nanoseconds_is run used all short long =
-    elim (cases_lt 9 (length run)) [
-      | inl lt ↦ let u : used ≡ 9 = long lt in rw u (let e = long_fraction run lt all in omega (arith, e))
-      | inr le ↦ let u : used ≡ length run = short le in rw (u, take_all (length run) run (omega arith)) (short_fraction run le)
-    ]
-
--- the digits that are there, with zeros after them, stay below the ninth power
-pub scaled_below : (value used : ℕ) → value < 10 ^ used → used ≤ 9 → value * 10 ^ (9 - used) < 1_000_000_000
-scaled_below value used small le =
-    let split : 10 ^ 9 ≡ 10 ^ used * 10 ^ (9 - used) = ap (λ (k : ℕ). 10 ^ k) (let e : 9 ≡ used + (9 - used) = omega arith in e) ∙ pow-add 10 used (9 - used) in
-    let below : value * 10 ^ (9 - used) < 10 ^ used * 10 ^ (9 - used) = mul-lt-mul_of_pos_right small (one-le-pow (9 - used) 10 (lit< tt)) in
-    let whole : 10 ^ 9 ≡ 1_000_000_000 = refl in
-    omega (arith, below, split, whole)
-
 -- what was read of n digits
 pub record Read (n : ℕ) (bytes : List ℕ) (v : ℕ) (rest : List ℕ) : Type 0 where
   pub enough : n ≤ digit_count bytes
   pub value : digits_value 10 (take n bytes) ≡ v
   pub after : drop n bytes ≡ rest
 
+-- what stands after a test was there, so the test passed
+pub cut_of : {A : Type 0} (b : Bool) (x y : A) → cond b (Some x) None ≡ Some y → (b ≡ true) × (x ≡ y)
+cut_of true x y e = (refl, ap (λ o. unwrap_or o x) e)
+cut_of false x y e = absurd (cc)
+
 pub digits_read : (n : ℕ) (bytes : List ℕ) (v : ℕ) (rest : List ℕ) → digits n bytes ≡ Some (v, rest) → Read n bytes v rest
 unfolding digits
 digits_read n bytes v rest h =
-    elim (cases_lt (digit_count bytes) n) [
-      | inl lt ↦
-          let e : leb n (digit_count bytes) ≡ false = grind (arith, nat_tests) in
-          let f = rw e at h in
-          cc
-      | inr le ↦
-          let e : leb n (digit_count bytes) ≡ true = grind (arith, nat_tests) in
-          let f = rw e at h in
-          record { enough = le; value = ap (λ (o : Option (ℕ × List ℕ)). (unwrap_or o (0, [])).0) f; after = ap (λ (o : Option (ℕ × List ℕ)). (unwrap_or o (0, [])).1) f }
-    ]
+    let cut = cut_of (leb n (digit_count bytes)) _ (v, rest) h in
+    record { enough = leb-true _ _ cut.0; value = ap (λ (x : ℕ × List ℕ). x.0) cut.1; after = ap (λ (x : ℕ × List ℕ). x.1) cut.1 }
 
 pub none_there : (bytes : List ℕ) → digits 1 bytes ≡ None → digit_count bytes ≡ 0
 unfolding digits
 none_there bytes h =
     elim (cases_lt (digit_count bytes) 1) [
       | inl lt ↦ omega arith
-      | inr le ↦
-          let e : leb 1 (digit_count bytes) ≡ true = grind (arith, nat_tests) in
-          let f = rw e at h in
-          cc
+      | inr le ↦ absurd (let f = rw (le-leb 1 (digit_count bytes) le) at h in cc)
     ]
 
--- nine digits and no tenth are the nanoseconds of a fraction
-pub fraction_of_nine : (bytes : List ℕ) (v : ℕ) (rest : List ℕ) → digits 9 bytes ≡ Some (v, rest) → digits 1 rest ≡ None → fraction bytes ≡ Some (v, rest)
+-- digits, and zeros after them
+pub padded_count : (run : List ℕ) (m : ℕ) → digit_count run ≡ length run → digit_count (run ++ replicate m 48) ≡ length run + m
+padded_count run m all =
+    let same : eqb (digit_count run) (length run) ≡ true = grind (arith, nat_tests) in
+    prefix_len-append is_ascii_digit run (replicate m 48) ∙ rw (same, prefix_len-replicate is_ascii_digit m 48 refl) refl
+
+pub padded_value : (run : List ℕ) (m : ℕ) → length run + m ≡ 9 → digits_value 10 (run ++ replicate m 48) ≡ nanoseconds_of run
+padded_value run m nine =
+    let left : m ≡ 9 - length run = omega arith in
+    value_append 0 run (replicate m 48) ∙ value_zeros (digits_value 10 run) m ∙ ap (λ (n : ℕ). digits_value 10 run * 10 ^ n) left ∙ short_fraction run (omega arith)
+
+-- the first nine digits, with zeros where they are fewer
+pub nine_count : (run : List ℕ) (used : ℕ) → digit_count run ≡ length run → used ≤ length run → digit_count (take used run ++ drop used (replicate 9 48)) ≡ length (take used run ++ drop used (replicate 9 48))
+nine_count run used all within =
+    rw (drop-replicate {X = ℕ} used 9 48)
+    (padded_count (take used run) (9 - used) (count_prefix run used (omega arith)) ∙ sym (length-append (take used run) (replicate (9 - used) 48) ∙ ap (λ (n : ℕ). length (take used run) + n) (length-replicate {A = ℕ} (9 - used) 48)))
+
+pub nine_value : (run : List ℕ) (used : ℕ) → digit_count run ≡ length run → (length run ≤ 9 → used ≡ length run) → (9 < length run → used ≡ 9) → digits_value 10 (take used run ++ drop used (replicate 9 48)) ≡ nanoseconds_of run
+nine_value run used all short long =
+    elim (cases_lt 9 (length run)) [
+      | inl lt ↦ let u : used ≡ 9 = long lt in rw (u, append-nil (take 9 run)) (long_fraction run lt all)
+      | inr le ↦ let u : used ≡ length run = short le in rw (u, take_all (length run) run (omega arith), drop-replicate {X = ℕ} (length run) 9 48) (padded_value run (9 - length run) (omega arith))
+    ]
+
+-- the digits that are all that are there are a fraction
+pub fraction_there : (bytes : List ℕ) (count : ℕ) → 0 < count → digit_count bytes ≡ count → fraction bytes ≡ Some (nanoseconds_of (take count bytes), drop count bytes)
 unfolding fraction digit_run
-fraction_of_nine bytes v rest nine none =
-    let r = digits_read 9 bytes v rest nine in
-    let left = none_there rest none in
-    let count = count_drop 9 bytes r.enough in
-    let k : digit_count (drop 9 bytes) ≡ 0 = ap digit_count r.after ∙ left in
-    let e : digit_count bytes ≡ 9 = omega arith in
-    let long : length (take 9 bytes) ≡ 9 = length-take-le 9 bytes (omega (arith, prefix_len-le-length is_ascii_digit bytes)) in
-    let w : nanoseconds_of (take 9 bytes) ≡ v = sym (short_fraction (take 9 bytes) (omega arith)) ∙ rw long (omega (arith, r.value)) in
-    rw (e, w, r.after) refl
+fraction_there bytes count some is =
+    let nonzero : eqb count 0 ≡ false = grind (arith, nat_tests) in
+    rw (is, nonzero) refl

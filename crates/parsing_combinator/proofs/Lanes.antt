@@ -1,10 +1,10 @@
 -- Tests and sums of eight bytes at once.
-use Rattle.std.proofs.Common.{◌≡◌, ℕ, zero, suc, ◌+◌, ◌*◌, ◌/◌, ◌%◌, ◌<◌, ◌≤◌, List, [], ◌∷◌, length, get_or, take, drop, refl, sym, ap, ◌∙◌, arith, lit<}
+use Rattle.std.proofs.Common.{◌≡◌, ℕ, zero, suc, ◌+◌, ◌*◌, ◌/◌, ◌<◌, ◌≤◌, List, [], ◌∷◌, length, get_or, take, drop, refl, sym, ap, ◌∙◌, arith, lit<}
 use Rattle.std.specs.Int.Bits.{bit_and}
 use Rattle.std.proofs.lemmas.List.{drop_more}
 use Rattle.std.proofs.lemmas.Nat.{and_block, and_le_r}
 use Rattle.std.proofs.lemmas.Nat.Bits.{and_high_mask}
-use Rattle.parsing_combinator.specs.Chunks.{chunk, paired}
+use Rattle.parsing_combinator.specs.Chunks.{chunk}
 
 -- a test of the lowest byte and of the rest
 pub record Split (x b y m q p : ℕ) : Type 0 where
@@ -32,13 +32,6 @@ pub half_lane : (b : ℕ) → b < 256 → bit_and b 240 ≡ 48 → (48 ≤ b) ×
 half_lane b byte here =
     let low : b / 16 * 16 ≡ 48 = sym (and_high_mask 8 4 (lit< tt) b byte) ∙ here in
     (omega arith, omega arith)
-
-pub record Pairs (d rest : ℕ) : Type 0 where
-  pub low : paired (rest * 256 + d) % 256 ≡ d * 10 + rest % 256
-  pub high : paired (rest * 256 + d) / 256 ≡ paired rest
-
-pub pairs : (d rest : ℕ) → d * 10 + rest % 256 < 256 → Pairs d rest
-pairs d rest small = record { low = omega arith; high = omega arith }
 
 -- so many from a place on, one by one
 abbrev pub spelled : ℕ → ℕ → List ℕ → List ℕ
@@ -68,12 +61,3 @@ take_fit zero bytes fit k = lit< tt
 take_fit (suc n) [] fit k = lit< tt
 take_fit (suc n) (b ∷ bs) fit zero = fit 0
 take_fit (suc n) (b ∷ bs) fit (suc k) = take_fit n bs (λ j. fit (suc j)) k
-
--- the pair of a byte and the next one
-pub pair_here : (d e : ℕ) (ds : List ℕ) → d ≤ 9 → e ≤ 9 → paired (chunk (d ∷ e ∷ ds)) % 256 ≡ d * 10 + e
-unfolding chunk
-pair_here d e ds low high = omega (arith, (pairs d (chunk ds * 256 + e) (omega arith)).low)
-
-pub pair_next : (d e : ℕ) (ds : List ℕ) → d ≤ 9 → e ≤ 9 → paired (chunk (d ∷ e ∷ ds)) / 256 ≡ paired (chunk (e ∷ ds))
-unfolding chunk
-pair_next d e ds low high = (pairs d (chunk ds * 256 + e) (omega arith)).high

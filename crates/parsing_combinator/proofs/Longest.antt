@@ -4,7 +4,7 @@ use Rattle.std.specs.Prelude.{option_map, nat_le, nat_eq, IfSome}
 use Rattle.std.specs.List.{list_all}
 use Rattle.std.specs.Char.{is_ascii_digit}
 use Rattle.std.specs.Str.Parse.{digits_value}
-use Rattle.std.proofs.lemmas.Bool.{cases_lt}
+use Rattle.std.proofs.lemmas.Bool.{cases_lt, le-leb, lt-leb}
 use Rattle.std.proofs.lemmas.Bool.Decides.{nat_tests}
 use Rattle.std.proofs.lemmas.List.{length-take-le, drop_all}
 use Rattle.std.proofs.lemmas.List.Sums.{prefix_len-le-length}
@@ -91,12 +91,6 @@ too_long n m c j a = grind (arith, nat_tests)
 too_few : (n m c j : ℕ) → c < n → (nat_le n j && nat_le j m && nat_le j c) ≡ false
 too_few n m c j a = grind (arith, nat_tests)
 
-le_true : (n c : ℕ) → n ≤ c → nat_le n c ≡ true
-le_true n c h = grind (arith, nat_tests)
-
-le_false : (n c : ℕ) → c < n → nat_le n c ≡ false
-le_false n c h = grind (arith, nat_tests)
-
 said_none : {A : Type 0} → (value : List ℕ → A) (n m : ℕ) (bytes : List ℕ) (j : ℕ) → are_digits n m (take j bytes) ≡ false → prefix (digits_as value n m) bytes j ≡ None
 unfolding digits_as
 said_none value n m bytes j e = rw e refl
@@ -115,9 +109,9 @@ taken_digits value n m bytes le =
     let c = digit_count bytes in
     let short : c ≤ length bytes = prefix_len-le-length is_ascii_digit bytes in
     elim (cases_lt c n) [
-      | inl few ↦ rw (le_false n c few) (greatest_none (prefix (digits_as value n m) bytes) (length bytes) (λ j a. said_none value n m bytes j (shape_at n m bytes j a ∙ too_few n m c j few)))
+      | inl few ↦ rw (lt-leb n c few) (greatest_none (prefix (digits_as value n m) bytes) (length bytes) (λ j a. said_none value n m bytes j (shape_at n m bytes j a ∙ too_few n m c j few)))
       | inr enough ↦
-          rw (le_true n c enough)
+          rw (le-leb n c enough)
           (greatest_is (prefix (digits_as value n m) bytes) (run_of value (min c m) bytes) (length bytes) (min c m) (omega arith)
           (said_some value n m bytes (min c m) (shape_at n m bytes (min c m) (omega arith) ∙ within n m c (min c m) (omega arith) (omega arith) (omega arith)))
           (λ j a b. said_none value n m bytes j (shape_at n m bytes j b ∙ too_long n m c j a)))
@@ -126,7 +120,7 @@ taken_digits value n m bytes le =
 exactly : (n c : ℕ) (bytes : List ℕ) → cond (nat_le n c) (Some (run_of (digits_value 10) (min c n) bytes)) None ≡ cond (nat_le n c) (Some (run_of (digits_value 10) n bytes)) None
 exactly n c bytes =
     elim (cases_lt c n) [
-      | inl few ↦ rw (le_false n c few) refl
+      | inl few ↦ rw (lt-leb n c few) refl
       | inr enough ↦ let e : min c n ≡ n = omega arith in rw e refl
     ]
 
@@ -138,10 +132,10 @@ taken_exactly n bytes = taken_digits (digits_value 10) n n bytes (omega arith) �
 one_or_two : (c : ℕ) (bytes : List ℕ) → cond (nat_le 1 c) (Some (run_of (digits_value 10) (min c 2) bytes)) None ≡ or_before (cond (nat_le 2 c) (Some (run_of (digits_value 10) 2 bytes)) None) (cond (nat_le 1 c) (Some (run_of (digits_value 10) 1 bytes)) None)
 one_or_two c bytes =
     elim (cases_lt c 1) [
-      | inl none ↦ rw (le_false 1 c none, le_false 2 c (omega arith)) refl
+      | inl none ↦ rw (lt-leb 1 c none, lt-leb 2 c (omega arith)) refl
       | inr some ↦ elim (cases_lt c 2) [
-        | inl one ↦ let e : min c 2 ≡ 1 = omega arith in rw (le_true 1 c some, le_false 2 c one, e) refl
-        | inr two ↦ let e : min c 2 ≡ 2 = omega arith in rw (le_true 1 c some, le_true 2 c two, e) refl
+        | inl one ↦ let e : min c 2 ≡ 1 = omega arith in rw (le-leb 1 c some, lt-leb 2 c one, e) refl
+        | inr two ↦ let e : min c 2 ≡ 2 = omega arith in rw (le-leb 1 c some, le-leb 2 c two, e) refl
       ]
     ]
 

@@ -1,12 +1,12 @@
 -- Names, none of which begins with an earlier one: what is taken is the first that is there.
-use Rattle.std.proofs.Common.{◌≡◌, ℕ, ◌<◌, ◌≤◌, ◌&&◌, Bool, true, false, not, List, [], ◌∷◌, ◌++◌, cond, length, take, drop, Option, Some, None, refl, sym, ap, ◌∙◌, arith}
-use Rattle.std.specs.Option.{option_or}
+use Rattle.std.proofs.Common.{◌≡◌, ℕ, ◌<◌, ◌≤◌, ◌&&◌, Bool, true, false, not, List, [], ◌∷◌, ◌==◌, cond, get_or, length, take, drop, Some, None, refl, sym, ap, ◌∙◌, arith}
 use Rattle.std.specs.Char.{to_ascii_lowercase}
-use Rattle.std.proofs.lemmas.Bool.{and_parts, false_from_ne_true, not-true, true≢false}
+use Rattle.std.proofs.lemmas.Bool.{and_parts, eqb-true, false_from_ne_true, not-true, true≢false}
+use Rattle.std.proofs.lemmas.Bool.Decides.{nat_tests}
 use Rattle.std.proofs.lemmas.List.{length-map, length-take-le, length-take, take-map, take-take}
 use Rattle.std.proofs.lemmas.Slice.Eq.{bytes_eq-Decides}
 use Rattle.parsing_combinator.specs.Shape.{prefix, taken, nothing}
-use Rattle.parsing_combinator.specs.Names.{compared, is_name, begins, named, found, long_months, long_weekdays, short_months, short_weekdays, periods, period}
+use Rattle.parsing_combinator.specs.Names.{compared, is_name, begins, named, found, of_letter, long_months, long_weekdays, short_months, short_weekdays, periods, period}
 use Rattle.parsing_combinator.proofs.Longest.{greatest_is, taken_same, taken_nothing}
 
 -- no entry begins with an earlier one
@@ -102,15 +102,31 @@ taken_named b [] bytes e = taken_same (named b []) nothing bytes (λ j le. empty
 taken_named b (entry ∷ entries) bytes e =
     found_here b (begins b entry.0 bytes) entry entries bytes refl (and_parts _ _ e).0 (taken_named b entries bytes (and_parts _ _ e).1)
 
-either_is : {A : Type 0} → (t : Bool) (x : A) (all first second : Option A) → all ≡ option_or first second → cond t (Some x) all ≡ option_or (cond t (Some x) first) second
-either_is true x all first second e = refl
-either_is false x all first second e = e
+-- no name is empty
+abbrev pub all_some : {A : Type 0} → List (List ℕ × A) → Bool
+all_some [] = true
+all_some (entry ∷ entries) = not (length entry.0 == 0) && all_some entries
 
--- of two tables the first one that has a name at the start
-found_in_two : {A : Type 0} → (b : Bool) (xs ys : List (List ℕ × A)) (bytes : List ℕ) → found b (xs ++ ys) bytes ≡ option_or (found b xs bytes) (found b ys bytes)
+first_is : (b : Bool) (name bytes : List ℕ) → not (length name == 0) ≡ true → begins b name bytes ≡ true → to_ascii_lowercase (get_or name 0 0) ≡ to_ascii_lowercase (get_or bytes 0 0)
+unfolding begins
+first_is b [] bytes some starts = absurd (cc)
+first_is true (x ∷ xs) [] some starts = absurd (cc)
+first_is false (x ∷ xs) [] some starts = absurd (cc)
+first_is true (x ∷ xs) (c ∷ cs) some starts = ap to_ascii_lowercase (eqb-true x c (and_parts _ _ starts).0)
+first_is false (x ∷ xs) (c ∷ cs) some starts = eqb-true _ _ (and_parts _ _ starts).0
+
+kept_or_not : {A : Type 0} → (b p : Bool) (entry : List ℕ × A) (entries same : List (List ℕ × A)) (bytes : List ℕ) → (p ≡ false → begins b entry.0 bytes ≡ false) → found b entries bytes ≡ found b same bytes → found b (entry ∷ entries) bytes ≡ found b (cond p (entry ∷ same) same) bytes
 unfolding found
-found_in_two b [] ys bytes = refl
-found_in_two b (entry ∷ entries) ys bytes = either_is (begins b entry.0 bytes) (entry.1, drop (length entry.0) bytes) (found b (entries ++ ys) bytes) (found b entries bytes) (found b ys bytes) (found_in_two b entries ys bytes)
+kept_or_not b true entry entries same bytes other e = rw e refl
+kept_or_not b false entry entries same bytes other e = rw (other refl) e
+
+-- only the names with the first letter that is there are at the start
+found_by_letter : {A : Type 0} → (b : Bool) (entries : List (List ℕ × A)) (bytes : List ℕ) → all_some entries ≡ true → found b entries bytes ≡ found b (of_letter (to_ascii_lowercase (get_or bytes 0 0)) entries) bytes
+found_by_letter b [] bytes some = refl
+found_by_letter b (entry ∷ entries) bytes some =
+    kept_or_not b (to_ascii_lowercase (get_or entry.0 0 0) == to_ascii_lowercase (get_or bytes 0 0)) entry entries _ bytes
+    (λ other. false_from_ne_true _ (λ starts. let e = first_is b entry.0 bytes (and_parts _ _ some).0 starts in grind (arith, nat_tests)))
+    (found_by_letter b entries bytes (and_parts _ _ some).1)
 
 -- ---- the names
 
@@ -119,13 +135,13 @@ taken_table : {A : Type 0} → (entries : List (List ℕ × A)) → apart true e
 taken_table entries exact alike true bytes = taken_named true entries bytes exact
 taken_table entries exact alike false bytes = taken_named false entries bytes alike
 
-pub taken_long_month : (b : Bool) (bytes : List ℕ) → taken (named b long_months) bytes ≡ option_or (found b (take 6 long_months) bytes) (found b (drop 6 long_months) bytes)
+pub taken_long_month : (b : Bool) (bytes : List ℕ) → taken (named b long_months) bytes ≡ found b (of_letter (to_ascii_lowercase (get_or bytes 0 0)) long_months) bytes
 unfolding begins
-taken_long_month b bytes = taken_table long_months refl refl b bytes ∙ found_in_two b (take 6 long_months) (drop 6 long_months) bytes
+taken_long_month b bytes = taken_table long_months refl refl b bytes ∙ found_by_letter b long_months bytes refl
 
-pub taken_short_month : (b : Bool) (bytes : List ℕ) → taken (named b short_months) bytes ≡ option_or (found b (take 6 short_months) bytes) (found b (drop 6 short_months) bytes)
+pub taken_short_month : (b : Bool) (bytes : List ℕ) → taken (named b short_months) bytes ≡ found b (of_letter (to_ascii_lowercase (get_or bytes 0 0)) short_months) bytes
 unfolding begins
-taken_short_month b bytes = taken_table short_months refl refl b bytes ∙ found_in_two b (take 6 short_months) (drop 6 short_months) bytes
+taken_short_month b bytes = taken_table short_months refl refl b bytes ∙ found_by_letter b short_months bytes refl
 
 pub taken_long_weekday : (b : Bool) (bytes : List ℕ) → taken (named b long_weekdays) bytes ≡ found b long_weekdays bytes
 unfolding begins

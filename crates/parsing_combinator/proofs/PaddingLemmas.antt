@@ -1,21 +1,17 @@
 -- Digits at the start of bytes, read with zeros after them.
-use Rattle.std.proofs.Common.{◌≡◌, ℕ, zero, suc, ◌+◌, ◌-◌, ◌*◌, ◌%◌, ◌^◌, ◌<◌, ◌≤◌, ◌==◌, eqb, List, [], ◌∷◌, ◌++◌, length, get_or, take, drop, replicate, Some, None, true, false, Fits, w64, refl, sym, ap, ◌∙◌, arith, lit<, take-append-drop, length-append}
-use Rattle.std.specs.Char.{is_ascii_digit}
-use Rattle.std.specs.Str.Parse.{digits_value}
+use Rattle.std.proofs.Common.{◌≡◌, ℕ, zero, suc, ◌+◌, ◌-◌, ◌*◌, ◌%◌, ◌^◌, ◌<◌, ◌≤◌, eqb, List, [], ◌∷◌, ◌++◌, length, get_or, take, drop, replicate, true, Fits, w64, refl, sym, ap, ◌∙◌, arith, lit<, take-append-drop, length-append}
 use Rattle.std.specs.Int.Bits.{bit_and}
 use Rattle.std.proofs.lemmas.Bool.{agree_below_at, eqb-true}
-use Rattle.std.proofs.lemmas.Bool.Decides.{nat_tests}
-use Rattle.std.proofs.lemmas.List.{length-take-le, take_all, drop_all, take-append-le, take-take, drop_more, get_or-drop, length-drop}
-use Rattle.std.proofs.lemmas.List.Folds.{prefix_len-append}
+use Rattle.std.proofs.lemmas.List.{length-take-le, take_all, drop_all, take-take, drop_more, get_or-drop, length-drop}
 use Rattle.std.proofs.lemmas.Simd.{length-replicate}
 use Rattle.std.proofs.lemmas.Nat.{pow-add, and_mask}
 use Rattle.std.proofs.Math.Nat.{add-mul-mod_self_right, mod-eq_of_lt, pow-le-pow_right}
-use Rattle.parsing_combinator.specs.Pieces.{digits, digit_count, digit_run, fraction, nanoseconds_of}
-use Rattle.parsing_combinator.specs.Chunks.{chunk, padded, IsDigitChunk}
-use Rattle.parsing_combinator.proofs.Decimal.{value_append, value_zeros, count_prefix}
-use Rattle.parsing_combinator.proofs.DigitChunks.{EightChunk, eight_read, eight_there}
+use Rattle.parsing_combinator.specs.Pieces.{digit_count}
+use Rattle.parsing_combinator.specs.Chunks.{chunk, padded, AreEightDigits}
+use Rattle.parsing_combinator.proofs.Decimal.{count_least}
+use Rattle.parsing_combinator.proofs.DigitChunks.{eight_there}
+use Rattle.parsing_combinator.proofs.AtPlaces.{is_digit}
 use Rattle.parsing_combinator.proofs.Lanes.{take_fit}
-use Rattle.parsing_combinator.proofs.FractionDigits.{Read, digits_read, none_there, short_fraction}
 
 byte_power : (n : ℕ) → 2 ^ (8 * suc n) ≡ 2 ^ (8 * n) * 256
 byte_power n = ap (λ (k : ℕ). 2 ^ k) (let e : 8 * suc n ≡ 8 * n + 8 = omega arith in e) ∙ pow-add 2 (8 * n) 8
@@ -65,29 +61,6 @@ unfolding chunk
 chunk_append [] ys = omega arith
 chunk_append (x ∷ xs) ys = rw (chunk_append xs ys) (appended (chunk xs) (chunk ys) x (2 ^ (8 * length xs)) (2 ^ (8 * suc (length xs))) (byte_power (length xs)))
 
-ten_more : (v p q : ℕ) → q ≡ p * 10 → v * p * 10 ≡ v * q
-ten_more v p q e = rw e (omega arith)
-
--- digits that are all that are there, read with zeros after them, are a fraction
-pub fraction_of_padded : (bytes : List ℕ) (k v : ℕ) → 0 < k → k ≤ 8 → k ≤ length bytes → digits 8 (padded k bytes) ≡ Some (v, []) → digits 1 (drop k bytes) ≡ None → fraction bytes ≡ Some (v * 10, drop k bytes)
-unfolding fraction digit_run
-fraction_of_padded bytes k v some few within eight none =
-    let run = take k bytes in
-    let zeros : List ℕ = replicate (8 - k) 48 in
-    let long : length run ≡ k = length-take-le k bytes within in
-    let r : Read 8 (run ++ zeros) v [] = digits_read 8 (run ++ zeros) v [] eight in
-    let whole : take 8 (run ++ zeros) ≡ run ++ zeros = take_all 8 (run ++ zeros) (omega (arith, length-append run zeros, length-replicate {A = ℕ} (8 - k) 48)) in
-    let prefix : take k (run ++ zeros) ≡ run = take-append-le k run zeros (omega arith) ∙ take_all k run (omega arith) in
-    let all : digit_count run ≡ length run = rw prefix at (count_prefix (run ++ zeros) k (omega (arith, r.enough))) in
-    let left = none_there (drop k bytes) none in
-    let counted : digit_count bytes ≡ k =
-    ap digit_count (sym (take-append-drop k bytes)) ∙ prefix_len-append is_ascii_digit run (drop k bytes) ∙ (let e : eqb (digit_count run) (length run) ≡ true = grind (arith, nat_tests) in rw e (omega arith)) in
-    let value : v ≡ digits_value 10 run * 10 ^ (8 - k) = sym r.value ∙ ap (digits_value 10) whole ∙ value_append 0 run zeros ∙ value_zeros (digits_value 10 run) (8 - k) in
-    let power : 10 ^ (9 - k) ≡ 10 ^ (8 - k) * 10 = ap (λ (n : ℕ). 10 ^ n) (let e : 9 - k ≡ 8 - k + 1 = omega arith in e) ∙ pow-add 10 (8 - k) 1 in
-    let nanos : nanoseconds_of run ≡ v * 10 = sym (short_fraction run (omega arith)) ∙ rw long (sym (ten_more (digits_value 10 run) (10 ^ (8 - k)) (10 ^ (9 - k)) power) ∙ ap (λ (n : ℕ). n * 10) (sym value)) in
-    let nonzero : (k == 0) ≡ false = grind (arith, nat_tests) in
-    rw counted (rw nonzero (rw nanos refl))
-
 append_fit : (xs ys : List ℕ) → ((k : ℕ) → get_or xs k 0 < 256) → ((k : ℕ) → get_or ys k 0 < 256) → (k : ℕ) → get_or (xs ++ ys) k 0 < 256
 append_fit [] ys fx fy k = fy k
 append_fit (x ∷ xs) ys fx fy zero = fx 0
@@ -114,9 +87,6 @@ module _ (bytes : List ℕ) (k : ℕ) (few : k ≤ 8) (within : k ≤ length byt
   pub padded_whole : take 8 (padded k bytes) ≡ padded k bytes
   padded_whole = take_all 8 (padded k bytes) (omega (arith, padded_long))
 
-  pub padded_rest : drop 8 (padded k bytes) ≡ []
-  padded_rest = drop_all 8 (padded k bytes) (omega (arith, padded_long))
-
   sum : chunk (padded k bytes) ≡ chunk (take k bytes) + chunk (replicate (8 - k) 48) * 2 ^ (8 * k)
   sum = chunk_append (take k bytes) (replicate (8 - k) 48) ∙ rw long refl
 
@@ -136,11 +106,8 @@ module _ (bytes : List ℕ) (k : ℕ) (few : k ≤ 8) (within : k ≤ length byt
   pub padded_below : Fits w64 (chunk (padded k bytes))
   padded_below = record { fits = below }
 
-  pub padded_counted : bit_and (chunk (padded k bytes)) 17_361_641_481_138_401_520 ≡ 3_472_328_296_227_680_304 → bit_and ((chunk (padded k bytes) + 434_041_037_028_460_038) % 2 ^ 64) 17_361_641_481_138_401_520 ≡ 3_472_328_296_227_680_304 → 8 ≤ digit_count (padded k bytes)
-  padded_counted here more =
-      let r = eight_read (padded k bytes) (omega (arith, padded_long)) padded_fit (rw padded_whole here) (rw padded_whole more) in
-      (digits_read 8 (padded k bytes) _ _ r.reads).enough
-
--- the digits of a chunk
-pub padded_eight : (bytes : List ℕ) (number count : ℕ) → IsDigitChunk bytes number count → ((j : ℕ) → get_or bytes j 0 < 256) → EightChunk (padded count bytes) number
-padded_eight bytes number count c fit = rw c.number_is (rw (padded_whole bytes count c.few c.within fit) at (eight_there (padded count bytes) c.digits_are))
+  pub padded_counted : AreEightDigits (chunk (padded k bytes)) → 8 ≤ digit_count (padded k bytes)
+  padded_counted test =
+      let le : 8 ≤ length (padded k bytes) = omega (arith, padded_long) in
+      let d = eight_there (padded k bytes) le padded_fit (rw padded_whole test) in
+      count_least 8 (padded k bytes) le (λ j lt. is_digit (get_or (padded k bytes) j 0) (d j lt).low (d j lt).high)

@@ -1,6 +1,6 @@
 -- A shape after a sign, by the sign.
 use Rattle.std.proofs.Common.{◌≡◌, ℕ, zero, suc, Bool, true, false, cond, List, [], ◌∷◌, length, take, drop, Option, Some, None, refl, ap, ◌∙◌}
-use Rattle.std.specs.Prelude.{option_map, ◌==◌}
+use Rattle.std.specs.Prelude.{option_map, if◌then◌else◌, ◌==◌}
 use Rattle.parsing_combinator.specs.Pieces.{Piece, sign, byte_of}
 use Rattle.parsing_combinator.specs.Shape.{Shape, prefix, taken, nothing, is_sign, signed}
 use Rattle.parsing_combinator.specs.Numbers.{signed_if}
@@ -9,10 +9,6 @@ use Rattle.parsing_combinator.proofs.Longest.{greatest_map, greatest_same, taken
 -- what was taken, under a sign
 abbrev pub under : {A : Type 0} → Bool → Option (A × List ℕ) → Option ((Bool × A) × List ℕ)
 under negative r = option_map (λ x. ((negative, x.0), x.1)) r
-
-abbrev pub by_sign : {A : Type 0} → Option (ℕ × List ℕ) → Piece A → Piece A → List ℕ → Option ((Bool × A) × List ℕ)
-by_sign (Some x) after bare bytes = under (x.0 == 45) (after x.1)
-by_sign None after bare bytes = under false (bare bytes)
 
 -- a shape whose values are told with a mark
 abbrev pub marked : {A : Type 0} → Bool → Shape A → Shape (Bool × A)
@@ -46,15 +42,6 @@ unfolding signed
 empty_at after bare zero = refl
 empty_at after bare (suc j) = refl
 
-here : {A : Type 0} → (after bare : Shape A) (b : Bool) (c : ℕ) (cs : List ℕ) → bare [] ≡ None → is_sign c ≡ b → taken (signed after bare) (c ∷ cs) ≡ by_sign (cond b (Some (c, cs)) None) (taken after) (taken bare) (c ∷ cs)
-here after bare true c cs none e = taken_after (signed after bare) (marked (c == 45) after) c cs (empty_none after bare none) (λ text. after_at after bare c text e) ∙ taken_marked (c == 45) after cs
-here after bare false c cs none e = taken_same (signed after bare) (marked false bare) (c ∷ cs) (λ j le. bare_at after bare c cs j e) ∙ taken_marked false bare (c ∷ cs)
-
-pub taken_signed : {A : Type 0} → (after bare : Shape A) (bytes : List ℕ) → bare [] ≡ None → taken (signed after bare) bytes ≡ by_sign (sign bytes) (taken after) (taken bare) bytes
-unfolding byte_of
-taken_signed after bare [] none = taken_same (signed after bare) (marked false bare) [] (λ j le. empty_at after bare j) ∙ taken_marked false bare []
-taken_signed after bare (c ∷ cs) none = here after bare (is_sign c) c cs none refl
-
 -- ---- where a sign may be due
 
 abbrev pub by_sign_if : {A : Type 0} → Option (ℕ × List ℕ) → Bool → Piece A → Piece A → List ℕ → Option ((Bool × A) × List ℕ)
@@ -62,19 +49,23 @@ by_sign_if (Some x) mandatory after bare bytes = under (x.0 == 45) (after x.1)
 by_sign_if None true after bare bytes = None
 by_sign_if None false after bare bytes = under false (bare bytes)
 
-no_bare : (o : Option (ℕ × List ℕ)) (after : Shape ℕ) (bytes : List ℕ) (bare : Piece ℕ) → by_sign o (taken after) (taken nothing) bytes ≡ by_sign_if o true (taken after) bare bytes
-no_bare (Some x) after bytes bare = refl
-no_bare None after bytes bare = ap (under false) (taken_nothing bytes)
+abbrev bare_if : Bool → Shape ℕ → Shape ℕ
+bare_if mandatory bare = if mandatory then nothing else bare
 
-some_bare : (o : Option (ℕ × List ℕ)) (after bare : Piece ℕ) (bytes : List ℕ) → by_sign o after bare bytes ≡ by_sign_if o false after bare bytes
-some_bare (Some x) after bare bytes = refl
-some_bare None after bare bytes = refl
-
-nothing_none : nothing {A = ℕ} [] ≡ None
+none_if : (mandatory : Bool) (bare : Shape ℕ) → bare [] ≡ None → bare_if mandatory bare [] ≡ None
 unfolding nothing
-nothing_none = refl
+none_if true bare none = refl
+none_if false bare none = none
+
+taken_bare : (mandatory : Bool) (bare : Shape ℕ) (after : Piece ℕ) (bytes : List ℕ) → taken (marked false (bare_if mandatory bare)) bytes ≡ by_sign_if None mandatory after (taken bare) bytes
+taken_bare true bare after bytes = taken_marked false nothing bytes ∙ ap (under false) (taken_nothing bytes)
+taken_bare false bare after bytes = taken_marked false bare bytes
+
+here : (mandatory b : Bool) (after bare : Shape ℕ) (c : ℕ) (cs : List ℕ) → bare [] ≡ None → is_sign c ≡ b → taken (signed after (bare_if mandatory bare)) (c ∷ cs) ≡ by_sign_if (cond b (Some (c, cs)) None) mandatory (taken after) (taken bare) (c ∷ cs)
+here mandatory true after bare c cs none e = taken_after (signed after (bare_if mandatory bare)) (marked (c == 45) after) c cs (empty_none after _ (none_if mandatory bare none)) (λ text. after_at after _ c text e) ∙ taken_marked (c == 45) after cs
+here mandatory false after bare c cs none e = taken_same (signed after (bare_if mandatory bare)) (marked false (bare_if mandatory bare)) (c ∷ cs) (λ j le. bare_at after _ c cs j e) ∙ taken_bare mandatory bare (taken after) (c ∷ cs)
 
 pub taken_signed_if : (mandatory : Bool) (after bare : Shape ℕ) (bytes : List ℕ) → bare [] ≡ None → taken (signed_if mandatory after bare) bytes ≡ by_sign_if (sign bytes) mandatory (taken after) (taken bare) bytes
-unfolding signed_if
-taken_signed_if true after bare bytes none = taken_signed after nothing bytes nothing_none ∙ no_bare (sign bytes) after bytes (taken bare)
-taken_signed_if false after bare bytes none = taken_signed after bare bytes none ∙ some_bare (sign bytes) (taken after) (taken bare) bytes
+unfolding signed_if byte_of
+taken_signed_if mandatory after bare [] none = taken_same (signed after (bare_if mandatory bare)) (marked false (bare_if mandatory bare)) [] (λ j le. empty_at after _ j) ∙ taken_bare mandatory bare (taken after) []
+taken_signed_if mandatory after bare (c ∷ cs) none = here mandatory (is_sign c) after bare c cs none refl

@@ -1,5 +1,5 @@
 -- Names, and what each of them names.
-use Rattle.std.specs.Prelude.{ℕ, ◌&&◌, Bool, true, false, List, [], ◌∷◌, map, length, take, drop, Option, Some, None, bytes_eq, codes, if◌then◌else◌}
+use Rattle.std.specs.Prelude.{ℕ, ◌&&◌, ◌==◌, Bool, true, false, List, [], ◌∷◌, map, length, get_or, take, drop, Option, Some, None, bytes_eq, codes, if◌then◌else◌}
 use Rattle.std.specs.Char.{to_ascii_lowercase}
 use Rattle.calendar_count.specs.declared.month.Month.{Month}
 use Rattle.calendar_count.specs.declared.month.Month.TheVariants as month
@@ -28,6 +28,11 @@ named case_sensitive (entry ∷ entries) text = if is_name case_sensitive entry.
 unfoldable pub found : {A : Type 0} → Bool → List (List ℕ × A) → List ℕ → Option (A × List ℕ)
 found b [] bytes = None
 found b (entry ∷ entries) bytes = if begins b entry.0 bytes then Some (entry.1, drop (length entry.0) bytes) else found b entries bytes
+
+-- the entries whose names begin with a letter, whatever its case
+abbrev pub of_letter : {A : Type 0} → ℕ → List (List ℕ × A) → List (List ℕ × A)
+of_letter c [] = []
+of_letter c (entry ∷ entries) = if to_ascii_lowercase (get_or entry.0 0 0) == c then entry ∷ of_letter c entries else of_letter c entries
 
 -- ---- the names
 

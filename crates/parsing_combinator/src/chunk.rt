@@ -8,6 +8,7 @@ ghost use Rattle.parsing_combinator.specs.Pieces as Pieces;
 ghost use Rattle.parsing_combinator.specs.Chunks as Chunks;
 
 use crate::cut::one_digit;
+use crate::places::pairs;
 
 // Eight bytes as one number, the first one lowest.
 type Chunk = u64;
@@ -26,29 +27,17 @@ fn first_chunk(bytes: &[u8]) -> Option<(Chunk, &[u8])>
     Some((u64::from_le_bytes([*a, *b, *c, *d, *e, *f, *g, *h]), rest))
 }
 
-// What the bytes have above those of the pattern, where each is as there under the mask, also with what is added.
+/// What eight bytes have above the digit zero, where all of them are digits.
 #[inline(always)]
-fn fits(chunk: Chunk, mask: Chunk, pattern: Chunk, added: Chunk) -> Option<Chunk>
-    requires { bit_and pattern mask ≡ pattern }
-    ensures low { IfSome result (λ x. pattern ≤ chunk) }
-    ensures here { IfSome result (λ x. bit_and chunk mask ≡ pattern) }
-    ensures more { IfSome result (λ x. bit_and ((chunk + added) % 2 ^ 64) mask ≡ pattern) }
-    ensures above { IfSome result (λ x. x ≡ chunk - pattern) }
+pub fn above_zeros(chunk: u64) -> Option<u64>
+    ensures above { IfSome result (λ x. x + 0x3030_3030_3030_3030 ≡ chunk) }
+    ensures digits { IfSome result (λ _. Chunks.AreEightDigits chunk) }
 {
-    let above = chunk.wrapping_sub(pattern);
-    if (above | above.wrapping_add(added)) & mask != 0 {
+    let above = chunk.wrapping_sub(0x3030_3030_3030_3030);
+    if (above | above.wrapping_add(0x0606_0606_0606_0606)) & 0xf0f0_f0f0_f0f0_f0f0 != 0 {
         return None;
     }
     Some(above)
-}
-
-// In each byte ten times that byte and the next one.
-#[inline(always)]
-fn paired(digits: Chunk) -> Chunk
-    requires { digits ≤ 651_061_555_542_690_057 }
-    ensures { result ≡ Chunks.paired digits }
-{
-    digits * 10 + digits / 256
 }
 
 // Eight digits, where all of them are there.
@@ -58,12 +47,12 @@ fn eight_digits(bytes: &[u8]) -> Option<(u32, &[u8])>
     ensures bound { IfSome result (λ x. x.0 < 100_000_000) }
 {
     let (chunk, rest) = first_chunk(bytes)?;
-    let pattern = 0x3030_3030_3030_3030;
-    let digits = fits(chunk, 0xf0f0_f0f0_f0f0_f0f0, pattern, 0x0606_0606_0606_0606)?;
-    let pairs = paired(digits);
-    let high = pairs % 256 * 100 + pairs / 0x1_0000 % 256;
-    let low = pairs / 0x1_0000_0000 % 256 * 100 + pairs / 0x1_0000_0000_0000 % 256;
-    Some(((high * 10_000 + low) as u32, rest))
+    let digits = above_zeros(chunk)?;
+    let (first, second) = pairs((digits % 0x1_0000_0000) as u32);
+    let (third, fourth) = pairs((digits / 0x1_0000_0000) as u32);
+    let high = u32::from(first) * 100 + u32::from(second);
+    let low = u32::from(third) * 100 + u32::from(fourth);
+    Some((high * 10_000 + low, rest))
 }
 
 // The first eight bytes, or all of them where they are fewer.
@@ -129,14 +118,6 @@ static ZEROS_AFTER: [Chunk; 9] = [
     0,
 ];
 
-#[inline(always)]
-fn first_bytes(count: usize) -> Chunk
-    requires { count ≤ 8 }
-    ensures { result ≡ 2 ^ (8 * count) - 1 }
-{
-    FIRST_BYTES[count]
-}
-
 /// The digit zero at each of eight places after the first so many.
 #[inline(always)]
 pub fn zeros_after(count: usize) -> u64
@@ -144,17 +125,6 @@ pub fn zeros_after(count: usize) -> u64
     ensures { result ≡ Chunks.chunk (replicate (8 - count) digit_zero) * 2 ^ (8 * count) }
 {
     ZEROS_AFTER[count]
-}
-
-// The first bytes as a chunk, with the digit zero after them.
-#[inline(always)]
-fn padded_chunk(bytes: &[u8], chunk: Chunk, count: usize) -> Chunk
-    requires chunk { chunk ≡ Chunks.chunk (take 8 bytes.now) }
-    requires few { count ≤ 8 }
-    requires within { count ≤ length bytes.now }
-    ensures { result ≡ Chunks.chunk (Chunks.padded count bytes.now) }
-{
-    (chunk & first_bytes(count)) + zeros_after(count)
 }
 
 /// At most eight digits at the start, in one number with the digit zero after them, the first one lowest, and how many
@@ -169,30 +139,12 @@ pub fn digit_chunk(bytes: &[u8]) -> Option<(u64, usize)>
         return None;
     }
     // Each byte has the high half of a digit.
-    let digits = padded_chunk(bytes, chunk, count);
+    let digits = (chunk & FIRST_BYTES[count]) + zeros_after(count);
     let sum = digits.wrapping_add(0x0606_0606_0606_0606);
     if sum & 0xf0f0_f0f0_f0f0_f0f0 != 0x3030_3030_3030_3030 {
         return None;
     }
     Some((digits, count))
-}
-
-// The nanoseconds of a fraction of at most eight digits, where they are all that are there.
-#[inline(always)]
-pub(crate) fn short_fraction(bytes: &[u8]) -> Option<(u32, &[u8])>
-    ensures fraction { IfSome result (λ x. Pieces.fraction bytes.now ≡ Some (x.0, x.1.now)) }
-    ensures bound { IfSome result (λ x. x.0 < 1_000_000_000) }
-{
-    let (chunk, count) = digit_chunk(bytes)?;
-    let pairs = paired(chunk - 0x3030_3030_3030_3030);
-    let high = pairs % 256 * 100 + pairs / 0x1_0000 % 256;
-    let low = pairs / 0x1_0000_0000 % 256 * 100 + pairs / 0x1_0000_0000_0000 % 256;
-    let value = (high * 10_000 + low) as u32;
-    let rest = &bytes[count..];
-    match one_digit(rest) {
-        None => Some((value * 10, rest)),
-        Some(_) => None,
-    }
 }
 
 /// Nine digits, where all of them are there.

@@ -43,17 +43,14 @@ impl fmt::Display for ParseFromDescription {
 
     fn fmt<W: fmt::Write>(&self, f: &mut fmt::Formatter<W>) -> fmt::Result {
         match self {
-            ParseFromDescription::InvalidLiteral => {
-                write!(f, "a character literal was not valid")
-            }
+            ParseFromDescription::InvalidLiteral => f.write_str(
+                "a character literal was not valid",
+            ),
             ParseFromDescription::InvalidComponent(name) => {
                 write!(f, "the '{name}' component could not be parsed")
             }
             ParseFromDescription::UnexpectedTrailingCharacters => {
-                write!(
-                    f,
-                    "unexpected trailing characters; the end of input was expected"
-                )
+                f.write_str("unexpected trailing characters; the end of input was expected")
             }
         }
     }

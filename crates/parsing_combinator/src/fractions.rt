@@ -3,12 +3,11 @@ ghost use Rattle.std.specs.Prelude.{◌≡◌, ◌≤◌, ◌<◌, ◌^◌, IfSo
 ghost use Rattle.std.specs.Str.Parse.{digits_value};
 ghost use Rattle.parsing_combinator.specs.Pieces as Pieces;
 
-use crate::chunk::{nine_digits, short_fraction};
-use crate::cut::{digit_run, one_digit};
+use crate::cut::digit_run;
 
-// The number that at most nine digits write.
+/// The number that at most nine digits write.
 #[inline(always)]
-pub(crate) fn number(prefix: &[u8]) -> u32
+pub fn number(prefix: &[u8]) -> u32
     requires short { length prefix.now ≤ 9 }
     requires all { Pieces.digit_count prefix.now ≡ length prefix.now }
     ensures value { result ≡ digits_value 10 prefix.now }
@@ -21,27 +20,6 @@ pub(crate) fn number(prefix: &[u8]) -> u32
     value
 }
 
-// A power of ten, at most the ninth.
-#[inline(always)]
-fn power_of_ten(exponent: usize) -> u32
-    requires { exponent ≤ 9 }
-    ensures { result ≡ 10 ^ exponent }
-{
-    match exponent {
-        0 => 1,
-        1 => 10,
-        2 => 100,
-        3 => 1_000,
-        4 => 10_000,
-        5 => 100_000,
-        6 => 1_000_000,
-        7 => 10_000_000,
-        8 => 100_000_000,
-        9 => 1_000_000_000,
-        _ => unreachable!(),
-    }
-}
-
 // The whole nanoseconds of a fraction with these digits.
 #[inline(always)]
 #[tactic(auto, using(crate::proofs::Decimal::count_prefix))]
@@ -51,36 +29,19 @@ fn nanoseconds(run: &[u8]) -> u32
     ensures bound { result < 1_000_000_000 }
 {
     let used = run.len().min(9);
-    number(&run[..used]) * power_of_ten(9 - used)
-}
-
-// A fraction of any number of digits.
-#[cold]
-#[tactic(auto, unfolding(crate::specs::Pieces::fraction))]
-fn any_fraction(bytes: &[u8]) -> Option<(u32, &[u8])>
-    ensures cut { Pieces.cut_view result ≡ Pieces.fraction bytes.now }
-    ensures bound { IfSome result (λ x. x.0 < 1_000_000_000) }
-{
-    let (run, rest) = digit_run(bytes)?;
-    Some((nanoseconds(run), rest))
+    let mut digits = [b'0'; 9];
+    digits[..used].copy_from_slice(&run[..used]);
+    number(&digits)
 }
 
 /// The whole nanoseconds of a fraction of a second: all digits that are there, at least one.
 ///
 /// Digits past the ninth are read and have no effect.
-#[tactic(auto, using(crate::proofs::FractionDigits::fraction_of_nine))]
-#[inline(always)]
+#[tactic(auto, unfolding(crate::specs::Pieces::fraction))]
 pub fn fraction(bytes: &[u8]) -> Option<(u32, &[u8])>
     ensures cut { Pieces.cut_view result ≡ Pieces.fraction bytes.now }
     ensures bound { IfSome result (λ x. x.0 < 1_000_000_000) }
 {
-    if let Some(read) = short_fraction(bytes) {
-        return Some(read);
-    }
-    if let Some((value, rest)) = nine_digits(bytes)
-        && one_digit(rest).is_none()
-    {
-        return Some((value, rest));
-    }
-    any_fraction(bytes)
+    let (run, rest) = digit_run(bytes)?;
+    Some((nanoseconds(run), rest))
 }

@@ -14,13 +14,13 @@ mod strict;
 mod wide;
 mod zone;
 
-pub use chunk::{digit_chunk, nine_digits, zeros_after};
+pub use chunk::{above_zeros, digit_chunk, nine_digits, zeros_after};
 pub use cut::{
     any_byte, byte, digit_run, four_digits, one_digit, sign, six_digits, three_digits, two_digits,
 };
 pub use digits::{digits_between, fraction_between, spaced_between};
 pub use fault::{Parse, ParseFromDescription, TryFromParsed};
-pub use fractions::fraction;
+pub use fractions::{fraction, number};
 pub use names::{long_month, long_weekday, period, short_month, short_weekday};
 pub use padding::{padded, padded_four, padded_two};
 pub use places::{four_digits_at, two_pairs_at};

@@ -1,8 +1,10 @@
 //! Names.
-ghost use Rattle.std.specs.Prelude.{◌≡◌, Some, None, take, drop, length, option_map, if◌then◌else◌};
+ghost use Rattle.std.specs.Prelude.{◌≡◌, Some, None, drop, get_or, length, option_map, if◌then◌else◌};
+ghost use Rattle.std.specs.Char.{to_ascii_lowercase};
 ghost use Rattle.parsing_combinator.specs.Pieces.{cut_view};
 ghost use Rattle.parsing_combinator.specs.Shape.{taken};
 ghost use Rattle.parsing_combinator.specs.Names as Names;
+ghost use Rattle.parsing_combinator.specs.Names.{of_letter};
 
 use calendar_count::{Month, Weekday};
 
@@ -38,36 +40,37 @@ macro_rules! first_name {
     };
 }
 
-// The month of the first half of a year whose name is at the start.
+// The first byte in lower case, and 0 where there is none.
 #[inline(always)]
-#[tactic(auto, unfolding(crate::specs::Names::found))]
-fn long_month_to_june(case_sensitive: bool, bytes: &[u8]) -> Option<(Month, &[u8])>
-    ensures { cut_view result ≡ Names.found case_sensitive (take 6 Names.long_months) bytes.now }
+fn first_letter(bytes: &[u8]) -> u8
+    ensures { result ≡ to_ascii_lowercase (get_or bytes.now 0 0) }
 {
-    first_name!(case_sensitive, bytes,
-        b"January" => Month::January,
-        b"February" => Month::February,
-        b"March" => Month::March,
-        b"April" => Month::April,
-        b"May" => Month::May,
-        b"June" => Month::June
-    )
+    match bytes {
+        [first, ..] => first.to_ascii_lowercase(),
+        _ => 0,
+    }
 }
 
-// The month of the second half of a year whose name is at the start.
+// The month whose name is at the start, of those with a first letter.
 #[inline(always)]
 #[tactic(auto, unfolding(crate::specs::Names::found))]
-fn long_month_from_july(case_sensitive: bool, bytes: &[u8]) -> Option<(Month, &[u8])>
-    ensures { cut_view result ≡ Names.found case_sensitive (drop 6 Names.long_months) bytes.now }
+fn long_month_of(letter: u8, case_sensitive: bool, bytes: &[u8]) -> Option<(Month, &[u8])>
+    ensures { cut_view result
+        ≡ Names.found case_sensitive (of_letter letter Names.long_months) bytes.now }
 {
-    first_name!(case_sensitive, bytes,
-        b"July" => Month::July,
-        b"August" => Month::August,
-        b"September" => Month::September,
-        b"October" => Month::October,
-        b"November" => Month::November,
-        b"December" => Month::December
-    )
+    match letter {
+        b'j' => first_name!(case_sensitive, bytes,
+            b"January" => Month::January, b"June" => Month::June, b"July" => Month::July),
+        b'f' => first_name!(case_sensitive, bytes, b"February" => Month::February),
+        b'm' => first_name!(case_sensitive, bytes, b"March" => Month::March, b"May" => Month::May),
+        b'a' =>
+            first_name!(case_sensitive, bytes, b"April" => Month::April, b"August" => Month::August),
+        b's' => first_name!(case_sensitive, bytes, b"September" => Month::September),
+        b'o' => first_name!(case_sensitive, bytes, b"October" => Month::October),
+        b'n' => first_name!(case_sensitive, bytes, b"November" => Month::November),
+        b'd' => first_name!(case_sensitive, bytes, b"December" => Month::December),
+        _ => None,
+    }
 }
 
 /// The English name of a month.
@@ -75,10 +78,7 @@ fn long_month_from_july(case_sensitive: bool, bytes: &[u8]) -> Option<(Month, &[
 pub fn long_month(case_sensitive: bool, bytes: &[u8]) -> Option<(Month, &[u8])>
     ensures { cut_view result ≡ taken (Names.named case_sensitive Names.long_months) bytes.now }
 {
-    match long_month_to_june(case_sensitive, bytes) {
-        Some(month) => Some(month),
-        None => long_month_from_july(case_sensitive, bytes),
-    }
+    long_month_of(first_letter(bytes), case_sensitive, bytes)
 }
 
 // The day of the week whose name is at the start.
@@ -106,36 +106,25 @@ pub fn long_weekday(case_sensitive: bool, bytes: &[u8]) -> Option<(Weekday, &[u8
     first_long_weekday(case_sensitive, bytes)
 }
 
-// The month of the first half of a year whose short name is at the start.
+// The month whose name is at the start, of those with a first letter.
 #[inline(always)]
 #[tactic(auto, unfolding(crate::specs::Names::found))]
-fn short_month_to_june(case_sensitive: bool, bytes: &[u8]) -> Option<(Month, &[u8])>
-    ensures { cut_view result ≡ Names.found case_sensitive (take 6 Names.short_months) bytes.now }
+fn short_month_of(letter: u8, case_sensitive: bool, bytes: &[u8]) -> Option<(Month, &[u8])>
+    ensures { cut_view result
+        ≡ Names.found case_sensitive (of_letter letter Names.short_months) bytes.now }
 {
-    first_name!(case_sensitive, bytes,
-        b"Jan" => Month::January,
-        b"Feb" => Month::February,
-        b"Mar" => Month::March,
-        b"Apr" => Month::April,
-        b"May" => Month::May,
-        b"Jun" => Month::June
-    )
-}
-
-// The month of the second half of a year whose short name is at the start.
-#[inline(always)]
-#[tactic(auto, unfolding(crate::specs::Names::found))]
-fn short_month_from_july(case_sensitive: bool, bytes: &[u8]) -> Option<(Month, &[u8])>
-    ensures { cut_view result ≡ Names.found case_sensitive (drop 6 Names.short_months) bytes.now }
-{
-    first_name!(case_sensitive, bytes,
-        b"Jul" => Month::July,
-        b"Aug" => Month::August,
-        b"Sep" => Month::September,
-        b"Oct" => Month::October,
-        b"Nov" => Month::November,
-        b"Dec" => Month::December
-    )
+    match letter {
+        b'j' => first_name!(case_sensitive, bytes,
+            b"Jan" => Month::January, b"Jun" => Month::June, b"Jul" => Month::July),
+        b'f' => first_name!(case_sensitive, bytes, b"Feb" => Month::February),
+        b'm' => first_name!(case_sensitive, bytes, b"Mar" => Month::March, b"May" => Month::May),
+        b'a' => first_name!(case_sensitive, bytes, b"Apr" => Month::April, b"Aug" => Month::August),
+        b's' => first_name!(case_sensitive, bytes, b"Sep" => Month::September),
+        b'o' => first_name!(case_sensitive, bytes, b"Oct" => Month::October),
+        b'n' => first_name!(case_sensitive, bytes, b"Nov" => Month::November),
+        b'd' => first_name!(case_sensitive, bytes, b"Dec" => Month::December),
+        _ => None,
+    }
 }
 
 /// The first three letters of the English name of a month.
@@ -143,10 +132,7 @@ fn short_month_from_july(case_sensitive: bool, bytes: &[u8]) -> Option<(Month, &
 pub fn short_month(case_sensitive: bool, bytes: &[u8]) -> Option<(Month, &[u8])>
     ensures { cut_view result ≡ taken (Names.named case_sensitive Names.short_months) bytes.now }
 {
-    match short_month_to_june(case_sensitive, bytes) {
-        Some(month) => Some(month),
-        None => short_month_from_july(case_sensitive, bytes),
-    }
+    short_month_of(first_letter(bytes), case_sensitive, bytes)
 }
 
 // The day of the week whose short name is at the start.

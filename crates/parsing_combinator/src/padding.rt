@@ -31,10 +31,7 @@ fn one_or_two_digits(bytes: &[u8]) -> Option<(u8, &[u8])>
     ensures taken { Pieces.cut_view result ≡ Shape.taken (Shape.digits_between 1 2) bytes.now }
     ensures bound { IfSome result (λ x. x.0 < 100) }
 {
-    match two_digits(bytes) {
-        Some(found) => Some(found),
-        None => one_digit(bytes),
-    }
+    two_digits(bytes).or_else(|| one_digit(bytes))
 }
 
 #[cold]

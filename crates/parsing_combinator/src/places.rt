@@ -1,9 +1,20 @@
 //! Numbers at places of a text where digits are known to stand.
 //!
 //! Bytes stand in one number, the first one lowest: one product takes the tens of all digits, to the byte after them.
-ghost use Rattle.std.specs.Prelude.{◌≡◌, ◌≤◌, ◌+◌, Some, drop};
+ghost use Rattle.std.specs.Prelude.{◌≡◌, ◌≤◌, ◌+◌, ◌*◌, ◌/◌, ◌%◌, Some, drop};
 ghost use Rattle.parsing_combinator.specs.Pieces as Pieces;
-ghost use Rattle.parsing_combinator.specs.Places.{HasPair};
+ghost use Rattle.parsing_combinator.specs.Places.{HasPair, AreFour};
+
+// The numbers of the first two and of the last two of four digits, each in a byte, the first one lowest.
+#[inline(always)]
+pub(crate) fn pairs(digits: u32) -> (u8, u8)
+    requires { AreFour digits }
+    ensures first { result.0 ≡ digits % 256 * 10 + digits / 256 % 256 }
+    ensures second { result.1 ≡ digits / 65_536 % 256 * 10 + digits / 16_777_216 }
+{
+    let pairs = digits.wrapping_mul(2561);
+    ((pairs / 0x100 % 0x100) as u8, (pairs / 0x100_0000) as u8)
+}
 
 /// The numbers of the two digits at a place and of the two after them.
 #[inline(always)]
@@ -23,9 +34,7 @@ pub fn two_pairs_at(text: &[u8], place: usize) -> (u8, u8)
         text[place + 2],
         text[place + 3],
     ];
-    let digits = u32::from_le_bytes(bytes) - 0x3030_3030;
-    let pairs = digits.wrapping_mul(2561);
-    ((pairs / 0x100 % 0x100) as u8, (pairs / 0x100_0000) as u8)
+    pairs(u32::from_le_bytes(bytes) - 0x3030_3030)
 }
 
 /// The number of the four digits at a place.

@@ -1,5 +1,5 @@
 //! Numbers after a sign: whether it is a minus, and the number.
-ghost use Rattle.std.specs.Prelude.{◌≡◌, ◌≤◌, ◌<◌, ◌^◌, IfSome, if◌then◌else◌};
+ghost use Rattle.std.specs.Prelude.{◌≡◌, ◌≤◌, ◌<◌, ◌^◌, IfSome};
 ghost use Rattle.parsing_combinator.specs.Pieces as Pieces;
 ghost use Rattle.parsing_combinator.specs.Shape as Shape;
 ghost use Rattle.parsing_combinator.specs.Numbers as Numbers;
@@ -26,16 +26,6 @@ macro_rules! by_sign {
     };
 }
 
-// The digits of a year after its sign.
-#[tactic(auto, using(crate::proofs::Components::taken_padded))]
-fn signed_year(padding: Padding, extended: bool, bytes: &[u8]) -> Option<(u32, &[u8])>
-    ensures taken { Pieces.cut_view result
-        ≡ Shape.taken (Numbers.padded padding 4 (if extended then 6 else 4)) bytes.now }
-    ensures bound { IfSome result (λ x. x.0 < 1_000_000) }
-{
-    padded(padding, 4, if extended { 6 } else { 4 }, bytes)
-}
-
 /// A year: four digits, and where it is extended up to six after a sign.
 #[inline(always)]
 #[tactic(auto, using(crate::proofs::Components::taken_year))]
@@ -50,7 +40,7 @@ pub fn year(
     ensures bound { IfSome result (λ x. x.0.1 < 1_000_000) }
 {
     by_sign!(mandatory, bytes,
-        rest => signed_year(padding, extended, rest),
+        rest => padded(padding, 4, if extended { 6 } else { 4 }, rest),
         padded_four(padding, bytes)
     )
 }

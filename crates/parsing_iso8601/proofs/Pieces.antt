@@ -1,10 +1,12 @@
 -- What the pieces say of one another.
-use Rattle.std.proofs.Common.{◌≡◌, ℕ, ◌+◌, ◌≤◌, ◌==◌, ◌||◌, Bool, true, false, cond, leb, List, [], ◌∷◌, length, take, drop, Option, Some, None, refl, sym, ap, ◌∙◌, arith, length-append, take-append-drop}
+use Rattle.std.proofs.Common.{◌≡◌, ℕ, ◌+◌, ◌≤◌, ◌==◌, ◌||◌, Bool, true, false, cond, List, [], ◌∷◌, length, take, drop, Option, Some, None, refl, sym, ap, ◌∙◌, arith, length-append, take-append-drop}
 use Rattle.std.specs.Prelude.{option_map}
 use Rattle.std.specs.Char.{is_ascii_digit}
 use Rattle.std.proofs.lemmas.Bool.Decides.{nat_tests}
 use Rattle.parsing_combinator.specs.Pieces.{digits, digit_run, fraction, nanoseconds_of, byte, skip_of, byte_of, sign, digit_count}
+use Rattle.std.proofs.lemmas.List.Sums.{prefix_len_passes}
 use Rattle.parsing_combinator.proofs.Decimal.{digit_here}
+use Rattle.parsing_combinator.proofs.FractionDigits.{digits_read}
 use Rattle.parsing_iso8601.specs.Numbers.{decimal_mark}
 
 abbrev there : {A : Type 0} → A → Option A
@@ -28,14 +30,9 @@ pub not_passed : {A : Type 0} (b : Bool) (v x : A) → cond b None (there v) ≡
 not_passed true v x e = absurd (cc)
 not_passed false v x e = same v x e
 
-first_counted : (n : ℕ) (b : Bool) (k : ℕ) → 1 ≤ n → leb n (cond b (1 + k) 0) ≡ true → b ≡ true
-first_counted n true k some e = refl
-first_counted n false k some e = absurd (let le : n ≤ 0 = grind (arith, nat_tests) in omega arith)
-
 -- the first of so many digits
 pub first_digit : (n : ℕ) (c : ℕ) (cs : List ℕ) (x : ℕ × List ℕ) → 1 ≤ n → digits n (c ∷ cs) ≡ Some x → is_ascii_digit c ≡ true
-unfolding digits
-first_digit n c cs x some e = first_counted n (is_ascii_digit c) (digit_count cs) some (passed (leb n (digit_count (c ∷ cs))) _ x e)
+first_digit n c cs x some e = prefix_len_passes is_ascii_digit (c ∷ cs) 0 0 (omega (arith, (digits_read n (c ∷ cs) x.0 x.1 e).enough, some))
 
 apart : (c a : ℕ) → is_ascii_digit c ≡ true → is_ascii_digit a ≡ false → (c == a) ≡ false
 apart c a is_one is_none = grind (arith, nat_tests)

@@ -1,20 +1,16 @@
 -- What the reading leaves is the end of what was there, and the name in its fault is short.
 use Rattle.std.proofs.Common.{lit≤, ℕ, ◌||◌, Bool, true, false, cond, List, Option, Some, None, Result, Ok, Err, lit<, ℤ}
-use Rattle.std.specs.Borrow.{Bor}
-use Rattle.std.specs.Prelude.{IfOk, IfErr, not, is_some, option_map}
+use Rattle.std.specs.Prelude.{IfErr, not, is_some, option_map}
 use Rattle.std.specs.Result.{is_ok}
 use Rattle.base.specs.Bytes.{hyphen}
 use Rattle.parsing_combinator.specs.Fault.{Fault, literal}
-use Rattle.parsing_combinator.specs.FaultOf.{Gives, reading_fault}
 use Rattle.parsing_combinator.specs.Pieces.{Piece, byte}
 use Rattle.parsing_combinator.specs.Readings.{Reading, then_read}
 use Rattle.parsing_combinator.specs.ShortName.{HasShortName}
 use Rattle.parsing_combinator.specs.Tame.{EndsWith, Leaves, Tame, IsTame}
-use Rattle.parsing_combinator.specs.declared.fault.ParseFromDescription.{ParseFromDescription}
-use Rattle.parsing_combinator.proofs.lemmas.Tame.{joined, whole_end, digits_leaves, byte_leaves, skip_leaves, run_leaves, piece_tame, further, then_tame, require_tame, entered_tame, prefix_ends, prefix_short}
+use Rattle.parsing_combinator.proofs.lemmas.Tame.{joined, whole_end, digits_leaves, byte_leaves, skip_leaves, run_leaves, piece_tame, further, then_tame, require_tame, entered_tame}
 use Rattle.parsing_iso8601.specs.declared.kind.Kind.{Kind}
 use Rattle.parsing_iso8601.specs.declared.kind.Kind.TheVariants.{Unknown, Basic, Extended}
-use Rattle.parsing_iso8601.specs.declared.written.Iso8601Parts.{Iso8601Parts}
 use Rattle.parsing_iso8601.specs.declared.written.WrittenDate.{WrittenDate}
 use Rattle.parsing_iso8601.specs.declared.written.WrittenTime.{WrittenTime}
 use Rattle.parsing_iso8601.specs.declared.written.WrittenOffset.{WrittenOffset}
@@ -72,31 +68,19 @@ entry_leaves xs bytes (Some x) h = said_leaves bytes x.1 (counted xs x.0) h
 
 ruleset leaving = (then_leaves, require_leaves, entered_leaves, by_kind_leaves, kept_leaves, entry_leaves, digits_leaves, run_leaves, byte_leaves, skip_leaves, whole_end, nothing)
 
-year_leaves : (bytes : List ℕ) → Leaves bytes (year bytes)
-unfolding year signed_year plain_year
-year_leaves bytes = search leaving depth 20 fits 5000
-
 number_leaves : (bytes : List ℕ) → Leaves bytes (number bytes)
 unfolding number fraction_digits decimal_mark due_digits
 number_leaves bytes = search leaving depth 20 fits 5000
 
 -- ---- the time of day
 
-seconds_leaves : (kind : Kind) (hour minute : ℕ) (bytes : List ℕ) → Leaves bytes (seconds kind hour minute bytes)
-unfolding seconds basic_seconds extended_seconds due_second to_second
-seconds_leaves kind hour minute bytes = search (leaving, number_leaves) depth 20 fits 5000
-
 fraction_or_leaves : {A : Type 0} (run : Option (List ℕ)) (ends : List ℕ → Piece A) (on : Piece A) (bytes : List ℕ) → ((ds : List ℕ) → Leaves bytes (ends ds bytes)) → Leaves bytes (on bytes) → Leaves bytes (fraction_or run ends on bytes)
 fraction_or_leaves None ends on bytes h k = k
 fraction_or_leaves (Some ds) ends on bytes h k = h ds
 
-minutes_leaves : (kind : Kind) (hour : ℕ) (bytes : List ℕ) → Leaves bytes (minutes kind hour bytes)
-unfolding minutes from_minute
-minutes_leaves kind hour bytes = search (leaving, number_leaves, fraction_or_leaves, seconds_leaves) depth 20 fits 5000
-
 time_leaves : (kind : Kind) (after_date : Bool) (bytes : List ℕ) → Leaves bytes (time kind after_date bytes)
-unfolding time designator from_hour kind_of_time
-time_leaves kind after_date b0 = search (leaving, number_leaves, fraction_or_leaves, minutes_leaves) depth 20 fits 5000
+unfolding time designator from_hour kind_of_time minutes from_minute seconds basic_seconds extended_seconds due_second to_second
+time_leaves kind after_date b0 = search (leaving, number_leaves, fraction_or_leaves) depth 20 fits 50000
 
 -- ---- the offset
 
@@ -113,25 +97,17 @@ dash_tame Extended bytes = piece_tame literal bytes (byte hyphen bytes) (skip_le
 
 ruleset tame = (leaving, then_tame, piece_tame, require_tame, entered_tame, dash_tame, lit<, lit≤)
 
-month_and_day_tame : (kind : Kind) → IsTame (month_and_day kind)
-unfolding month_and_day numbered digits_within
-month_and_day_tame kind b0 = search tame depth 20 fits 5000
-
-without_month_tame : (kind : Kind) (y : ℤ) (fault : Fault) → HasShortName fault → IsTame (date_without_month kind y fault)
-unfolding date_without_month date_of_year date_of_week week_and_weekday numbered digits_within
-without_month_tame kind y fault short bytes = search tame depth 20 fits 5000
-
 either_tame : {A B : Type 0} (bytes : List ℕ) (r : Result (A × List ℕ) Fault) (due : A → Reading B) (other : Fault → Reading B) → Tame bytes r → ((x : A) (rest : List ℕ) → Tame rest (due x rest)) → ((f : Fault) → HasShortName f → Tame bytes (other f bytes)) → Tame bytes (either r due other bytes)
 either_tame bytes (Ok x) due other h k m = further bytes x.1 (due x.0 x.1) h (k x.0 x.1)
 either_tame bytes (Err f) due other h k m = m f h
 
 date_after_tame : (kind : Kind) (y : ℤ) → IsTame (date_after kind y)
-unfolding date_after date_of_month
-date_after_tame kind y bytes = search (tame, either_tame, month_and_day_tame, without_month_tame) depth 20 fits 5000
+unfolding date_after date_of_month month_and_day date_without_month date_of_year date_of_week week_and_weekday numbered digits_within
+date_after_tame kind y bytes = search (tame, either_tame) depth 20 fits 50000
 
 year_and_kind_tame : IsTame year_and_kind
-unfolding year_and_kind kind_of_date
-year_and_kind_tame b0 = search (tame, year_leaves) depth 20 fits 5000
+unfolding year_and_kind kind_of_date year signed_year plain_year
+year_and_kind_tame b0 = search tame depth 20 fits 5000
 
 -- ---- the parts
 
@@ -180,10 +156,3 @@ iso8601_tame b0 =
     then_dated b0 (dated b0) _ (dated_tame b0) (λ d b1 short.
     then_tame b1 _ _ (maybe_tame b1 (time d.1 (is_ok d.0) b1) (time_leaves d.1 (is_ok d.0) b1)) (λ t b2.
     then_tame b2 _ _ (offset_after_tame (is_ok d.0) (is_some t) _ b2) (λ o b3. gathered_tame d.0 _ o b3 short)))
-
--- what a function returns that reads the prefix of the bytes
-pub given_end : (result : Result (Iso8601Parts × Bor (List ℕ)) ParseFromDescription) (bytes : List ℕ) → Gives (λ x. (x.0, x.1.now)) reading_fault result (iso8601 bytes) → IfOk result (λ x. EndsWith bytes x.1.now)
-given_end result bytes given = prefix_ends (λ w. w) result bytes (iso8601 bytes) given (iso8601_tame bytes)
-
-pub given_short : (result : Result (Iso8601Parts × Bor (List ℕ)) ParseFromDescription) (bytes : List ℕ) → Gives (λ x. (x.0, x.1.now)) reading_fault result (iso8601 bytes) → IfErr result (λ e. HasShortName (reading_fault e))
-given_short result bytes given = prefix_short (λ w. w) result bytes (iso8601 bytes) given (iso8601_tame bytes)

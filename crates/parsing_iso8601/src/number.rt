@@ -2,7 +2,7 @@
 ghost use Rattle.std.specs.Prelude.{◌≡◌, ◌<◌, IfSome, option_map};
 ghost use Rattle.std.specs.Int.{IsInRange};
 ghost use Rattle.calendar_count.specs.Range.{IsYear};
-ghost use Rattle.parsing_combinator.specs.Pieces.{cut_view, rest_view};
+ghost use Rattle.parsing_combinator.specs.Pieces.{cut_view};
 ghost use Rattle.parsing_iso8601.specs.Numbers as Numbers;
 ghost use Rattle.parsing_iso8601.specs.ReadView.{digits_view, AreDigits};
 
@@ -11,31 +11,21 @@ use parsing_combinator::{
     digit_run, four_digits, one_digit, sign, six_digits, three_digits, two_digits,
 };
 
-/// What stands after a decimal point or a comma.
-#[tactic(auto, unfolding(crate::specs::Numbers::decimal_mark, parsing_combinator::specs::Pieces::skip_of))]
-#[inline(always)]
-fn decimal_mark(bytes: &[u8]) -> Option<&[u8]>
-    ensures { rest_view result ≡ Numbers.decimal_mark bytes.now }
-{
-    match bytes {
-        [b, rest @ ..] if *b == b'.' || *b == b',' => Some(rest),
-        _ => None,
-    }
-}
-
 // The digits of a fraction, where there is one.
-#[tactic(auto, unfolding(crate::specs::Numbers::fraction_digits, crate::specs::Numbers::due_digits))]
+#[tactic(auto, unfolding(crate::specs::Numbers::fraction_digits, crate::specs::Numbers::due_digits, crate::specs::Numbers::decimal_mark, parsing_combinator::specs::Pieces::skip_of))]
 #[inline(always)]
 fn fraction_digits(bytes: &[u8]) -> Option<(Option<&[u8]>, &[u8])>
     ensures cut { option_map (λ x. (digits_view x.0, x.1.now)) result
         ≡ Numbers.fraction_digits bytes.now }
     ensures all { IfSome result (λ x. AreDigits x.0) }
 {
-    let Some(after) = decimal_mark(bytes) else {
-        return Some((None, bytes));
-    };
-    let (run, rest) = digit_run(after)?;
-    Some((Some(run), rest))
+    match bytes {
+        [b, after @ ..] if *b == b'.' || *b == b',' => {
+            let (run, rest) = digit_run(after)?;
+            Some((Some(run), rest))
+        }
+        _ => Some((None, bytes)),
+    }
 }
 
 /// Two digits, and the digits of their fraction.
@@ -59,11 +49,7 @@ pub fn two_from_one(bytes: &[u8]) -> Option<(u8, &[u8])>
     ensures cut { cut_view result ≡ Numbers.digits_within 2 1 99 bytes.now }
     ensures bound { IfSome result (λ x. IsInRange 1 99 x.0) }
 {
-    let (value, rest) = two_digits(bytes)?;
-    if value < 1 {
-        return None;
-    }
-    Some((value, rest))
+    two_digits(bytes).filter(|x| x.0 >= 1)
 }
 
 /// The two digits of a month.
@@ -99,11 +85,7 @@ pub fn ordinal(bytes: &[u8]) -> Option<(u16, &[u8])>
     ensures cut { cut_view result ≡ Numbers.digits_within 3 1 999 bytes.now }
     ensures bound { IfSome result (λ x. IsInRange 1 999 x.0) }
 {
-    let (value, rest) = three_digits(bytes)?;
-    if value == 0 {
-        return None;
-    }
-    Some((value, rest))
+    three_digits(bytes).filter(|x| x.0 >= 1)
 }
 
 /// A year: four digits, or a sign and six.

@@ -22,22 +22,6 @@ fn maybe_colon(kind: Kind, bytes: &[u8]) -> &[u8]
     }
 }
 
-// The minutes of an offset.
-#[tactic(auto, unfolding(crate::specs::Offsets::offset_minute))]
-#[inline(always)]
-fn offset_minute(bytes: &[u8]) -> Option<(u8, &[u8])>
-    ensures cut { cut_view result ≡ Offsets.offset_minute bytes.now }
-    ensures bound { IfSome result (λ x. x.0 ≤ 59) }
-{
-    let Some((minute, rest)) = two_digits(bytes) else {
-        return Some((0, bytes));
-    };
-    if minute > 59 {
-        return None;
-    }
-    Some((minute, rest))
-}
-
 // Hours and minutes under one sign.
 #[inline(always)]
 fn under_sign(is_negative: bool, hour: u8, minute: u8) -> WrittenOffset
@@ -46,24 +30,16 @@ fn under_sign(is_negative: bool, hour: u8, minute: u8) -> WrittenOffset
     ensures value { result ≡ Offsets.offset_of is_negative hour minute }
     ensures range { IsOffsetInRange result }
 {
-    let (hour, minute) = (hour as i8, minute as i8);
-    if is_negative {
-        WrittenOffset {
-            hour: -hour,
-            minute: -minute,
-            second: None,
-        }
-    } else {
-        WrittenOffset {
-            hour,
-            minute,
-            second: None,
-        }
+    let (ahead, past) = (hour as i8, minute as i8);
+    WrittenOffset {
+        hour: if is_negative { -ahead } else { ahead },
+        minute: if is_negative { -past } else { past },
+        second: None,
     }
 }
 
 /// The offset at the start of the bytes: `Z`, or a sign and hours up to 25, with minutes where they are written.
-#[tactic(auto, unfolding(crate::specs::Offsets::offset, crate::specs::Offsets::signed_offset))]
+#[tactic(auto, unfolding(crate::specs::Offsets::offset, crate::specs::Offsets::signed_offset, crate::specs::Offsets::offset_minute))]
 #[inline(always)]
 pub fn offset(kind: Kind, bytes: &[u8]) -> Option<(WrittenOffset, &[u8])>
     ensures cut { cut_view result ≡ Offsets.offset kind bytes.now }
@@ -82,6 +58,10 @@ pub fn offset(kind: Kind, bytes: &[u8]) -> Option<(WrittenOffset, &[u8])>
     if hour > 25 {
         return None;
     }
-    let (minute, rest) = offset_minute(maybe_colon(kind, rest))?;
+    let rest = maybe_colon(kind, rest);
+    let (minute, rest) = two_digits(rest).unwrap_or((0, rest));
+    if minute > 59 {
+        return None;
+    }
     Some((under_sign(mark == b'-', hour, minute), rest))
 }

@@ -5,12 +5,11 @@ ghost use Rattle.parsing_combinator.specs.Tame.{EndsWith};
 ghost use Rattle.parsing_iso8601.specs.Ranges.{IsDateInRange, IsTimeInRange, IsOffsetInRange, AreInRange};
 ghost use Rattle.parsing_combinator.specs.FaultOf.{Gives, reading_fault};
 ghost use Rattle.parsing_iso8601.specs.Reading as Reading;
-ghost use Rattle.parsing_iso8601.specs.Times as Times;
-ghost use Rattle.parsing_iso8601.specs.Offsets as Offsets;
 ghost use Rattle.parsing_iso8601.specs.ReadView.{date_view};
 
-use crate::date::{date_after, year_and_kind};
-use crate::kind::Kind;
+use crate::date::date_after;
+use crate::kind::{Kind, kind_of_date};
+use crate::number::year;
 use crate::offset::offset;
 use crate::time::time;
 use crate::written::{Iso8601Parts, WrittenDate, WrittenOffset, WrittenTime};
@@ -19,42 +18,21 @@ use parsing_combinator::ParseFromDescription;
 type DateOrFault = Result<WrittenDate, ParseFromDescription>;
 
 /// The date or why there is none, the kind that it hands on, and the rest.
-#[tactic(auto, unfolding(crate::specs::Reading::dated))]
+#[tactic(auto, unfolding(crate::specs::Reading::dated, crate::specs::Dates::year_and_kind))]
 #[inline(always)]
 fn dated(bytes: &[u8]) -> ((DateOrFault, Kind), &[u8])
     ensures gives { Reading.dated bytes.now
         ≡ Ok ((date_view result.0.0, result.0.1), result.1.now) }
     ensures range { IfOk result.0.0 IsDateInRange }
 {
-    match year_and_kind(bytes) {
-        Err(fault) => ((Err(fault), Kind::Unknown), bytes),
-        Ok(((year, kind), after)) => match date_after(kind, year, after) {
-            Ok((date, rest)) => ((Ok(date), kind), rest),
-            Err(fault) => ((Err(fault), kind), bytes),
-        },
-    }
-}
-
-// The time, where it is there, and the kind that it hands on.
-fn maybe_time(kind: Kind, after_date: bool, bytes: &[u8]) -> (Option<(WrittenTime, Kind)>, &[u8])
-    ensures gives { Reading.maybe (Times.time kind after_date) bytes.now
-        ≡ Ok (result.0, result.1.now) }
-    ensures range { IfSome result.0 (λ t. IsTimeInRange t.0) }
-{
-    match time(kind, after_date, bytes) {
-        Some((read, rest)) => (Some(read), rest),
-        None => (None, bytes),
-    }
-}
-
-// The offset, where it is there.
-fn maybe_offset(kind: Kind, bytes: &[u8]) -> (Option<WrittenOffset>, &[u8])
-    ensures gives { Reading.maybe (Offsets.offset kind) bytes.now ≡ Ok (result.0, result.1.now) }
-    ensures range { IfSome result.0 IsOffsetInRange }
-{
-    match offset(kind, bytes) {
-        Some((read, rest)) => (Some(read), rest),
-        None => (None, bytes),
+    let Some((year, rest)) = year(bytes) else {
+        let fault = ParseFromDescription::InvalidComponent("year");
+        return ((Err(fault), Kind::Unknown), bytes);
+    };
+    let (kind, after) = kind_of_date(rest);
+    match date_after(kind, year, after) {
+        Ok((date, rest)) => ((Ok(date), kind), rest),
+        Err(fault) => ((Err(fault), kind), bytes),
     }
 }
 
@@ -69,20 +47,9 @@ fn offset_after(
         ≡ Ok (result.0, result.1.now) }
     ensures range { IfSome result.0 IsOffsetInRange }
 {
-    if has_time || !has_date {
-        maybe_offset(kind, bytes)
-    } else {
-        (None, bytes)
-    }
-}
-
-// The kind after the time.
-fn handed_on(kind: Kind, read: Option<(WrittenTime, Kind)>) -> Kind
-    ensures { result ≡ Reading.handed_on kind read }
-{
-    match read {
-        None => kind,
-        Some((_, settled)) => settled,
+    match offset(kind, bytes) {
+        Some((read, rest)) if has_time || !has_date => (Some(read), rest),
+        _ => (None, bytes),
     }
 }
 
@@ -115,8 +82,11 @@ fn parts(bytes: &[u8]) -> Result<(Iso8601Parts, &[u8]), ParseFromDescription>
     ensures range { IfOk result (λ x. AreInRange x.0) }
 {
     let ((date, kind), rest) = dated(bytes);
-    let (read, rest) = maybe_time(kind, date.is_ok(), rest);
-    let kind = handed_on(kind, read);
+    let (read, rest) = match time(kind, date.is_ok(), rest) {
+        Some((read, rest)) => (Some(read), rest),
+        None => (None, rest),
+    };
+    let kind = read.map_or(kind, |x| x.1);
     let (offset, rest) = offset_after(date.is_ok(), read.is_some(), kind, rest);
     gathered(date, read.map(|x| x.0), offset, rest)
 }

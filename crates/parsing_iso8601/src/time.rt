@@ -1,6 +1,6 @@
 //! The time of day of a text.
 ghost use Rattle.std.specs.Prelude.{◌≡◌, ◌≤◌, ◌<◌, IfSome};
-ghost use Rattle.parsing_combinator.specs.Pieces.{cut_view, rest_view};
+ghost use Rattle.parsing_combinator.specs.Pieces.{cut_view};
 ghost use Rattle.parsing_iso8601.specs.Ranges.{IsTimeInRange};
 ghost use Rattle.parsing_iso8601.specs.ReadView.{digits_view, AreDigits};
 ghost use Rattle.parsing_iso8601.specs.Times as Times;
@@ -16,22 +16,6 @@ const NANOSECONDS_IN_SECOND: u64 = 1_000_000_000;
 const NANOSECONDS_IN_MINUTE: u64 = 60_000_000_000;
 
 const NANOSECONDS_IN_HOUR: u64 = 3_600_000_000_000;
-
-// The time so many nanoseconds after an hour.
-#[tactic(auto, unfolding(crate::specs::Times::after_hour))]
-fn after_hour(hour: u8, nanos: u64) -> WrittenTime
-    requires hour { hour ≤ 23 }
-    requires nanos { nanos < 3_600_000_000_000 }
-    ensures value { result ≡ Times.after_hour hour nanos }
-    ensures range { IsTimeInRange result }
-{
-    WrittenTime {
-        hour,
-        minute: (nanos / NANOSECONDS_IN_MINUTE) as u8,
-        second: (nanos / NANOSECONDS_IN_SECOND % 60) as u8,
-        subsecond: (nanos % NANOSECONDS_IN_SECOND) as u32,
-    }
-}
 
 // The time so many nanoseconds after a minute.
 #[tactic(auto, unfolding(crate::specs::Times::after_minute))]
@@ -80,11 +64,8 @@ fn to_second<'a>(
         ≡ Times.to_second hour minute (second.entry.0, digits_view second.entry.1) bytes.now }
     ensures range { IfSome result (λ x. IsTimeInRange x.0) }
 {
-    if second.0 > 60 {
-        return None;
-    }
     let subsecond = subsecond(second.1);
-    if subsecond >= NANOSECONDS_IN_SECOND {
+    if second.0 > 60 || subsecond >= NANOSECONDS_IN_SECOND {
         return None;
     }
     let time = WrittenTime {
@@ -147,35 +128,28 @@ fn minutes(kind: Kind, hour: u8, bytes: &[u8]) -> Option<((WrittenTime, Kind), &
     }
 }
 
-// Past the `T`, which has to be there after a date.
-#[tactic(auto, unfolding(crate::specs::Times::designator))]
-#[inline(always)]
-fn designator(after_date: bool, bytes: &[u8]) -> Option<&[u8]>
-    ensures { rest_view result ≡ Times.designator after_date bytes.now }
-{
-    match byte(b'T', bytes) {
-        Some(rest) => Some(rest),
-        None if after_date => None,
-        None => Some(bytes),
-    }
-}
-
 /// The time of day at the start of the bytes, and the kind that it hands on: ISO 8601-1:2019, section 5.3. Its `T`
 /// may be missing where no date stands before it. There is no hour 24.
-#[tactic(auto, unfolding(crate::specs::Times::time, crate::specs::Times::from_hour))]
+#[tactic(auto, unfolding(crate::specs::Times::time, crate::specs::Times::designator, crate::specs::Times::from_hour, crate::specs::Times::after_hour, crate::specs::Times::after_minute))]
 #[inline(always)]
 pub fn time(kind: Kind, after_date: bool, bytes: &[u8]) -> Option<((WrittenTime, Kind), &[u8])>
     ensures cut { cut_view result ≡ Times.time kind after_date bytes.now }
     ensures range { IfSome result (λ x. IsTimeInRange x.0.0) }
 {
-    let rest = designator(after_date, bytes)?;
+    let rest = match byte(b'T', bytes) {
+        Some(rest) => rest,
+        None if after_date => return None,
+        None => bytes,
+    };
     let ((hour, fraction), rest) = number(rest)?;
     if hour > 23 {
         return None;
     }
     match fraction {
         Some(run) => {
-            let time = after_hour(hour, part_of(NANOSECONDS_IN_HOUR, run));
+            let nanos = part_of(NANOSECONDS_IN_HOUR, run);
+            let minute = (nanos / NANOSECONDS_IN_MINUTE) as u8;
+            let time = after_minute(hour, minute, nanos % NANOSECONDS_IN_MINUTE);
             Some(((time, kind), rest))
         }
         None => {

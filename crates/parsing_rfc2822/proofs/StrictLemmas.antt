@@ -92,62 +92,38 @@ signed_zone_narrows : (s : ℕ) (bytes : List ℕ) → Narrows is_zone (signed_z
 unfolding signed_zone
 signed_zone_narrows s b0 = search (narrows, no_hours, no_minutes) depth 20 fits 5000
 
--- an optional number of at most 8, which no zone's hours exceed
-record IsSmall (o : Option ℕ) : Type 0 where
-  holds : IfSome o (λ n. n ≤ 8)
+-- no zone with a name has more than 8 hours
+first_small : (b : Bool) (m : ℕ) (o : Option ℕ) (n : ℕ) → m ≤ 8 → (o ≡ Some n → n ≤ 8) → cond b (Some m) o ≡ Some n → n ≤ 8
+first_small true m o n le h e = let same : m ≡ n = cc in rw (← same) le
+first_small false m o n le h e = h e
 
-small_or : (b : Bool) (n : ℕ) (other : Option ℕ) → n ≤ 8 → IsSmall other → IsSmall (cond b (Some n) other)
-small_or true n other h k = record { holds = h }
-small_or false n other h k = k
-
-small_none : IsSmall None
-small_none = record { holds = tt }
-
-lookup_small : (entries : List (List ℕ × ℕ)) → list_all (λ e. leb e.1 8) entries ≡ true → (text : List ℕ) → IsSmall (lookup entries text)
-lookup_small [] small text = small_none
-lookup_small (entry ∷ entries) small text =
+lookup_small : (entries : List (List ℕ × ℕ)) → list_all (λ e. leb e.1 8) entries ≡ true → (text : List ℕ) (n : ℕ) → lookup entries text ≡ Some n → n ≤ 8
+lookup_small [] small text n e = absurd cc
+lookup_small (entry ∷ entries) small text n e =
     let s = and_parts _ _ small in
-    small_or (is_name text entry.0) entry.1 _ (leb-true _ _ s.0) (lookup_small entries s.1 text)
+    first_small (is_name text entry.0) entry.1 (lookup entries text) n (leb-true _ _ s.0) (lookup_small entries s.1 text n) e
 
-zone_of_small : (text : List ℕ) → IsSmall (zone_of text)
-unfolding zone_of
-zone_of_small = lookup_small zones refl
+cut_small : (b c : Bool) (o : Option ℕ) (m : Option (ℕ × List ℕ)) (rest : List ℕ) (x : ℕ × List ℕ) → ((n : ℕ) → o ≡ Some n → n ≤ 8)
+    → cond b (cond b (option_map (λ n. (n, rest)) o) None) (cond c (Some (0, [])) (option_map (λ y. (0, y.1)) m)) ≡ Some x → x.0 ≤ 8
+cut_small true c (Some n) m rest x h e = let same : (n, rest) ≡ x = cc in rw (← same) (h n refl)
+cut_small true c None m rest x h e = absurd cc
+cut_small false true o m rest x h e = let same : (0, []) ≡ x = cc in rw (← same) (omega arith)
+cut_small false false o (Some y) rest x h e = let same : (0, y.1) ≡ x = cc in rw (← same) (omega arith)
+cut_small false false o None rest x h e = absurd cc
 
--- the same of a number with the rest
-record IsSmallCut (o : Option (ℕ × List ℕ)) : Type 0 where
-  holds : IfSome o (λ x. x.0 ≤ 8)
+zone_small : (bytes : List ℕ) (x : ℕ × List ℕ) → zone_name bytes ≡ Some x → x.0 ≤ 8
+unfolding zone_name short_zone military_zone zone_of
+zone_small bytes x e =
+    cut_small (nat_le 3 (length bytes)) (is_name bytes (codes "ut")) (lookup zones (take 3 bytes)) (byte_of is_military bytes) (drop 3 bytes) x (lookup_small zones refl (take 3 bytes)) e
 
-named_small : (o : Option ℕ) (rest : List ℕ) → IsSmall o → IsSmallCut (option_map (λ n. (n, rest)) o)
-named_small None rest h = record { holds = tt }
-named_small (Some n) rest h = record { holds = h.holds }
-
-military_small : (o : Option (ℕ × List ℕ)) → IsSmallCut (option_map (λ x. (0, x.1)) o)
-military_small None = record { holds = tt }
-military_small (Some x) = record { holds = omega arith }
-
-short_small : (b : Bool) (o : Option (ℕ × List ℕ)) → IsSmallCut o → IsSmallCut (cond b (Some (0, [])) o)
-short_small true o h = record { holds = omega arith }
-short_small false o h = h
-
-either_small : (b c : Bool) (o other : Option (ℕ × List ℕ)) → IsSmallCut o → IsSmallCut other → IsSmallCut (cond b (cond c o None) other)
-either_small true true o other h k = h
-either_small true false o other h k = record { holds = tt }
-either_small false c o other h k = k
-
-zone_name_small : (bytes : List ℕ) → IsSmallCut (zone_name bytes)
-unfolding zone_name short_zone military_zone
-zone_name_small bytes =
-    either_small (nat_le 3 (length bytes)) (nat_le 3 (length bytes)) _ _ (named_small (zone_of (take 3 bytes)) (drop 3 bytes) (zone_of_small (take 3 bytes)))
-    (short_small (is_name bytes (codes "ut")) _ (military_small (byte_of is_military bytes)))
-
-named_zone_by : (o : Option (ℕ × List ℕ)) (e : Fault) (f : ℕ → Zone) → IsSmallCut o → ((n : ℕ) → n ≤ 8 → is_zone (f n)) → Says is_zone (then_read (piece_or e o) (λ n. give (f n)))
+named_zone_by : (o : Option (ℕ × List ℕ)) (e : Fault) (f : ℕ → Zone) → ((x : ℕ × List ℕ) → o ≡ Some x → x.0 ≤ 8) → ((n : ℕ) → n ≤ 8 → is_zone (f n)) → Says is_zone (then_read (piece_or e o) (λ n. give (f n)))
 named_zone_by None e f h k = record { holds = tt }
-named_zone_by (Some x) e f h k = record { holds = k x.0 h.holds }
+named_zone_by (Some x) e f h k = record { holds = k x.0 (h x refl) }
 
 named_zone_says : (bytes : List ℕ) → Says is_zone (named_zone bytes)
 unfolding named_zone
 named_zone_says bytes =
-    named_zone_by (zone_name bytes) _ (λ n. record { is_named = true; is_negative = true; hours = n; minutes = 0 }) (zone_name_small bytes) (λ n h. (omega arith, omega arith))
+    named_zone_by (zone_name bytes) _ (λ n. record { is_named = true; is_negative = true; hours = n; minutes = 0 }) (zone_small bytes) (λ n h. (omega arith, omega arith))
 
 zone_narrows : (bytes : List ℕ) → Narrows is_zone (zone true bytes) (zone false bytes)
 unfolding zone

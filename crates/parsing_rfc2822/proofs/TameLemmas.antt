@@ -1,19 +1,16 @@
 -- What the reading leaves is the end of what was there, and the name in its fault is short.
 use Rattle.std.proofs.Common.{lit≤, ℕ, Bool, true, false, cond, List, [], Option, Some, None, Result, lit<, sym}
-use Rattle.std.specs.Borrow.{Bor}
-use Rattle.std.specs.Prelude.{IfOk, IfErr, option_map}
+use Rattle.std.specs.Prelude.{IfErr, option_map}
 use Rattle.std.proofs.lemmas.List.{append-nil}
 use Rattle.datetime_wall.specs.Wall.{Shown}
-use Rattle.parsing_combinator.specs.FaultOf.{Gives, fault_of, reading_fault}
+use Rattle.parsing_combinator.specs.FaultOf.{Gives, fault_of}
 use Rattle.parsing_combinator.specs.ShortName.{HasShortName}
 use Rattle.parsing_combinator.specs.Tame.{EndsWith, Leaves, IsTame}
 use Rattle.parsing_combinator.specs.declared.fault.Parse.{Parse}
-use Rattle.parsing_combinator.specs.declared.fault.ParseFromDescription.{ParseFromDescription}
-use Rattle.parsing_combinator.proofs.lemmas.Tame.{dropped, whole_end, digits_leaves, byte_leaves, skip_leaves, kept_leaves, piece_tame, further, then_tame, require_tame, resolved_tame, end_tame, entered_tame, prefix_ends, prefix_short, value_given_short}
+use Rattle.parsing_combinator.proofs.lemmas.Tame.{dropped, whole_end, digits_leaves, byte_leaves, skip_leaves, kept_leaves, piece_tame, further, then_tame, require_tame, resolved_tame, end_tame, entered_tame, value_given_short}
 use Rattle.parsing_rfc2822.specs.Skips.{optional}
 use Rattle.parsing_rfc2822.specs.WhiteSpace.{comments_and_white_space}
 use Rattle.parsing_rfc2822.proofs.lemmas.Ends.{optional_ends, colon_ends, past_leaves, folding_ends, spacing_ends}
-use Rattle.parsing_rfc2822.specs.declared.parts.Rfc2822Parts.{Rfc2822Parts}
 use Rattle.parsing_rfc2822.specs.Names.{named, weekday, month, military_zone, short_zone, zone_name}
 use Rattle.parsing_rfc2822.specs.Reading.{first_or, one_or_two_digits, named_day, optional_weekday, day, full_year, short_year, year, month_and_year, hour_and_minute, due_second, second, clock, signed_zone, named_zone, zone, spaced_zone, rfc2822}
 use Rattle.parsing_rfc2822.specs.Direct.{moment, moment_of, direct}
@@ -56,21 +53,9 @@ unfolding day optional_weekday named_day weekday one_or_two_digits
 day_tame is_strict b0 =
     further b0 (optional comments_and_white_space b0) _ (optional_ends comments_and_white_space spacing_ends b0) (search (tame, either_leaves) depth 20 fits 5000)
 
-month_and_year_tame : IsTame month_and_year
-unfolding month_and_year month year full_year short_year
-month_and_year_tame b0 = search tame depth 20 fits 5000
-
-clock_tame : (is_strict : Bool) → IsTame (clock is_strict)
-unfolding clock hour_and_minute second due_second
-clock_tame is_strict b0 = search tame depth 20 fits 5000
-
-spaced_zone_tame : (is_strict : Bool) → IsTame (spaced_zone is_strict)
-unfolding spaced_zone zone signed_zone named_zone
-spaced_zone_tame is_strict b0 = search (tame, zone_leaves) depth 20 fits 5000
-
 pub rfc2822_tame : (is_strict : Bool) → IsTame (rfc2822 is_strict)
-unfolding rfc2822
-rfc2822_tame is_strict b0 = search (tame, day_tame, month_and_year_tame, clock_tame, spaced_zone_tame) depth 20
+unfolding rfc2822 month_and_year month year full_year short_year clock hour_and_minute second due_second spaced_zone zone signed_zone named_zone
+rfc2822_tame is_strict b0 = search (tame, day_tame, zone_leaves) depth 30 fits 50000
 
 moment_tame : IsTame moment
 unfolding moment moment_of
@@ -80,10 +65,3 @@ moment_tame b0 = search (tame, rfc2822_tame) depth 20
 pub given_short : (result : Result Shown Parse) (bytes : List ℕ) → Gives (λ d. d) fault_of result (direct bytes) → IfErr result (λ e. HasShortName (fault_of e))
 unfolding direct
 given_short result bytes given = value_given_short (λ d. d) result bytes (moment bytes) given (moment_tame bytes)
-
--- the same of what stands at the start
-pub given_end : (is_strict : Bool) (result : Result (Rfc2822Parts × Bor (List ℕ)) ParseFromDescription) (bytes : List ℕ) → Gives (λ x. (x.0, x.1.now)) reading_fault result (rfc2822 is_strict bytes) → IfOk result (λ x. EndsWith bytes x.1.now)
-given_end is_strict result bytes given = prefix_ends (λ w. w) result bytes (rfc2822 is_strict bytes) given (rfc2822_tame is_strict bytes)
-
-pub given_prefix_short : (is_strict : Bool) (result : Result (Rfc2822Parts × Bor (List ℕ)) ParseFromDescription) (bytes : List ℕ) → Gives (λ x. (x.0, x.1.now)) reading_fault result (rfc2822 is_strict bytes) → IfErr result (λ e. HasShortName (reading_fault e))
-given_prefix_short is_strict result bytes given = prefix_short (λ w. w) result bytes (rfc2822 is_strict bytes) given (rfc2822_tame is_strict bytes)

@@ -1,47 +1,18 @@
 -- Loops over white space and comments, and the bytes that begin none of them.
-use Rattle.std.proofs.Common.{◌≡◌, ℕ, zero, suc, ◌-◌, ◌<◌, ◌≤◌, false, List, [], ◌∷◌, length, Some, None, refl, ap, ◌∙◌, arith, ◌==◌}
+use Rattle.std.proofs.Common.{◌≡◌, ℕ, zero, suc, ◌-◌, ◌<◌, ◌≤◌, Bool, true, false, cond, List, [], ◌∷◌, length, Some, None, refl, ap, arith, ◌==◌}
 use Rattle.std.proofs.lemmas.Bool.Decides.{nat_tests}
 use Rattle.std.proofs.Common.{eqb, get_or, take, drop}
 use Rattle.std.proofs.lemmas.List.{take_all}
 use Rattle.parsing_rfc2822.specs.Skips.{many, then_skip, byte_where, past_some}
-use Rattle.parsing_rfc2822.specs.WhiteSpace.{lone_white, line_end, folded_line, unless_line_end, folded_blanks, folding_white_space, obsolete_byte, content_by, comment, content, white_or_comment, comments_and_white_space}
-use Rattle.parsing_rfc2822.proofs.Many.{many_step, many_end}
-use Rattle.parsing_rfc2822.proofs.lemmas.Ends.{folded_ends, obsolete_ends, content_ends, comment_ends, white_ends}
-
-pub folded_step : (bytes rest : List ℕ) → folded_line bytes ≡ Some rest → many folded_line bytes ≡ many folded_line rest
-folded_step bytes rest e = many_step folded_line bytes rest folded_ends e
-
-pub folded_end : (bytes : List ℕ) → folded_line bytes ≡ None → many folded_line bytes ≡ bytes
-folded_end bytes e = many_end folded_line bytes e
-
-pub obsolete_step : (bytes rest : List ℕ) → obsolete_byte bytes ≡ Some rest → many obsolete_byte bytes ≡ many obsolete_byte rest
-obsolete_step bytes rest e = many_step obsolete_byte bytes rest obsolete_ends e
-
-pub obsolete_end : (bytes : List ℕ) → obsolete_byte bytes ≡ None → many obsolete_byte bytes ≡ bytes
-obsolete_end bytes e = many_end obsolete_byte bytes e
-
-pub contents_step : (level : ℕ) (bytes rest : List ℕ) → content level bytes ≡ Some rest → many (content level) bytes ≡ many (content level) rest
-unfolding content
-contents_step level bytes rest e = many_step (content level) bytes rest (content_ends (comment level) (comment_ends level)) e
-
-pub contents_end : (level : ℕ) (bytes : List ℕ) → content level bytes ≡ None → many (content level) bytes ≡ bytes
-contents_end level bytes e = many_end (content level) bytes e
-
-pub white_step : (bytes rest : List ℕ) → white_or_comment bytes ≡ Some rest → many white_or_comment bytes ≡ many white_or_comment rest
-white_step bytes rest e = many_step white_or_comment bytes rest white_ends e
-
-pub white_end : (bytes : List ℕ) → white_or_comment bytes ≡ None → many white_or_comment bytes ≡ bytes
-white_end bytes e = many_end white_or_comment bytes e
+use Rattle.parsing_rfc2822.specs.WhiteSpace.{is_comment_text, lone_white, line_end, folded_line, unless_line_end, folded_blanks, folding_white_space, content_by, comment, content, white_or_comment, comments_and_white_space}
+use Rattle.parsing_rfc2822.proofs.Many.{many_end}
 
 -- ---- comments
 
-comment_at : (levels : ℕ) (bytes : List ℕ) → 0 < levels → comment levels bytes ≡ then_skip (byte_where (λ c. c == 40) bytes) (λ rest. byte_where (λ c. c == 41) (many (content (levels - 1)) rest))
+pub comment_at : (levels : ℕ) (bytes : List ℕ) → 0 < levels → comment levels bytes ≡ then_skip (byte_where (λ c. c == 40) bytes) (λ rest. byte_where (λ c. c == 41) (many (content (levels - 1)) rest))
 unfolding comment content
 comment_at zero bytes h = absurd (omega arith)
 comment_at (suc level) bytes h = ap (λ k. then_skip (byte_where (λ c. c == 40) bytes) (λ rest. byte_where (λ c. c == 41) (many (content_by (comment k)) rest))) (let e : level ≡ suc level - 1 = omega arith in e)
-
-pub comment_read : (levels : ℕ) (bytes rest : List ℕ) → 0 < levels → byte_where (λ c. c == 40) bytes ≡ Some rest → comment levels bytes ≡ byte_where (λ c. c == 41) (many (content (levels - 1)) rest)
-comment_read levels bytes rest h e = comment_at levels bytes h ∙ rw e refl
 
 pub comment_not_open : (levels : ℕ) (bytes : List ℕ) → byte_where (λ c. c == 40) bytes ≡ None → comment levels bytes ≡ None
 unfolding comment
@@ -57,16 +28,26 @@ pub folding_other : (c : ℕ) (rest : List ℕ) → eqb c 13 ≡ false → eqb c
 unfolding folding_white_space lone_white folded_line line_end folded_blanks past_some byte_where
 folding_other c rest a b d = rw (a, b, d) refl
 
+-- text of a comment is none
+text_apart : (c : ℕ) → is_comment_text c ≡ true → (eqb c 13 ≡ false) × (eqb c 32 ≡ false) × (eqb c 9 ≡ false)
+unfolding is_comment_text
+text_apart c h = (grind (arith, nat_tests), grind (arith, nat_tests), grind (arith, nat_tests))
+
+shown : {A : Type 0} (b : Bool) (x y : A) → cond b (Some x) None ≡ Some y → b ≡ true
+shown true x y e = refl
+shown false x y e = absurd cc
+
+pub text_alone : (bytes rest : List ℕ) → byte_where is_comment_text bytes ≡ Some rest → folding_white_space bytes ≡ None
+unfolding byte_where
+text_alone [] rest e = absurd cc
+text_alone (c ∷ cs) rest e = let a = text_apart c (shown (is_comment_text c) cs rest e) in folding_other c cs a.0 a.1 a.2
+
 -- a byte above the parentheses
 above : (c : ℕ) → 41 ≤ c → (eqb c 13 ≡ false) × (eqb c 32 ≡ false) × (eqb c 9 ≡ false) × (eqb c 10 ≡ false) × (eqb c 40 ≡ false)
 above c h = search (arith, nat_tests)
 
 folding_none : (c : ℕ) (rest : List ℕ) → 41 ≤ c → folding_white_space (c ∷ rest) ≡ None
 folding_none c rest h = let a = above c h in folding_other c rest a.0 a.1 a.2
-
-pub folding_none_there : (bytes : List ℕ) → 1 ≤ length bytes → 41 < get_or bytes 0 0 → folding_white_space bytes ≡ None
-folding_none_there [] le h = absurd (omega arith)
-folding_none_there (c ∷ rest) le h = folding_none c rest (omega arith)
 
 -- .. and opens no comment
 pub white_none : (c : ℕ) (rest : List ℕ) → 41 ≤ c → white_or_comment (c ∷ rest) ≡ None
@@ -82,10 +63,6 @@ unfolding comments_and_white_space white_or_comment folding_white_space lone_whi
 none_of_nothing = refl
 
 -- the same by places
-pub none_of_empty : (bytes : List ℕ) → length bytes ≡ 0 → comments_and_white_space bytes ≡ None
-none_of_empty [] e = none_of_nothing
-none_of_empty (c ∷ rest) e = absurd (omega arith)
-
 pub none_there : (bytes : List ℕ) → 1 ≤ length bytes → 40 < get_or bytes 0 0 → comments_and_white_space bytes ≡ None
 none_there [] le h = absurd (omega arith)
 none_there (c ∷ rest) le h = none_at c rest (omega arith)
@@ -109,7 +86,7 @@ white_space c rest h = rw (folding_space c rest h) refl
 
 one_space : (c : ℕ) (rest : List ℕ) → 41 ≤ c → comments_and_white_space (32 ∷ c ∷ rest) ≡ Some (c ∷ rest)
 unfolding comments_and_white_space
-one_space c rest h = rw (white_space c rest h) (ap Some (white_end (c ∷ rest) (white_none c rest h)))
+one_space c rest h = rw (white_space c rest h) (ap Some (many_end white_or_comment (c ∷ rest) (white_none c rest h)))
 
 one_rest : (c : ℕ) (rest : List ℕ) → take (length (32 ∷ c ∷ rest) - 1) (c ∷ rest) ≡ c ∷ rest
 one_rest c rest = take_all (length (32 ∷ c ∷ rest) - 1) (c ∷ rest) (omega arith)
@@ -134,11 +111,11 @@ unfolding folding_white_space lone_white folded_line line_end folded_blanks unle
 folding_two c rest h =
     let a = above c h in
     let none : folded_line (c ∷ rest) ≡ None = rw a.0 refl in
-    rw (a.1, a.2) (rw (folded_end (c ∷ rest) none, a.0) refl)
+    rw (a.1, a.2) (rw (many_end folded_line (c ∷ rest) none, a.0) refl)
 
 two_spaces : (c : ℕ) (rest : List ℕ) → 41 ≤ c → comments_and_white_space (32 ∷ 32 ∷ c ∷ rest) ≡ Some (c ∷ rest)
 unfolding comments_and_white_space white_or_comment
-two_spaces c rest h = rw (folding_two c rest h) (ap Some (white_end (c ∷ rest) (white_none c rest h)))
+two_spaces c rest h = rw (folding_two c rest h) (ap Some (many_end white_or_comment (c ∷ rest) (white_none c rest h)))
 
 -- two spaces before such a byte, by places
 pub two_spaces_there : (bytes : List ℕ) → 3 ≤ length bytes → get_or bytes 0 0 ≡ 32 → get_or bytes 1 0 ≡ 32 → 40 < get_or bytes 2 0 → comments_and_white_space bytes ≡ Some (drop 2 bytes)

@@ -24,13 +24,6 @@ fn is_quotable(byte: u8) -> bool
     matches!(byte, 1..=9 | 11..=12 | 14..=127)
 }
 
-#[tactic(auto, unfolding(crate::specs::WhiteSpace::is_obsolete_text))]
-fn is_obsolete_text(byte: u8) -> bool
-    ensures { result ≡ White.is_obsolete_text byte }
-{
-    byte != b')' && (byte == 0 || is_quotable(byte))
-}
-
 // A byte of a comment's text.
 #[tactic(auto, unfolding(crate::specs::Skips::byte_where))]
 #[inline(always)]
@@ -55,19 +48,19 @@ fn past_line_ends(bytes: &[u8]) -> &[u8]
 }
 
 // A byte of obsolete text, and the line feeds and carriage returns after it.
-#[tactic(auto, unfolding(crate::specs::WhiteSpace::obsolete_byte, crate::specs::Skips::byte_where))]
+#[tactic(auto, unfolding(crate::specs::WhiteSpace::obsolete_byte, crate::specs::WhiteSpace::is_obsolete_text, crate::specs::Skips::byte_where))]
 fn obsolete_byte(bytes: &[u8]) -> Option<&[u8]>
     ensures skips { option_map (λ r. r.now) result ≡ White.obsolete_byte bytes.now }
     ensures shorter { IfSome result (λ r. length r.now < length bytes.now) }
 {
     match bytes {
-        [b, rest @ ..] if is_obsolete_text(*b) => Some(past_line_ends(rest)),
+        [b, rest @ ..] if *b != b')' && (*b == 0 || is_quotable(*b)) => Some(past_line_ends(rest)),
         _ => None,
     }
 }
 
 // The obsolete text after a backslash: it may be empty.
-#[tactic(auto, using(crate::proofs::WhiteSpaceLemmas::obsolete_step, crate::proofs::WhiteSpaceLemmas::obsolete_end), unfolding(crate::specs::WhiteSpace::past_obsolete_text))]
+#[tactic(auto, using(crate::proofs::Many::many_step, crate::proofs::Many::many_end, crate::proofs::lemmas::Ends::obsolete_ends), unfolding(crate::specs::WhiteSpace::past_obsolete_text))]
 fn past_obsolete_text(bytes: &[u8]) -> &[u8]
     ensures skips { result.now ≡ White.past_obsolete_text bytes.now }
     ensures not_longer { length result.now ≤ length bytes.now }
@@ -94,7 +87,7 @@ fn quoted_pair(bytes: &[u8]) -> Option<&[u8]>
 
 // A comment of at most so many levels.
 #[cycle(comments)]
-#[tactic(auto, using(crate::proofs::WhiteSpaceLemmas::comment_read, crate::proofs::WhiteSpaceLemmas::comment_not_open, crate::proofs::WhiteSpaceLemmas::comment_none))]
+#[tactic(auto, using(crate::proofs::WhiteSpaceLemmas::comment_at, crate::proofs::WhiteSpaceLemmas::comment_none))]
 fn comment(levels: u8, bytes: &[u8]) -> Option<&[u8]>
     ensures skips { option_map (λ r. r.now) result ≡ White.comment levels bytes.now }
     ensures shorter { IfSome result (λ r. length r.now < length bytes.now) }
@@ -106,30 +99,17 @@ fn comment(levels: u8, bytes: &[u8]) -> Option<&[u8]>
     byte(b')', contents(levels - 1, rest))
 }
 
-// Folding white space, which no byte above the parentheses begins.
-#[tactic(auto, using(crate::proofs::WhiteSpaceLemmas::folding_none_there))]
-#[inline(always)]
-fn leading_white_space(bytes: &[u8]) -> Option<&[u8]>
-    ensures skips { option_map (λ r. r.now) result ≡ White.folding_white_space bytes.now }
-    ensures shorter { IfSome result (λ r. length r.now < length bytes.now) }
-{
-    match bytes {
-        [first, ..] if *first > b')' => None,
-        _ => folding_white_space(bytes),
-    }
-}
-
 // A piece of a comment: text, a quoted pair, or a comment in it.
 #[cycle(comments)]
-#[tactic(auto, unfolding(crate::specs::WhiteSpace::content))]
+#[tactic(auto, using(crate::proofs::WhiteSpaceLemmas::text_alone), unfolding(crate::specs::WhiteSpace::content))]
 fn content(levels: u8, bytes: &[u8]) -> Option<&[u8]>
     ensures skips { option_map (λ r. r.now) result ≡ White.content levels bytes.now }
     ensures shorter { IfSome result (λ r. length r.now < length bytes.now) }
 {
-    if let Some(rest) = leading_white_space(bytes) {
+    if let Some(rest) = text(bytes) {
         return Some(rest);
     }
-    if let Some(rest) = text(bytes) {
+    if let Some(rest) = folding_white_space(bytes) {
         return Some(rest);
     }
     if let Some(rest) = quoted_pair(bytes) {
@@ -140,7 +120,7 @@ fn content(levels: u8, bytes: &[u8]) -> Option<&[u8]>
 
 // What stands between the parentheses of a comment.
 #[cycle(comments)]
-#[tactic(auto, using(crate::proofs::WhiteSpaceLemmas::contents_step, crate::proofs::WhiteSpaceLemmas::contents_end))]
+#[tactic(auto, using(crate::proofs::Many::many_step, crate::proofs::Many::many_end, crate::proofs::lemmas::Ends::contents_ends))]
 fn contents(levels: u8, bytes: &[u8]) -> &[u8]
     ensures skips { result.now ≡ Skips.many (White.content levels) bytes.now }
     ensures not_longer { length result.now ≤ length bytes.now }
@@ -158,30 +138,11 @@ fn white_or_comment(bytes: &[u8]) -> Option<&[u8]>
     ensures skips { option_map (λ r. r.now) result ≡ White.white_or_comment bytes.now }
     ensures shorter { IfSome result (λ r. length r.now < length bytes.now) }
 {
-    if !may_begin(bytes) {
-        return None;
-    }
-    if let Some(rest) = folding_white_space(bytes) {
-        return Some(rest);
-    }
-    comment(31, bytes)
-}
-
-// What follows all comments and white space at the start.
-#[tactic(auto, using(crate::proofs::WhiteSpaceLemmas::white_step, crate::proofs::WhiteSpaceLemmas::white_end))]
-fn past_white_and_comments(bytes: &[u8]) -> &[u8]
-    ensures skips { result.now ≡ Skips.many White.white_or_comment bytes.now }
-    ensures not_longer { length result.now ≤ length bytes.now }
-{
-    let mut rest = bytes;
-    while let Some(after) = white_or_comment(rest) {
-        rest = after;
-    }
-    rest
+    folding_white_space(bytes).or_else(|| comment(31, bytes))
 }
 
 /// Whether white space or a comment may begin the bytes: where it is `false`, none does.
-#[tactic(auto, using(crate::proofs::WhiteSpaceLemmas::none_there, crate::proofs::WhiteSpaceLemmas::none_of_empty, crate::proofs::WhiteSpaceLemmas::white_none_there, crate::proofs::WhiteSpaceLemmas::white_none_of_empty))]
+#[tactic(auto, using(crate::proofs::WhiteSpaceLemmas::white_none_there, crate::proofs::WhiteSpaceLemmas::white_none_of_empty), unfolding(crate::specs::WhiteSpace::comments_and_white_space))]
 #[inline(always)]
 pub fn may_begin(bytes: &[u8]) -> bool
     ensures absent { result ≡ false → White.comments_and_white_space bytes.now ≡ None }
@@ -213,13 +174,16 @@ pub fn one_space(bytes: &[u8]) -> Option<&[u8]>
 
 // Comments and white space, whatever they begin with.
 #[cold]
-#[tactic(auto, unfolding(crate::specs::WhiteSpace::comments_and_white_space))]
+#[tactic(auto, using(crate::proofs::Many::many_step, crate::proofs::Many::many_end, crate::proofs::lemmas::Ends::white_ends), unfolding(crate::specs::WhiteSpace::comments_and_white_space))]
 fn any_comments_and_white_space(bytes: &[u8]) -> Option<&[u8]>
     ensures skips { option_map (λ r. r.now) result ≡ White.comments_and_white_space bytes.now }
     ensures shorter { IfSome result (λ r. length r.now < length bytes.now) }
 {
-    let rest = white_or_comment(bytes)?;
-    Some(past_white_and_comments(rest))
+    let mut rest = white_or_comment(bytes)?;
+    while let Some(after) = white_or_comment(rest) {
+        rest = after;
+    }
+    Some(rest)
 }
 
 /// Comments and folding white space: at least one of them, as many as there are.

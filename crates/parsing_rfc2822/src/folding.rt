@@ -43,7 +43,7 @@ fn folded_line(bytes: &[u8]) -> Option<&[u8]>
 }
 
 // All folded lines that are there.
-#[tactic(auto, using(crate::proofs::WhiteSpaceLemmas::folded_step, crate::proofs::WhiteSpaceLemmas::folded_end))]
+#[tactic(auto, using(crate::proofs::Many::many_step, crate::proofs::Many::many_end, crate::proofs::lemmas::Ends::folded_ends))]
 fn folded_lines(bytes: &[u8]) -> &[u8]
     ensures skips { result.now ≡ Skips.many White.folded_line bytes.now }
     ensures not_longer { length result.now ≤ length bytes.now }
@@ -76,11 +76,7 @@ pub fn folding_white_space(bytes: &[u8]) -> Option<&[u8]>
     ensures skips { option_map (λ r. r.now) result ≡ White.folding_white_space bytes.now }
     ensures shorter { IfSome result (λ r. length r.now < length bytes.now) }
 {
-    if let Some(rest) = lone_white(bytes) {
-        return Some(rest);
-    }
-    if let Some(rest) = folded_line(bytes) {
-        return Some(rest);
-    }
-    folded_blanks(bytes)
+    lone_white(bytes)
+        .or_else(|| folded_line(bytes))
+        .or_else(|| folded_blanks(bytes))
 }

@@ -49,8 +49,7 @@ pub(crate) fn weekday(bytes: &[u8]) -> Option<(Weekday, &[u8])>
         return None;
     }
     let (text, rest) = bytes.split_at(3);
-    let weekday = weekday_of(text)?;
-    Some((weekday, rest))
+    Some((weekday_of(text)?, rest))
 }
 
 // The month of three letters.
@@ -89,8 +88,7 @@ pub(crate) fn month(bytes: &[u8]) -> Option<(Month, &[u8])>
         return None;
     }
     let (text, rest) = bytes.split_at(3);
-    let month = month_of(text)?;
-    Some((month, rest))
+    Some((month_of(text)?, rest))
 }
 
 /// The hours west of Greenwich that three letters name.
@@ -147,6 +145,5 @@ pub(crate) fn zone_name(bytes: &[u8]) -> Option<(u8, &[u8])>
         return short_zone(bytes);
     }
     let (text, rest) = bytes.split_at(3);
-    let hours = zone_of(text)?;
-    Some((hours, rest))
+    Some((zone_of(text)?, rest))
 }

@@ -15,16 +15,24 @@ use calendar_count::{Month, Weekday};
 use parsing_combinator::ParseFromDescription::{self, InvalidComponent, InvalidLiteral};
 use parsing_combinator::{Zone, byte, four_digits, one_digit, sign, two_digits, within};
 
+// The number that is there and passes, with what follows it.
+macro_rules! number {
+    ($read:expr, $is_strict:expr, $low:literal, $high:literal, $name:literal) => {{
+        let (value, rest) = $read.ok_or(InvalidComponent($name))?;
+        if !within($is_strict, $low, $high, value) {
+            return Err(InvalidComponent($name));
+        }
+        (value, rest)
+    }};
+}
+
 // One digit, or two where there are two.
 #[tactic(auto, unfolding(crate::specs::Reading::one_or_two_digits))]
 #[inline(always)]
 fn one_or_two_digits(bytes: &[u8]) -> Option<(u8, &[u8])>
     ensures { Pieces.cut_view result ≡ Reading.one_or_two_digits bytes.now }
 {
-    if let Some((value, rest)) = two_digits(bytes) {
-        return Some((value, rest));
-    }
-    one_digit(bytes)
+    two_digits(bytes).or_else(|| one_digit(bytes))
 }
 
 // The weekday and its comma, where they are there.
@@ -51,33 +59,21 @@ fn day(
     ensures { Gives (λ x. (x.0, x.1.now)) reading_fault result (Reading.day is_strict bytes.now) }
 {
     let (weekday, rest) = optional_weekday(past_spacing(bytes))?;
-    let (day, rest) = one_or_two_digits(rest).ok_or(InvalidComponent("day"))?;
-    if !within(is_strict, 1, 31, day) {
-        return Err(InvalidComponent("day"));
-    }
+    let (day, rest) = number!(one_or_two_digits(rest), is_strict, 1, 31, "day");
     Ok(((weekday, day), rest))
 }
 
-// A year of two digits, which is one from 1950 to 2049, and the white space after it.
-#[tactic(auto, unfolding(crate::specs::Reading::short_year))]
-#[inline(always)]
-fn short_year(bytes: &[u8]) -> Result<(u16, &[u8]), ParseFromDescription>
-    ensures { Gives (λ x. (x.0, x.1.now)) reading_fault result (Reading.short_year bytes.now) }
-{
-    let (year, rest) = two_digits(bytes).ok_or(InvalidComponent("year"))?;
-    let rest = comments_and_white_space(rest).ok_or(InvalidLiteral)?;
-    let century = if year < 50 { 2000 } else { 1900 };
-    Ok((u16::from(year) + century, rest))
-}
-
-// A year of four digits, not before 1900, and the white space after it, or one of two.
-#[tactic(auto, unfolding(crate::specs::Reading::year, crate::specs::Reading::full_year))]
+// A year of four digits, not before 1900, or one of two, from 1950 to 2049, and the white space after it.
+#[tactic(auto, unfolding(crate::specs::Reading::year, crate::specs::Reading::full_year, crate::specs::Reading::short_year))]
 #[inline(always)]
 fn year(bytes: &[u8]) -> Result<(u16, &[u8]), ParseFromDescription>
     ensures { Gives (λ x. (x.0, x.1.now)) reading_fault result (Reading.year bytes.now) }
 {
     let Some((year, rest)) = four_digits(bytes) else {
-        return short_year(bytes);
+        let (year, rest) = two_digits(bytes).ok_or(InvalidComponent("year"))?;
+        let rest = comments_and_white_space(rest).ok_or(InvalidLiteral)?;
+        let century = if year < 50 { 2000 } else { 1900 };
+        return Ok((u16::from(year) + century, rest));
     };
     if year < 1900 {
         return Err(InvalidComponent("year"));
@@ -109,10 +105,7 @@ fn second(is_strict: bool, bytes: &[u8]) -> Result<(Option<u8>, &[u8]), ParseFro
     let Some(rest) = spaced_colon(bytes) else {
         return Ok((None, bytes));
     };
-    let (second, rest) = two_digits(rest).ok_or(InvalidComponent("second"))?;
-    if !within(is_strict, 0, 60, second) {
-        return Err(InvalidComponent("second"));
-    }
+    let (second, rest) = number!(two_digits(rest), is_strict, 0, 60, "second");
     Ok((Some(second), rest))
 }
 
@@ -125,40 +118,15 @@ fn clock(
 ) -> Result<((u8, u8, Option<u8>), &[u8]), ParseFromDescription>
     ensures { Gives (λ x. (x.0, x.1.now)) reading_fault result (Reading.clock is_strict bytes.now) }
 {
-    let (hour, rest) = two_digits(bytes).ok_or(InvalidComponent("hour"))?;
-    if !within(is_strict, 0, 23, hour) {
-        return Err(InvalidComponent("hour"));
-    }
+    let (hour, rest) = number!(two_digits(bytes), is_strict, 0, 23, "hour");
     let rest = spaced_colon(rest).ok_or(InvalidLiteral)?;
-    let (minute, rest) = two_digits(rest).ok_or(InvalidComponent("minute"))?;
-    if !within(is_strict, 0, 59, minute) {
-        return Err(InvalidComponent("minute"));
-    }
+    let (minute, rest) = number!(two_digits(rest), is_strict, 0, 59, "minute");
     let (second, rest) = second(is_strict, rest)?;
     Ok(((hour, minute, second), rest))
 }
 
-// A zone by its name.
-#[tactic(auto, unfolding(crate::specs::Reading::named_zone))]
-#[inline(always)]
-fn named_zone(bytes: &[u8]) -> Result<(Zone, &[u8]), ParseFromDescription>
-    ensures gives { Gives (λ x. (x.0, x.1.now)) reading_fault result
-        (Reading.named_zone bytes.now) }
-    ensures hours { IfOk result (λ x. x.0.hours < 100) }
-    ensures minutes { IfOk result (λ x. x.0.minutes < 100) }
-{
-    let (hours, rest) = zone_name(bytes).ok_or(InvalidComponent("offset hour"))?;
-    let zone = Zone {
-        is_named: true,
-        is_negative: true,
-        hours,
-        minutes: 0,
-    };
-    Ok((zone, rest))
-}
-
 // The zone: a sign with hours and minutes, both under it, or a name.
-#[tactic(auto, unfolding(crate::specs::Reading::zone, crate::specs::Reading::signed_zone))]
+#[tactic(auto, unfolding(crate::specs::Reading::zone, crate::specs::Reading::signed_zone, crate::specs::Reading::named_zone))]
 #[inline(always)]
 fn zone(is_strict: bool, bytes: &[u8]) -> Result<(Zone, &[u8]), ParseFromDescription>
     ensures gives { Gives (λ x. (x.0, x.1.now)) reading_fault result
@@ -167,16 +135,17 @@ fn zone(is_strict: bool, bytes: &[u8]) -> Result<(Zone, &[u8]), ParseFromDescrip
     ensures minutes { IfOk result (λ x. x.0.minutes < 100) }
 {
     let Some((mark, rest)) = sign(bytes) else {
-        return named_zone(bytes);
+        let (hours, rest) = zone_name(bytes).ok_or(InvalidComponent("offset hour"))?;
+        let zone = Zone {
+            is_named: true,
+            is_negative: true,
+            hours,
+            minutes: 0,
+        };
+        return Ok((zone, rest));
     };
-    let (hours, rest) = two_digits(rest).ok_or(InvalidComponent("offset hour"))?;
-    if !within(is_strict, 0, 25, hours) {
-        return Err(InvalidComponent("offset hour"));
-    }
-    let (minutes, rest) = two_digits(rest).ok_or(InvalidComponent("offset minute"))?;
-    if !within(is_strict, 0, 59, minutes) {
-        return Err(InvalidComponent("offset minute"));
-    }
+    let (hours, rest) = number!(two_digits(rest), is_strict, 0, 25, "offset hour");
+    let (minutes, rest) = number!(two_digits(rest), is_strict, 0, 59, "offset minute");
     let zone = Zone {
         is_named: false,
         is_negative: mark == b'-',
@@ -186,22 +155,8 @@ fn zone(is_strict: bool, bytes: &[u8]) -> Result<(Zone, &[u8]), ParseFromDescrip
     Ok((zone, rest))
 }
 
-// The zone, with the white space around it.
-#[tactic(auto, unfolding(crate::specs::Reading::spaced_zone))]
-#[inline(always)]
-fn spaced_zone(is_strict: bool, bytes: &[u8]) -> Result<(Zone, &[u8]), ParseFromDescription>
-    ensures gives { Gives (λ x. (x.0, x.1.now)) reading_fault result
-        (Reading.spaced_zone is_strict bytes.now) }
-    ensures hours { IfOk result (λ x. x.0.hours < 100) }
-    ensures minutes { IfOk result (λ x. x.0.minutes < 100) }
-{
-    let rest = comments_and_white_space(bytes).ok_or(InvalidLiteral)?;
-    let (zone, rest) = zone(is_strict, rest)?;
-    Ok((zone, past_spacing(rest)))
-}
-
 // All parts of a date-time, in order.
-#[tactic(auto, unfolding(crate::specs::Reading::rfc2822))]
+#[tactic(auto, unfolding(crate::specs::Reading::rfc2822, crate::specs::Reading::spaced_zone))]
 #[inline(always)]
 fn parts(is_strict: bool, bytes: &[u8]) -> Result<(Rfc2822Parts, &[u8]), ParseFromDescription>
     ensures gives { Gives (λ x. (x.0, x.1.now)) reading_fault result
@@ -212,7 +167,8 @@ fn parts(is_strict: bool, bytes: &[u8]) -> Result<(Rfc2822Parts, &[u8]), ParseFr
     let ((weekday, day), rest) = day(is_strict, bytes)?;
     let ((month, year), rest) = month_and_year(rest)?;
     let ((hour, minute, second), rest) = clock(is_strict, rest)?;
-    let (zone, rest) = spaced_zone(is_strict, rest)?;
+    let rest = comments_and_white_space(rest).ok_or(InvalidLiteral)?;
+    let (zone, rest) = zone(is_strict, rest)?;
     let parts = Rfc2822Parts {
         weekday,
         day,
@@ -223,7 +179,7 @@ fn parts(is_strict: bool, bytes: &[u8]) -> Result<(Rfc2822Parts, &[u8]), ParseFr
         second,
         zone,
     };
-    Ok((parts, rest))
+    Ok((parts, past_spacing(rest)))
 }
 
 /// What is written at the start of the bytes, and the rest: RFC 2822, section 3.3, with the obsolete years and zones.

@@ -11,10 +11,7 @@ use crate::comments_and_white_space;
 pub fn past_spacing(bytes: &[u8]) -> &[u8]
     ensures { result.now ≡ Skips.optional White.comments_and_white_space bytes.now }
 {
-    match comments_and_white_space(bytes) {
-        Some(rest) => rest,
-        None => bytes,
-    }
+    comments_and_white_space(bytes).unwrap_or(bytes)
 }
 
 /// A colon, with comments and white space on both sides.

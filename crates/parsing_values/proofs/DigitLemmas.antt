@@ -1,25 +1,23 @@
 -- Nine digits of a fraction: of a number, and as they are read.
-use Rattle.std.proofs.Common.{◌≡◌, ℕ, ◌+◌, ◌*◌, ◌%◌, ◌^◌, ◌<◌, ◌≤◌, eqb, leb, List, [], ◌∷◌, ◌++◌, length, get_or, take, drop, Option, true, false, Some, None, w64, refl, sym, ap, ◌∙◌, arith, take-append-drop, length-drop}
+use Rattle.std.proofs.Common.{◌≡◌, ℕ, ◌+◌, ◌-◌, ◌%◌, ◌^◌, ◌<◌, ◌≤◌, List, [], ◌∷◌, ◌++◌, length, get_or, take, drop, replicate, Option, false, Some, None, w64, refl, sym, ap, ◌∙◌, arith, length-drop}
 use Rattle.std.specs.Borrow.{Bor}
 use Rattle.std.specs.Prelude.{is_some}
 use Rattle.std.specs.Int.{from_le_bytes, to_le_bytes}
 use Rattle.std.specs.Char.{is_ascii_digit, digit_value}
 use Rattle.std.specs.Str.Parse.{digits_value}
-use Rattle.std.proofs.lemmas.Bool.Decides.{nat_tests}
-use Rattle.std.proofs.lemmas.List.Folds.{prefix_len-append}
-use Rattle.std.proofs.lemmas.List.{append-nil}
+use Rattle.std.proofs.lemmas.List.{append-nil, append_assoc, replicate_more, take_more, get_or_append_left, get_or-take, get_or-drop, length-take-le}
+use Rattle.std.proofs.lemmas.List.Sums.{prefix_len_passes}
 use Rattle.std.proofs.lemmas.Nat.{le_bytes_8}
-use Rattle.parsing_combinator.specs.Pieces.{digits, digit_count, fraction, cut_view}
-use Rattle.parsing_combinator.specs.Chunks.{IsDigitChunk, padded}
-use Rattle.parsing_combinator.proofs.Decimal.{value_append, count_prefix, digit_count_within}
-use Rattle.parsing_combinator.proofs.Fixed.{digits_nine, joined}
-use Rattle.parsing_combinator.proofs.FractionDigits.{fraction_of_nine, digits_read}
-use Rattle.parsing_combinator.proofs.PaddingLemmas.{fraction_of_padded, padded_long, padded_fit, padded_whole, padded_rest, padded_below}
+use Rattle.parsing_combinator.specs.Pieces.{digits, digit_count, fraction, nanoseconds_of, cut_view}
+use Rattle.parsing_combinator.specs.Chunks.{IsOfDigits, padded}
+use Rattle.parsing_combinator.proofs.Decimal.{count_prefix, count_drop, count_least, digit_count_within, digit_here}
+use Rattle.parsing_combinator.proofs.FractionDigits.{digits_read, none_there, padded_count, padded_value, fraction_there}
+use Rattle.parsing_combinator.proofs.PaddingLemmas.{padded_long, padded_fit, padded_whole, padded_below}
 use Rattle.parsing_combinator.proofs.Lanes.{chunk_eight}
 use Rattle.parsing_values.specs.Decimal.{decimal}
 use Rattle.parsing_values.specs.Digits.{nine_digits, AreNineDigits}
 use Rattle.parsing_values.specs.DigitsBack.{digits_below, nine_back}
-use Rattle.parsing_values.proofs.lemmas.Decimals.{as_digit, decimal_count, decimal_value, digits_fit}
+use Rattle.parsing_values.proofs.lemmas.Decimals.{decimal_count, decimal_value, digits_fit}
 
 nine_is : (first last : ℕ) (eight : List ℕ) → to_le_bytes w64 first ≡ eight → nine_digits first last ≡ eight ++ last ∷ []
 unfolding nine_digits
@@ -53,80 +51,68 @@ kept first last n are is = record {
 
 -- ---- as they are read
 
-module _ (bytes : List ℕ) (first count : ℕ) (c : IsDigitChunk bytes first count) (fit : (k : ℕ) → get_or bytes k 0 < 256) where
+-- nine digits: so many at the start of bytes, and then zeros
+pub record Nine (first last count : ℕ) (bytes : List ℕ) : Type 0 where
+  pub are : AreNineDigits first last
+  pub enough : count ≤ digit_count bytes
+  pub value : digits_value 10 (nine_digits first last) ≡ nanoseconds_of (take count bytes)
+
+pub nine_of : (first last count : ℕ) (bytes : List ℕ) → count ≤ 9 → count ≤ digit_count bytes → first < 2 ^ 64 → nine_digits first last ≡ take count bytes ++ replicate (9 - count) 48 → Nine first last count bytes
+nine_of first last count bytes few enough fits is =
+    let long : length (take count bytes) ≡ count = length-take-le count bytes (omega (arith, enough, digit_count_within bytes)) in
+    record {
+      are = (fits, ap digit_count is ∙ padded_count (take count bytes) (9 - count) (count_prefix bytes count enough) ∙ omega (arith, long));
+      enough = enough;
+      value = ap (digits_value 10) is ∙ padded_value (take count bytes) (9 - count) (omega (arith, long));
+    }
+
+module _ (bytes : List ℕ) (first count : ℕ) (c : IsOfDigits bytes first count) (fit : (k : ℕ) → get_or bytes k 0 < 256) where
   long : length (padded count bytes) ≡ 8
   long = padded_long bytes count c.few c.within fit
-
-  counted : digit_count (padded count bytes) ≡ 8
-  counted = omega (arith, c.digits_are, long, digit_count_within (padded count bytes))
-
-  whole : take 8 (padded count bytes) ≡ padded count bytes
-  whole = padded_whole bytes count c.few c.within fit
 
   below : first < 2 ^ 64
   below = rw c.number_is (padded_below bytes count c.few c.within fit).fits
 
   number : first ≡ from_le_bytes w64 (padded count bytes)
-  number = omega (arith, c.number_is, rw whole at (chunk_eight (padded count bytes) (omega (arith, long))))
+  number = omega (arith, c.number_is, rw (padded_whole bytes count c.few c.within fit) at (chunk_eight (padded count bytes) (omega (arith, long))))
 
   chunk_bytes : to_le_bytes w64 first ≡ padded count bytes
   chunk_bytes = le_bytes_8 (padded count bytes) first long (padded_fit bytes count c.few c.within fit) number
 
-  chunk_digits : digits 8 (padded count bytes) ≡ Some (digits_value 10 (padded count bytes), [])
-  unfolding digits
-  chunk_digits =
-      let enough : leb 8 (digit_count (padded count bytes)) ≡ true = let e = c.digits_are in grind (arith, nat_tests) in
-      rw (enough, whole, padded_rest bytes count c.few c.within fit) refl
+  counted : count ≤ digit_count bytes
+  counted = count_least count bytes c.within (λ k lt.
+      let here = prefix_len_passes is_ascii_digit (padded count bytes) k 0 (omega (arith, c.digits_are, c.few)) in
+      rw (get_or_append_left (take count bytes) (replicate (8 - count) 48) 0 k (omega (arith, length-take-le count bytes c.within)), get_or-take count bytes k 0 lt) at here)
 
-pub record Nine (first last : ℕ) (bytes rest : List ℕ) : Type 0 where
+  -- at most eight digits
+  pub short_nine : Nine first 48 count bytes
+  short_nine =
+      let more : 8 - count + 1 ≡ 9 - count = omega (arith, c.few) in
+      nine_of first 48 count bytes (omega (arith, c.few)) counted below (nine_is first 48 (padded count bytes) chunk_bytes ∙ append_assoc (take count bytes) (replicate (8 - count) 48) (48 ∷ []) ∙ ap (λ (xs : List ℕ). take count bytes ++ xs) (replicate_more (8 - count) 48 ∙ ap (λ (n : ℕ). replicate n 48) more))
+
+  -- nine digits
+  pub long_nine : (value : ℕ) (rest : List ℕ) → count ≡ 8 → digits 1 (drop 8 bytes) ≡ Some (value, rest) → Nine first (48 + value) 9 bytes
+  long_nine value rest all one =
+      let r = digits_read 1 (drop 8 bytes) value rest one in
+      let more = count_drop 8 bytes (rw all at counted) in
+      let d = digit_here (get_or (drop 8 bytes) 0 0) (prefix_len_passes is_ascii_digit (drop 8 bytes) 0 0 r.enough) in
+      let room : 8 < length bytes = omega (arith, more, r.enough, digit_count_within bytes) in
+      let one : digits_value 10 (take 1 (drop 8 bytes)) ≡ digit_value (get_or (drop 8 bytes) 0 0) = ap (digits_value 10) (take_more (drop 8 bytes) 0 0 (omega (arith, r.enough, digit_count_within (drop 8 bytes)))) ∙ omega arith in
+      let last : 48 + value ≡ get_or bytes 8 0 = omega (arith, d, r.value, one, get_or-drop 8 bytes 0 0) in
+      nine_of first (48 + value) 9 bytes (omega arith) (omega (arith, more, r.enough)) below
+      (nine_is first (48 + value) (take 8 bytes) (rw all at chunk_bytes ∙ append-nil (take 8 bytes)) ∙ ap (λ (d : ℕ). take 8 bytes ++ d ∷ []) last ∙ sym (take_more bytes 8 0 room) ∙ sym (append-nil (take 9 bytes)))
+
+-- what is read of bytes, where no digit follows
+pub record NineRead (first last : ℕ) (bytes rest : List ℕ) : Type 0 where
   pub are : AreNineDigits first last
   pub reads : fraction bytes ≡ Some (digits_value 10 (nine_digits first last), rest)
+  pub bound : digits_value 10 (nine_digits first last) < 1_000_000_000
   pub at_most_nine : length bytes ≤ length rest + 9
 
-record WithLast (first last : ℕ) (eight : List ℕ) : Type 0 where
-  are : AreNineDigits first last
-  value : digits_value 10 (nine_digits first last) ≡ digits_value 10 eight * 10 + digit_value last
-
-with_last : (first last : ℕ) (eight : List ℕ) → to_le_bytes w64 first ≡ eight → digit_count eight ≡ 8 → length eight ≡ 8 → is_ascii_digit last ≡ true → first < 2 ^ 64 → WithLast first last eight
-with_last first last eight is all eight_long digit fits =
-    let nine = nine_is first last eight is in
-    let one : digit_count (last ∷ []) ≡ 1 = rw digit refl in
-    let same : eqb (digit_count eight) (length eight) ≡ true = grind (arith, nat_tests) in
-    let count : digit_count (eight ++ last ∷ []) ≡ 9 = prefix_len-append is_ascii_digit eight (last ∷ []) ∙ rw same (omega (arith, one)) in
-    record { are = (fits, rw nine count); value = rw nine (value_append 0 eight (last ∷ [])) }
-
--- at most eight digits
-pub short_read : (bytes : List ℕ) (first count : ℕ) → IsDigitChunk bytes first count → ((k : ℕ) → get_or bytes k 0 < 256) → digits 1 (drop count bytes) ≡ None → Nine first 48 bytes (drop count bytes)
-short_read bytes first count c fit none =
-    let eight = padded count bytes in
-    let nine = with_last first 48 eight (chunk_bytes bytes first count c fit) (counted bytes first count c fit) (long bytes first count c fit) refl (below bytes first count c fit) in
-    let read = fraction_of_padded bytes count (digits_value 10 eight) c.some c.few c.within (chunk_digits bytes first count c fit) none in
-    let value : digits_value 10 (nine_digits first 48) ≡ digits_value 10 eight * 10 = omega (arith, nine.value) in
-    record { are = nine.are; reads = rw value read; at_most_nine = omega (arith, c.few, length-drop count bytes) }
-
--- nine digits
-pub nine_read : (bytes : List ℕ) (first value : ℕ) (rest : List ℕ) → IsDigitChunk bytes first 8 → ((k : ℕ) → get_or bytes k 0 < 256) → digits 1 (drop 8 bytes) ≡ Some (value, rest) → value < 10 → digits 1 rest ≡ None → Nine first (48 + value) bytes rest
-unfolding digits
-nine_read bytes first value rest c fit one small none =
-    let prefix : padded 8 bytes ≡ take 8 bytes = append-nil (take 8 bytes) in
-    let is : to_le_bytes w64 first ≡ take 8 bytes = chunk_bytes bytes first 8 c fit ∙ prefix in
-    let all : digit_count (take 8 bytes) ≡ 8 = ap digit_count (sym prefix) ∙ counted bytes first 8 c fit in
-    let eight_long : length (take 8 bytes) ≡ 8 = ap length (sym prefix) ∙ long bytes first 8 c fit in
-    let same : eqb (digit_count (take 8 bytes)) (length (take 8 bytes)) ≡ true = grind (arith, nat_tests) in
-    let count : digit_count bytes ≡ 8 + digit_count (drop 8 bytes) =
-    ap digit_count (sym (take-append-drop 8 bytes)) ∙ prefix_len-append is_ascii_digit (take 8 bytes) (drop 8 bytes) ∙ rw same (omega (arith, eight_long)) in
-    let enough : leb 8 (digit_count bytes) ≡ true = grind (arith, nat_tests) in
-    let eight : digits 8 bytes ≡ Some (digits_value 10 (take 8 bytes), drop 8 bytes) = rw enough refl in
-    let read : digits 9 bytes ≡ Some (digits_value 10 (take 8 bytes) * 10 + value, rest) = digits_nine bytes ∙ ap (joined 10 (digits 1)) eight ∙ rw one refl in
-    let digit = as_digit value (omega arith) in
-    let nine = with_last first (48 + value) (take 8 bytes) is all eight_long digit.0 (below bytes first 8 c fit) in
-    let same_value : digits_value 10 (nine_digits first (48 + value)) ≡ digits_value 10 (take 8 bytes) * 10 + value = omega (arith, nine.value, digit.1) in
-    let later : length rest ≡ length (drop 1 (drop 8 bytes)) = ap length (sym (digits_read 1 (drop 8 bytes) value rest one).after) in
-    record { are = nine.are; at_most_nine = omega (arith, later, length-drop 1 (drop 8 bytes), length-drop 8 bytes); reads = rw same_value (fraction_of_nine bytes (digits_value 10 (take 8 bytes) * 10 + value) rest read none) }
-
-pub none_of_nothing : digits 1 [] ≡ None
-unfolding digits
-none_of_nothing = refl
+pub nine_read : (first last count : ℕ) (bytes : List ℕ) → Nine first last count bytes → 0 < count → count ≤ 9 → digits 1 (drop count bytes) ≡ None → NineRead first last bytes (drop count bytes)
+nine_read first last count bytes n some few none =
+    let all : digit_count bytes ≡ count = omega (arith, count_drop count bytes n.enough, none_there (drop count bytes) none) in
+    record { are = n.are; reads = rw n.value (fraction_there bytes count some all); bound = digits_below first last n.are; at_most_nine = omega (arith, few, length-drop count bytes) }
 
 -- what a function returns that finds no digit
 pub no_digit : (result : Option (ℕ × Bor (List ℕ))) (bytes : List ℕ) → cut_view result ≡ digits 1 bytes → is_some result ≡ false → digits 1 bytes ≡ None

@@ -1,24 +1,11 @@
--- Digits that end at a place of a line, and the fraction of a second that they write.
-use Rattle.std.proofs.Common.{◌≡◌, ℕ, ◌+◌, ◌-◌, ◌*◌, ◌/◌, ◌%◌, ◌^◌, ◌<◌, ◌≤◌, ◌==◌, eqb, List, [], ◌++◌, length, get_or, take, drop, replicate, Option, Some, true, false, refl, sym, ap, ◌∙◌, arith, take-append-drop}
-use Rattle.std.specs.Char.{is_ascii_digit}
-use Rattle.std.specs.Int.Bits.{bit_and}
-use Rattle.std.specs.Option.{unwrap_or}
-use Rattle.std.specs.Str.Parse.{digits_value}
-use Rattle.std.proofs.lemmas.Bool.Decides.{nat_tests}
-use Rattle.std.proofs.lemmas.List.{length-take-le, length-drop, take_all, drop_all, take-append-le, drop-take, drop-drop}
-use Rattle.std.proofs.lemmas.List.Folds.{prefix_len-append}
+-- Digits that end at a place of a line.
+use Rattle.std.proofs.Common.{◌≡◌, ℕ, ◌+◌, ◌-◌, ◌*◌, ◌/◌, ◌^◌, ◌<◌, ◌≤◌, List, length, get_or, take, drop, replicate, Fits, w64, refl, sym, ap, ◌∙◌, arith, take-append-drop}
+use Rattle.std.specs.Int.{from_le_bytes}
+use Rattle.std.proofs.lemmas.List.{length-take-le, length-drop, take_all, drop-take, drop-drop}
 use Rattle.std.proofs.lemmas.Nat.{div-mul-add}
-use Rattle.parsing_combinator.specs.Pieces.{digits, digit_count, digit_run, fraction, nanoseconds_of}
-use Rattle.parsing_combinator.specs.Chunks.{chunk, padded, IsDigitChunk}
-use Rattle.parsing_combinator.proofs.Decimal.{count_prefix}
-use Rattle.parsing_combinator.proofs.Lanes.{take_fit}
-use Rattle.parsing_combinator.proofs.PaddingLemmas.{chunk_append, chunk_below, drop_fit, padded_counted}
-use Rattle.parsing_values.proofs.DigitLemmas.{Nine, short_read, none_of_nothing}
-use Rattle.parsing_values.specs.Digits.{nine_digits, AreNineDigits}
-use Rattle.parsing_values.specs.Written.{WriteFraction}
-
-pub cut_fit : (n m : ℕ) (bytes : List ℕ) → ((k : ℕ) → get_or bytes k 0 < 256) → (k : ℕ) → get_or (take n (drop m bytes)) k 0 < 256
-cut_fit n m bytes fit = take_fit n (drop m bytes) (drop_fit m bytes fit)
+use Rattle.parsing_combinator.specs.Chunks.{chunk, padded, AreEightDigits, IsOfDigits}
+use Rattle.parsing_combinator.proofs.Lanes.{take_fit, chunk_eight}
+use Rattle.parsing_combinator.proofs.PaddingLemmas.{chunk_append, chunk_below, drop_fit, padded_below, padded_counted}
 
 split_off : (w x y p : ℕ) → w ≡ x + y * p → x < p → w / p ≡ y
 split_off w x y p e lt =
@@ -33,73 +20,44 @@ chunk_tail xs m within fit =
     let below : chunk (take m xs) < 2 ^ (8 * m) = rw prefix at (chunk_below (take m xs) (take_fit m xs fit)) in
     split_off (chunk xs) (chunk (take m xs)) (chunk (drop m xs)) (2 ^ (8 * m)) parts below
 
-module _ (line : List ℕ) (end count : ℕ) (room : 8 ≤ end) (within : end ≤ length line) (some : 0 < count) (few : count ≤ 8) (fit : (k : ℕ) → get_or line k 0 < 256) where
-  pub run_long : length (take count (drop (end - count) line)) ≡ count
-  run_long = length-take-le count (drop (end - count) line) (omega (arith, length-drop (end - count) line))
+module _ (line : List ℕ) (end count : ℕ) (room : 8 ≤ end) (within : end ≤ length line) (few : count ≤ 8) (fit : (k : ℕ) → get_or line k 0 < 256) where
+  abbrev eight : List ℕ
+  eight = take 8 (drop (end - 8) line)
 
-  word_long : length (take 8 (drop (end - 8) line)) ≡ 8
-  word_long = length-take-le 8 (drop (end - 8) line) (omega (arith, length-drop (end - 8) line))
+  abbrev rest : List ℕ
+  rest = drop (end - count) line
 
-  tail : drop (8 - count) (take 8 (drop (end - 8) line)) ≡ take count (drop (end - count) line)
+  rest_long : count ≤ length rest
+  rest_long = omega (arith, length-drop (end - count) line)
+
+  eight_long : length eight ≡ 8
+  eight_long = length-take-le 8 (drop (end - 8) line) (omega (arith, length-drop (end - 8) line))
+
+  word_is : from_le_bytes w64 eight ≡ chunk eight
+  word_is = omega (arith, rw (take_all 8 eight (omega (arith, eight_long))) at (chunk_eight eight (omega (arith, eight_long))))
+
+  tail : drop (8 - count) eight ≡ take count rest
   tail =
-      let eight : 8 - count + count ≡ 8 = omega arith in
+      let whole : 8 - count + count ≡ 8 = omega arith in
       let at : end - 8 + (8 - count) ≡ end - count = omega arith in
-      ap (λ (n : ℕ). drop (8 - count) (take n (drop (end - 8) line))) (sym eight) ∙ drop-take (8 - count) count (drop (end - 8) line) ∙ ap (take count) (drop-drop (8 - count) (end - 8) line ∙ ap (λ (n : ℕ). drop n line) at)
+      ap (λ (n : ℕ). drop (8 - count) (take n (drop (end - 8) line))) (sym whole) ∙ drop-take (8 - count) count (drop (end - 8) line) ∙ ap (take count) (drop-drop (8 - count) (end - 8) line ∙ ap (λ (n : ℕ). drop n line) at)
 
   -- what the shift leaves, with zeros after it
-  pub number : chunk (take 8 (drop (end - 8) line)) / 2 ^ (8 * (8 - count)) + chunk (replicate (8 - count) 48) * 2 ^ (8 * count) ≡ chunk (padded count (take count (drop (end - count) line)))
+  pub number : from_le_bytes w64 eight / 2 ^ (8 * (8 - count)) + chunk (replicate (8 - count) 48) * 2 ^ (8 * count) ≡ chunk (padded count rest)
   number =
-      let run = take count (drop (end - count) line) in
-      let whole : take count run ≡ run = take_all count run (omega (arith, run_long)) in
-      let shifted : chunk (take 8 (drop (end - 8) line)) / 2 ^ (8 * (8 - count)) ≡ chunk run = chunk_tail (take 8 (drop (end - 8) line)) (8 - count) (omega (arith, word_long)) (cut_fit 8 (end - 8) line fit) ∙ ap chunk tail in
       let zeros : List ℕ = replicate (8 - count) 48 in
-      let joined : chunk (run ++ zeros) ≡ chunk run + chunk zeros * 2 ^ (8 * count) = chunk_append run zeros ∙ rw run_long refl in
-      ap (λ (n : ℕ). n + chunk zeros * 2 ^ (8 * count)) shifted ∙ sym joined ∙ ap (λ (xs : List ℕ). chunk (xs ++ zeros)) (sym whole)
+      let eight_fit = take_fit 8 (drop (end - 8) line) (drop_fit (end - 8) line fit) in
+      let shifted : from_le_bytes w64 eight / 2 ^ (8 * (8 - count)) ≡ chunk (take count rest) = rw word_is (chunk_tail eight (8 - count) (omega (arith, eight_long)) eight_fit ∙ ap chunk tail) in
+      rw shifted (sym (chunk_append (take count rest) zeros ∙ rw (length-take-le count rest rest_long) refl))
 
-  pub are_read : (x : ℕ) → x ≡ chunk (padded count (take count (drop (end - count) line))) → bit_and x 17_361_641_481_138_401_520 ≡ 3_472_328_296_227_680_304 → bit_and ((x + 434_041_037_028_460_038) % 2 ^ 64) 17_361_641_481_138_401_520 ≡ 3_472_328_296_227_680_304 → IsDigitChunk (take count (drop (end - count) line)) x count
-  are_read x is here above =
-      let run = take count (drop (end - count) line) in
-      let inside : count ≤ length run = omega (arith, run_long) in
-      let nothing : drop count run ≡ [] = drop_all count run (omega (arith, run_long)) in
-      record {
-        some = some;
-        few = few;
-        within = inside;
-        number_is = is;
-        digits_are = padded_counted run count few inside (cut_fit count (end - count) line fit) (rw is at here) (rw is at above);
-        ends = λ lt. ap (digits 1) nothing ∙ none_of_nothing;
-      }
+  pub number_fits : Fits w64 (chunk (padded count rest))
+  number_fits = padded_below rest count few rest_long (drop_fit (end - count) line fit)
 
--- ---- the fraction that they write
-
-fraction_whole : (run : List ℕ) (n : ℕ) (rest : List ℕ) → digit_count run ≡ length run → 0 < length run → fraction run ≡ Some (n, rest) → n ≡ nanoseconds_of run
-unfolding fraction digit_run
-fraction_whole run n rest all some e =
-    let nonzero : (digit_count run == 0) ≡ false = grind (arith, nat_tests) in
-    let prefix : take (digit_count run) run ≡ run = take_all (digit_count run) run (omega arith) in
-    let cut : Some (n, rest) ≡ Some (nanoseconds_of run, drop (digit_count run) run) = sym e ∙ rw (nonzero, prefix) refl in
-    ap (λ (o : Option (ℕ × List ℕ)). (unwrap_or o (0, [])).0) cut
-
-pub record Before (bytes : List ℕ) (first last count : ℕ) : Type 0 where
-  pub are : AreNineDigits first last
-  pub writes : WriteFraction bytes count (digits_value 10 (nine_digits first last))
-
-pub before : (bytes : List ℕ) (first count : ℕ) → count ≤ length bytes → IsDigitChunk (take count bytes) first count → ((k : ℕ) → get_or bytes k 0 < 256) → Before bytes first 48 count
-before bytes first count within c fit =
-    let run = take count bytes in
-    let long : length run ≡ count = length-take-le count bytes within in
-    let nothing : drop count run ≡ [] = drop_all count run (omega (arith, long)) in
-    let nine : Nine first 48 run (drop count run) = short_read run first count c (take_fit count bytes fit) (ap (digits 1) nothing ∙ none_of_nothing) in
-    let zeros : List ℕ = replicate (8 - count) 48 in
-    let whole : take count run ≡ run = take_all count run (omega (arith, long)) in
-    let prefix : take count (padded count run) ≡ run = take-append-le count (take count run) zeros (omega (arith, ap length whole, long)) ∙ ap (take count) whole ∙ whole in
-    let all : digit_count run ≡ length run = rw prefix at (count_prefix (padded count run) count (omega (arith, c.few, c.digits_are))) in
-    let same : eqb (digit_count run) (length run) ≡ true = grind (arith, nat_tests) in
-    let counted : digit_count bytes ≡ length run + digit_count (drop count bytes) = ap digit_count (sym (take-append-drop count bytes)) ∙ prefix_len-append is_ascii_digit run (drop count bytes) ∙ rw same refl in
-    record {
-      are = nine.are;
-      writes = record {
-        enough = omega (arith, counted, long);
-        value = fraction_whole run (digits_value 10 (nine_digits first 48)) (drop count run) all (omega (arith, long, c.some)) nine.reads;
-      };
-    }
+  pub of_digits : (x : ℕ) → 0 < count → x ≡ chunk (padded count rest) → AreEightDigits x → IsOfDigits rest x count
+  of_digits x some is test = record {
+    some = some;
+    few = few;
+    within = rest_long;
+    number_is = is;
+    digits_are = padded_counted rest count few rest_long (drop_fit (end - count) line fit) (rw is at test);
+  }

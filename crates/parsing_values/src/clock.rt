@@ -6,7 +6,7 @@ ghost use Rattle.parsing_values.specs.NamedTime.{hour_of, finer_parts, named_tim
 use crate::parts::{OffsetParts, TimeParts};
 use crate::resolve;
 use calendar::{Time, UtcOffset};
-use parsing_combinator::TryFromParsed;
+use parsing_combinator::TryFromParsed::{self, InsufficientInformation};
 
 /// The hour of the day: one of 24 that is there, and else one of 12 with its half of the day.
 #[tactic(auto, unfolding(crate::specs::NamedTime::hour_of, crate::specs::NamedTime::half_day_hour))]
@@ -17,11 +17,7 @@ pub fn hour(parts: &TimeParts) -> Option<u8>
         return Some(hour);
     }
     let hour = parts.hour_12? % 12;
-    Some(if parts.hour_12_is_pm? {
-        hour + 12
-    } else {
-        hour
-    })
+    Some(hour + if parts.hour_12_is_pm? { 12 } else { 0 })
 }
 
 // Minute, second and nanosecond, if none is absent where a finer one is there.
@@ -45,13 +41,10 @@ pub fn time(leap_second_is_permitted: bool, parts: &TimeParts) -> Result<Time, T
     ensures { Gives (λ t. t) resolution_fault result
         (named_time leap_second_is_permitted parts.now) }
 {
-    let Some(hour) = hour(parts) else {
-        return Err(TryFromParsed::InsufficientInformation);
-    };
-    let Some((minute, second, nanosecond)) = finer(parts.minute, parts.second, parts.subsecond)
-    else {
-        return Err(TryFromParsed::InsufficientInformation);
-    };
+    let hour = hour(parts).ok_or(InsufficientInformation)?;
+    let (minute, second, nanosecond) = finer(parts.minute, parts.second, parts.subsecond).ok_or(
+        InsufficientInformation,
+    )?;
     Ok(resolve::permitted_time(leap_second_is_permitted, hour, minute, second, nanosecond)?)
 }
 
@@ -60,9 +53,7 @@ pub fn time(leap_second_is_permitted: bool, parts: &TimeParts) -> Result<Time, T
 pub fn offset(parts: &OffsetParts) -> Result<UtcOffset, TryFromParsed>
     ensures { Gives (λ o. o) resolution_fault result (named_offset parts.now) }
 {
-    let Some(hour) = parts.hour else {
-        return Err(TryFromParsed::InsufficientInformation);
-    };
+    let hour = parts.hour.ok_or(InsufficientInformation)?;
     let Some(minute) = parts.minute else {
         return Ok(UtcOffset::from_hms(hour, 0, 0)?);
     };

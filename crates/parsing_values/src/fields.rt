@@ -99,10 +99,7 @@ impl Fields {
         ensures numbers { IfSome result
             (λ f. HaveNumbers f year month day minute second fraction offset) }
     {
-        if month < 1 || month > 12 || !has_day(year, month, day) {
-            return None;
-        }
-        if second >= 60 {
+        if month < 1 || month > 12 || !has_day(year, month, day) || second >= 60 {
             return None;
         }
         Some(Fields::of_numbers(year, month, day, minute, second, fraction, offset))

@@ -9,7 +9,7 @@ ghost use Rattle.parsing_values.specs.Written.{WriteFraction};
 
 use crate::before::digits_before;
 use crate::digits::digit_pair;
-use parsing_combinator::{digit_chunk, fraction, one_digit};
+use parsing_combinator::{digit_chunk, number, one_digit};
 use std::marker::Model;
 
 /// A fraction of a second, in whole nanoseconds.
@@ -98,10 +98,7 @@ impl Fraction {
         ensures value { result ≡ self }
         ensures bound { result < 1_000_000_000 }
     {
-        match fraction(&self.digits()) {
-            Some((nanosecond, _)) => nanosecond,
-            None => unreachable!(),
-        }
+        number(&self.digits())
     }
 
     /// The fraction of the digits at the start, where they are at most nine, and what follows them: `None` says nothing.
@@ -114,8 +111,7 @@ impl Fraction {
         let (first, count) = digit_chunk(bytes)?;
         let rest = &bytes[count..];
         let Some((last, after)) = ninth_digit(count, rest) else {
-            let last = u64::from(b'0');
-            return Some((Fraction { first, last }, rest));
+            return Some((Fraction { first, last: 0x30 }, rest));
         };
         if one_digit(after).is_some() {
             return None;
@@ -135,8 +131,7 @@ impl Fraction {
         ensures bound { IfSome result (λ f. f < 1_000_000_000) }
     {
         let first = digits_before(line, end, count)?;
-        let last = u64::from(b'0');
-        Some(Fraction { first, last })
+        Some(Fraction { first, last: 0x30 })
     }
 
     /// The nine digits of its nanoseconds, in ASCII.

@@ -1,13 +1,13 @@
 //! The moments that parts name.
 ghost use Rattle.std.specs.Prelude.{◌≡◌};
 ghost use Rattle.parsing_combinator.specs.FaultOf.{Gives, resolution_fault};
-ghost use Rattle.parsing_values.specs.NamedMoment.{named_wall, is_leap, dated_moment, offset_or_utc, dated_utc, dated_timestamp, unix_instant, unix_subsecond, named_moment, named_utc, named_timestamp};
+ghost use Rattle.parsing_values.specs.NamedMoment.{named_wall, is_leap, dated_moment, dated_utc, dated_timestamp, unix_subsecond, named_moment, named_utc, named_timestamp};
 
 use crate::parts::{MomentParts, OffsetParts, TimeParts};
 use crate::{DateParts, clock, leap_checked};
 use calendar::{ComponentName, ComponentRange, UtcOffset};
 use datetime_types::{OffsetDateTime, PlainDateTime, Timestamp, UtcDateTime};
-use parsing_combinator::TryFromParsed;
+use parsing_combinator::TryFromParsed::{self, InsufficientInformation};
 
 /// The date and the time of day that the parts name. The date's refusal comes first.
 #[tactic(auto, unfolding(crate::specs::NamedMoment::named_wall))]
@@ -38,32 +38,23 @@ fn dated(parts: &MomentParts, offset: &OffsetParts) -> Result<OffsetDateTime, Tr
 {
     let plain = plain_date_time(parts.leap_second_is_permitted, &parts.date, &parts.time)?;
     let offset = clock::offset(offset)?;
-    let moment = leap_checked(is_leap(parts), plain.assume_offset(offset))?;
-    Ok(moment)
-}
-
-// The offset, or that of UTC where none is there.
-#[tactic(auto, unfolding(crate::specs::NamedMoment::offset_or_utc))]
-fn offset_or_utc(offset: &OffsetParts) -> Result<UtcOffset, TryFromParsed>
-    ensures { Gives (λ o. o) resolution_fault result (offset_or_utc offset.now offset.now.hour) }
-{
-    if offset.hour.is_none() {
-        return Ok(UtcOffset::UTC);
-    }
-    clock::offset(offset)
+    Ok(leap_checked(is_leap(parts), plain.assume_offset(offset))?)
 }
 
 // The moment by date, time of day and offset, in UTC.
-#[tactic(auto, unfolding(crate::specs::NamedMoment::dated_utc))]
+#[tactic(auto, unfolding(crate::specs::NamedMoment::dated_utc, crate::specs::NamedMoment::offset_or_utc))]
 fn dated_utc(parts: &MomentParts, offset: &OffsetParts) -> Result<UtcDateTime, TryFromParsed>
     ensures { Gives (λ i. i) resolution_fault result (dated_utc parts.now offset.now) }
 {
     let plain = plain_date_time(parts.leap_second_is_permitted, &parts.date, &parts.time)?;
-    let offset = offset_or_utc(offset)?;
-    let moment = plain.assume_offset(offset);
-    let Some(utc) = moment.checked_to_utc() else {
-        return Err(ComponentRange::unconditional(ComponentName::Year).into());
+    let offset = if offset.hour.is_none() {
+        UtcOffset::UTC
+    } else {
+        clock::offset(offset)?
     };
+    let moment = plain.assume_offset(offset);
+    let refused = ComponentRange::unconditional(ComponentName::Year);
+    let utc = moment.checked_to_utc().ok_or(refused)?;
     leap_checked(is_leap(parts), moment)?;
     Ok(utc)
 }
@@ -73,30 +64,17 @@ fn dated_utc(parts: &MomentParts, offset: &OffsetParts) -> Result<UtcDateTime, T
 fn dated_timestamp(parts: &MomentParts, offset: &OffsetParts) -> Result<Timestamp, TryFromParsed>
     ensures { Gives (λ i. i) resolution_fault result (dated_timestamp parts.now offset.now) }
 {
-    let Ok(moment) = dated(parts, offset) else {
-        return Err(TryFromParsed::InsufficientInformation);
-    };
-    let Some(timestamp) = moment.checked_to_timestamp() else {
-        return Err(TryFromParsed::InsufficientInformation);
-    };
-    Ok(timestamp)
-}
-
-// The instant of Unix nanoseconds.
-#[tactic(auto, unfolding(crate::specs::NamedMoment::unix_instant))]
-fn unix_instant(nanoseconds: i128) -> Result<Timestamp, ComponentRange>
-    ensures { result ≡ unix_instant nanoseconds }
-{
-    Timestamp::from_nanoseconds(nanoseconds)
+    let moment = dated(parts, offset).or(Err(InsufficientInformation))?;
+    moment.checked_to_timestamp().ok_or(InsufficientInformation)
 }
 
 // The instant of Unix nanoseconds, with a subsecond that is there in place of the nanosecond of their second.
-#[tactic(auto, unfolding(crate::specs::NamedMoment::unix_subsecond))]
+#[tactic(auto, unfolding(crate::specs::NamedMoment::unix_subsecond, crate::specs::NamedMoment::unix_instant))]
 fn unix_subsecond(nanoseconds: i128, subsecond: Option<u32>) -> Result<Timestamp, ComponentRange>
     ensures { result ≡ unix_subsecond nanoseconds subsecond }
 {
     let Some(subsecond) = subsecond else {
-        return unix_instant(nanoseconds);
+        return Timestamp::from_nanoseconds(nanoseconds);
     };
     let instant = Timestamp::from_nanoseconds(nanoseconds)?;
     if subsecond > 999_999_999 {
@@ -138,12 +116,12 @@ pub fn utc_date_time(
 
 /// The instant that the parts name: Unix nanoseconds that are there, whatever the subsecond; else the date, the time of
 /// day and the offset, or the one refusal that they say too little.
-#[tactic(auto, unfolding(crate::specs::NamedMoment::named_timestamp))]
+#[tactic(auto, unfolding(crate::specs::NamedMoment::named_timestamp, crate::specs::NamedMoment::unix_instant))]
 pub fn timestamp(parts: &MomentParts, offset: &OffsetParts) -> Result<Timestamp, TryFromParsed>
     ensures { Gives (λ i. i) resolution_fault result (named_timestamp parts.now offset.now) }
 {
     let Some(nanoseconds) = parts.unix_nanoseconds else {
         return dated_timestamp(parts, offset);
     };
-    Ok(unix_instant(nanoseconds)?)
+    Ok(Timestamp::from_nanoseconds(nanoseconds)?)
 }

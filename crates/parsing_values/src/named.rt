@@ -7,7 +7,7 @@ ghost use Rattle.parsing_values.specs.NamedDate.{year_of, by_iso_week, by_sunday
 use crate::date_parts::{DateParts, YearParts};
 use crate::named_day;
 use calendar::Date;
-use parsing_combinator::TryFromParsed;
+use parsing_combinator::TryFromParsed::{self, InsufficientInformation};
 
 /// The year that is there, and else that of its century and its last two digits.
 #[tactic(auto, using(std::proofs::lemmas::Int::ints), unfolding(crate::specs::NamedDate::year_of, crate::specs::NamedDate::split_year))]
@@ -34,9 +34,7 @@ fn date_by_weekday(parts: &DateParts, year_there: Option<i32>) -> Result<Date, T
         (option_or (by_iso_week parts.now)
         (option_or (by_sunday_week parts.now) (by_monday_week parts.now)))) }
 {
-    let Some(weekday) = parts.weekday else {
-        return Err(TryFromParsed::InsufficientInformation);
-    };
+    let weekday = parts.weekday.ok_or(InsufficientInformation)?;
     if let (Some(year), Some(week)) = (year(&parts.iso_year), parts.iso_week) {
         return Ok(named_day::iso_week_date(year, week, weekday)?);
     }
@@ -46,7 +44,7 @@ fn date_by_weekday(parts: &DateParts, year_there: Option<i32>) -> Result<Date, T
     if let (Some(year), Some(week)) = (year_there, parts.monday_week) {
         return Ok(named_day::monday_week_date(year, week, weekday)?);
     }
-    Err(TryFromParsed::InsufficientInformation)
+    Err(InsufficientInformation)
 }
 
 /// The date of the first group of parts that is wholly there; `InsufficientInformation` where none is.

@@ -6,7 +6,7 @@ use Rattle.parsing_combinator.specs.Tame.{EndsWith, Leaves}
 use Rattle.parsing_combinator.proofs.lemmas.Tame.{whole_end, joined, dropped, after_one}
 use Rattle.parsing_rfc2822.specs.Reading.{spaced_colon}
 use Rattle.parsing_rfc2822.specs.Skips.{Skip, byte_where, past_all, past_some, then_skip, either, rest_or, optional, more_or, up_to, many, past}
-use Rattle.parsing_rfc2822.specs.WhiteSpace.{unless, lone_white, line_end, folded_line, refused_if_there, unless_line_end, folded_blanks, folding_white_space, past_line_ends, obsolete_byte, past_obsolete_text, past_quoted, quoted_pair, content_by, comment, white_or_comment, comments_and_white_space}
+use Rattle.parsing_rfc2822.specs.WhiteSpace.{unless, lone_white, line_end, folded_line, refused_if_there, unless_line_end, folded_blanks, folding_white_space, past_line_ends, obsolete_byte, past_obsolete_text, past_quoted, quoted_pair, content_by, comment, content, white_or_comment, comments_and_white_space}
 
 -- a skip leaves the end of the bytes
 abbrev pub Ends : List ℕ → Option (List ℕ) → Type 0
@@ -110,6 +110,10 @@ pub comment_ends : (level : ℕ) → IsEnding (comment level)
 unfolding comment
 comment_ends zero bytes between h = tt
 comment_ends (suc level) bytes between h = search (ending, content_ends, comment_ends level) depth 9
+
+pub contents_ends : (level : ℕ) → IsEnding (content level)
+unfolding content
+contents_ends level = content_ends (comment level) (comment_ends level)
 
 pub white_ends : IsEnding white_or_comment
 unfolding white_or_comment

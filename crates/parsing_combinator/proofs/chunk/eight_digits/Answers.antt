@@ -1,24 +1,19 @@
 use Rattle.std.proofs.Common.{arith}
-use Rattle.parsing_combinator.proofs.DigitChunks.{eight_read}
+use Rattle.parsing_combinator.proofs.DigitChunks.{eight_said}
 use Rattle.parsing_combinator.proofs.chunk.eight_digits.Goals as goal
 
-pub paired-pairs-requires : goal.paired-pairs-requires
-paired-pairs-requires c =
+pub pairs-first-requires : goal.pairs-first-requires
+pairs-first-requires c =
     let t = c.in_ok-digits.ensures in
-    let e = c.in_ok-chunk.ensures.chunk in
-    let r = eight_read c.args.bytes.now c.in_ok-chunk.ensures.enough (λ k. omega (arith, c.type_inv.bytes k)) (rw (← e) t.here) (rw (← e) t.more) in
-    rw (t.above, e) r.small
+    (eight_said _ _ _ c.in_ok-chunk.ensures.chunk c.in_ok-chunk.ensures.enough (λ k. omega (arith, c.type_inv.bytes k)) t.above t.digits).low
 
-pub returns-clause-digits : goal.returns-clause-digits
-returns-clause-digits c =
+pub pairs-third-requires : goal.pairs-third-requires
+pairs-third-requires c =
     let t = c.in_ok-digits.ensures in
-    let e = c.in_ok-chunk.ensures.chunk in
-    let r = eight_read c.args.bytes.now c.in_ok-chunk.ensures.enough (λ k. omega (arith, c.type_inv.bytes k)) (rw (← e) t.here) (rw (← e) t.more) in
-    rw (c.paired-pairs.ensures, t.above, e, c.in_ok-chunk.ensures.rest) r.reads
+    (eight_said _ _ _ c.in_ok-chunk.ensures.chunk c.in_ok-chunk.ensures.enough (λ k. omega (arith, c.type_inv.bytes k)) t.above t.digits).high
 
-pub returns-clause-bound : goal.returns-clause-bound
-returns-clause-bound c =
+pub returns : goal.returns
+returns c =
     let t = c.in_ok-digits.ensures in
-    let e = c.in_ok-chunk.ensures.chunk in
-    let r = eight_read c.args.bytes.now c.in_ok-chunk.ensures.enough (λ k. omega (arith, c.type_inv.bytes k)) (rw (← e) t.here) (rw (← e) t.more) in
-    rw (c.paired-pairs.ensures, t.above, e) r.bound
+    let e = eight_said _ _ _ c.in_ok-chunk.ensures.chunk c.in_ok-chunk.ensures.enough (λ k. omega (arith, c.type_inv.bytes k)) t.above t.digits in
+    record { digits = grind (arith, e.reads); bound = let l = e.low in let h = e.high in omega (arith, l.first, l.second, l.third, l.fourth, h.first, h.second, h.third, h.fourth) }

@@ -6,17 +6,14 @@ pub overflow_mul-value : goal.overflow_mul-value
 overflow_mul-value c = omega (arith, below_most 9 c.loop-b.b-index c.loop-b.value (omega (arith, c.requires.short)) c.loop-b.invariant.1)
 
 pub overflow_sub-b : goal.overflow_sub-b
-overflow_sub-b c =
-    let n = next_digit c.args.prefix.now c.loop-b.b-index c.loop-b.value (omega (arith, c.requires.short)) c.requires.all c.loop-b-test.true c.loop-b.invariant.0 c.loop-b.invariant.1 in
-    n.low
+overflow_sub-b c = (next_digit _ _ _ (omega (arith, c.requires.short)) c.requires.all c.loop-b-test.true c.loop-b.invariant.0 c.loop-b.invariant.1).low
 
 pub overflow_add-value : goal.overflow_add-value
 overflow_add-value c =
-    let fits = below_most 9 c.loop-b.b-index c.loop-b.value (omega (arith, c.requires.short)) c.loop-b.invariant.1 in
-    let n = next_digit c.args.prefix.now c.loop-b.b-index c.loop-b.value (omega (arith, c.requires.short)) c.requires.all c.loop-b-test.true c.loop-b.invariant.0 c.loop-b.invariant.1 in
-    omega (arith, fits, n.high, c.from.ensures)
+    let n = next_digit _ _ _ (omega (arith, c.requires.short)) c.requires.all c.loop-b-test.true c.loop-b.invariant.0 c.loop-b.invariant.1 in
+    omega (arith, below_most 9 c.loop-b.b-index c.loop-b.value (omega (arith, c.requires.short)) c.loop-b.invariant.1, n.high, c.from.ensures)
 
 pub loop-b-preserved : goal.loop-b-preserved
 loop-b-preserved c =
-    let n = next_digit c.args.prefix.now c.loop-b.b-index c.loop-b.value (omega (arith, c.requires.short)) c.requires.all c.loop-b-test.true c.loop-b.invariant.0 c.loop-b.invariant.1 in
+    let n = next_digit _ _ _ (omega (arith, c.requires.short)) c.requires.all c.loop-b-test.true c.loop-b.invariant.0 c.loop-b.invariant.1 in
     rw c.from.ensures (n.more, n.bound)

@@ -1,15 +1,11 @@
-use Rattle.std.proofs.Common.{ℕ, List, [], Option, ap, ◌∙◌}
-use Rattle.std.specs.Option.{unwrap_or}
-use Rattle.parsing_combinator.proofs.FractionDigits.{fraction_of_nine}
-use Rattle.parsing_values.proofs.DigitLemmas.{none_of_nothing}
+use Rattle.std.proofs.Common.{length, sym, ap, ◌∙◌, arith}
+use Rattle.std.specs.Str.Parse.{digits_value}
+use Rattle.parsing_combinator.specs.Pieces.{digit_count}
+use Rattle.parsing_values.proofs.lemmas.Decimals.{decimal_count, decimal_length, decimal_value}
 use Rattle.parsing_values.proofs.fraction.Fraction.nanosecond.Goals as goal
 
-pub unreachable-requires : goal.unreachable-requires
-unreachable-requires c =
-    let read = c.in-None.ensures.cut ∙ fraction_of_nine c.digits.result c.args.self [] c.digits.ensures.digits none_of_nothing in
-    cc
+pub number-requires-clause-all : goal.number-requires-clause-all
+number-requires-clause-all c = ap digit_count c.digits.ensures.text ∙ decimal_count 9 c.args.self ∙ sym (ap length c.digits.ensures.text ∙ decimal_length 9 c.args.self)
 
 pub returns-clause-value : goal.returns-clause-value
-returns-clause-value c =
-    let read = c.in-Some.ensures.cut ∙ fraction_of_nine c.digits.result c.args.self [] c.digits.ensures.digits none_of_nothing in
-    ap (λ (o : Option (ℕ × List ℕ)). (unwrap_or o (0, [])).0) read
+returns-clause-value c = c.number.ensures.value ∙ ap (digits_value 10) c.digits.ensures.text ∙ decimal_value 9 c.args.self (omega (arith, c.digits.ensures.bound))
