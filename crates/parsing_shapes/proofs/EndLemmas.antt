@@ -55,7 +55,7 @@ end_fits w ps e =
 
 -- ---- it takes an offset, or none
 
-all_spared : (w : Window) (lane count k : ℕ) → spares_from w lane count ≡ true → lane ≤ k → k < lane + count → 128 ≤ get_or w.taken.lanes k 0
+pub all_spared : (w : Window) (lane count k : ℕ) → spares_from w lane count ≡ true → lane ≤ k → k < lane + count → 128 ≤ get_or w.taken.lanes k 0
 all_spared w lane zero k e low high = absurd (omega (arith, low, high))
 all_spared w lane (suc count) k e low high =
     let b = both (spares w lane) (spares_from w (lane + 1) count) e in

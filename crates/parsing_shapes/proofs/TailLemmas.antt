@@ -10,7 +10,6 @@ use Rattle.parsing_values.specs.Written.{WriteFraction}
 use Rattle.parsing_places.specs.Lanes.{above}
 use Rattle.parsing_places.specs.Last.{HaveEnd, HaveFraction}
 use Rattle.parsing_places.specs.Shape.{Takes}
-use Rattle.parsing_places.specs.Tail.{LetsByte, TakesSigned, TakesZulu, TakesFraction, is_fraction, is_zulu}
 use Rattle.parsing_places.specs.Windows.{LetsIn}
 use Rattle.parsing_places.specs.declared.ending.Ending.{Ending}
 use Rattle.parsing_places.specs.declared.ending.Ending.TheVariants.{Zulu, Colon, Plain}
@@ -22,7 +21,7 @@ use Rattle.parsing_layout.specs.declared.parts.Field.{Field}
 use Rattle.parsing_layout.specs.declared.parts.Part.{Part}
 use Rattle.parsing_layout.specs.declared.parts.Field.TheVariants as field
 use Rattle.parsing_layout.specs.declared.parts.Part.TheVariants as part
-use Rattle.parsing_shapes.specs.Tail.{TakesEnd, TakesEndDigits, TakesOffset, FitsEnd, SparesOffset, IsEnd, fraction_parts, zone_parts}
+use Rattle.parsing_shapes.specs.Tail.{TakesEnd, TakesEndDigits, FitsEnd, SparesOffset, IsEnd, fraction_parts, is_fraction}
 use Rattle.parsing_layout.proofs.LayoutLemmas.{says_there}
 use Rattle.parsing_shapes.proofs.TakenLemmas.{literal_there, sign_read}
 
@@ -48,64 +47,6 @@ fraction_says text place end (suc count) nanosecond v is all room point w =
 -- no digits write 0
 pub none_written : (bytes : List ℕ) (count n : ℕ) → count ≡ 0 → WriteFraction bytes count n → n ≡ 0
 none_written bytes count n e w = w.value ∙ rw e refl
-
-module _ (w : Window) (text digits : List ℕ) (at count : ℕ) (takes : TakesFraction w at count) (h : HaveEnd w text (length text) digits) where
-  pub fraction_taken : 16 ≤ length text → HaveFraction text (length text - 16 + at - count) count digits
-  fraction_taken long = record {
-    few = takes.few;
-    each = λ k lt.
-        let place : length text - 16 + (at - count + k) ≡ length text - 16 + at - count + k = omega (arith, takes.room) in
-        rw place at (h.taken k (at - count + k) 9 (omega (arith, lt, takes.few)) (lit≤ tt) (takes.each k lt));
-    zeros = λ k le lt. h.none k lt (takes.nothing k le lt);
-  }
-
-  pub digits_few : 16 ≤ length text → (k : ℕ) → k < 16 → get_or digits k 0 ≤ 9
-  digits_few long k lt = elim (cases_lt k count) [
-    | inl there ↦ ((fraction_taken long).each k there).few
-    | inr past ↦ omega (arith, (fraction_taken long).zeros k past lt)
-  ]
-
--- ---- the ends of tails
-
-pub lets_byte : (w : Window) (place byte : ℕ) → LetsByte w place byte → LetsIn w place byte 0
-lets_byte w place byte l = record { inside = l.inside; low_is = l.low; high_is = omega (arith, l.high) }
-
-zulu_fits : (w : Window) → TakesZulu w → FitsEnd w (zone_parts Zulu)
-zulu_fits w z = record { few = lit≤ tt; taken = ((lit< tt, lets_byte w 15 90 z.zulu), tt) }
-
-sign_taken : (w : Window) (width place : ℕ) → TakesSigned width w place → TakesEnd w part.Sign place
-sign_taken w width place t = (t.alone, t.sign_is, record { inside = omega (arith, t.end); low_is = t.sign_low; high_is = t.sign_high })
-
-pub zone_fits : (e : Ending) (w : Window) → (e ≡ Zulu → TakesZulu w) → (e ≡ Colon → TakesSigned 1 w 10) → (e ≡ Plain → TakesSigned 0 w 11) → FitsEnd w (zone_parts e)
-zone_fits Zulu w z c p = zulu_fits w (z refl)
-zone_fits Colon w z c p = let t = c refl in record { few = lit≤ tt; taken = (sign_taken w 1 10 t, ((refl, t.hour_tens, t.hour_ones), ((lit< tt, lets_byte w 13 58 (t.colon (lit< tt))), ((refl, t.minute_tens, t.minute_ones), tt)))) }
-zone_fits Plain w z c p = let t = p refl in record { few = lit≤ tt; taken = (sign_taken w 0 11 t, ((refl, t.hour_tens, t.hour_ones), ((refl, t.minute_tens, t.minute_ones), tt))) }
-
-offset_taken : (w : Window) (width place : ℕ) → TakesSigned width w place → TakesOffset w
-offset_taken w width place t = record {
-  hour = place + 1;
-  hour_next = place + 2;
-  minute = place + width + 3;
-  minute_next = place + width + 4;
-  sign = place;
-  hour_tens = t.hour_tens;
-  hour_ones = t.hour_ones;
-  minute_tens = t.minute_tens;
-  minute_ones = t.minute_ones;
-  alone = t.alone;
-  sign_is = t.sign_is;
-  lets = record { inside = omega (arith, t.end); low_is = t.sign_low; high_is = t.sign_high };
-}
-
-pub zone_offset : (e : Ending) (w : Window) → (e ≡ Zulu → TakesZulu w) → (e ≡ Colon → TakesSigned 1 w 10) → (e ≡ Plain → TakesSigned 0 w 11) → SparesOffset w ⊎ TakesOffset w
-zone_offset Zulu w z c p = inl (z refl).nothing
-zone_offset Colon w z c p = inr (offset_taken w 1 10 (c refl))
-zone_offset Plain w z c p = inr (offset_taken w 0 11 (p refl))
-
-pub zulu_spares : (e : Ending) (w : Window) → (e ≡ Zulu → TakesZulu w) → is_zulu e ≡ true → SparesOffset w
-zulu_spares Zulu w z is = (z refl).nothing
-zulu_spares Colon w z is = absurd cc
-zulu_spares Plain w z is = absurd cc
 
 pub is_some : (bytes : ℕ) → (bytes ≡ 1 → ⊥) → bytes ≤ 10 → is_fraction bytes ≡ true
 is_some bytes more few = grind (arith, nat_tests)

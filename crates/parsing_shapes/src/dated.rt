@@ -12,7 +12,8 @@ use crate::moment::{long_fraction, tailed_sums_of, with_last};
 use crate::numbers::Numbers;
 use crate::shape::Shape;
 use crate::sums::Sums;
-use parsing_places::{Ending, LANES, Window, ending_of, fraction_of, length_of, signed, tail_of};
+use crate::tails::{length_of, tail_of};
+use parsing_places::{Ending, LANES, Window, ending_of, fraction_of, signed};
 use parsing_values::{Fraction, Year};
 
 // A second, if there is one, and else 0.

@@ -1,5 +1,5 @@
 //! The fields of a text, whose numbers are all read at once.
-ghost use Rattle.std.specs.Prelude.{◌≡◌, ◌≤◌, ◌<◌, ◌+◌, ◌-◌, ℕ, drop, get_or, length, false, true, IfSome, List};
+ghost use Rattle.std.specs.Prelude.{◌≡◌, ◌≤◌, ◌<◌, ◌+◌, ◌-◌, drop, length, set, true, IfSome, List};
 ghost use Rattle.parsing_values.specs.Written.{WriteFraction};
 ghost use Rattle.parsing_places.specs.Last.{HaveEnd};
 ghost use Rattle.parsing_places.specs.Shape.{with_moves};
@@ -49,8 +49,7 @@ pub(crate) fn tailed_sums_of(
 /// The lowest bytes of a window, with another one at its last place.
 #[inline(always)]
 pub(crate) fn with_last(low: [u8; LANES], last: u8) -> [u8; LANES]
-    ensures there { get_or result 15 0 ≡ last }
-    ensures others { (k : ℕ) → k < 15 → get_or result k 0 ≡ get_or low k 0 }
+    ensures { result ≡ set low 15 last }
 {
     let mut low = low;
     low[LANES - 1] = last;

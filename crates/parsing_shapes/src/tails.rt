@@ -1,11 +1,9 @@
 //! The tails, by how many bytes they have and by how an offset is written.
 ghost use Rattle.std.specs.Prelude.{◌≡◌, ◌≤◌, ◌+◌, true, IfSome};
-ghost use Rattle.parsing_places.specs.Tail.{is_fraction, offset_at, tail_row};
+ghost use Rattle.parsing_shapes.specs.Tail.{is_fraction, offset_at, tail_row};
 
-use crate::ending::Ending;
-use crate::lanes::{LANES, Moves};
-use crate::shape::Window;
 use crate::tail::Tail;
+use parsing_places::{Ending, LANES, Moves, Window};
 
 // Three rows for each number of bytes after the prefix of a text: for `Z`, for an offset without a colon, and for one with it.
 // Before the offset there is nothing, or a point and one to nine digits. Where it can't be so, the last byte has to be one that
@@ -218,7 +216,7 @@ fn row_of(ending: Ending) -> usize
 
 /// How many bytes an offset has.
 #[inline(always)]
-pub fn length_of(ending: Ending) -> usize
+pub(crate) fn length_of(ending: Ending) -> usize
     ensures length { result + offset_at ending ≡ LANES }
     ensures bound { result ≤ 6 }
 {
@@ -254,7 +252,7 @@ fn tail_at(ending: Ending, bytes: usize) -> Tail
 
 /// The tail of so many bytes, if there can be one, with a fraction of at most nine digits.
 #[inline(always)]
-pub fn tail_of(ending: Ending, bytes: usize) -> Option<Tail>
+pub(crate) fn tail_of(ending: Ending, bytes: usize) -> Option<Tail>
     ensures ending { IfSome result (λ t. t.ending ≡ ending) }
     ensures bytes { IfSome result (λ t. is_fraction t.fraction ≡ true
         → bytes + offset_at ending ≡ LANES + t.fraction) }
