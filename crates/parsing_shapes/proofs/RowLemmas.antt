@@ -24,9 +24,9 @@ digits_right n g few kind =
 
 -- what is so of a row for so many bytes, of which an offset has so many; the rest, for a fraction, is a number of 64 bits
 abbrev Right : Ending → ℕ → ℕ → ℕ → Type 0
-Right e g size n = (p : are_moves (offset_lanes g) ≡ true) (q : are_moves (digit_lanes n g) ≡ true)
-    → is_row (record { low = get_or TABLES.low (3 * n + g) []; high = get_or TABLES.above (3 * n + g) []; taken = record { lanes = offset_lanes g; right = p } })
-    (record { lanes = digit_lanes n g; right = q }) e ((n + (18446744073709551616 - size)) % 18446744073709551616) ≡ true
+Right e g size n = (r : (are_moves (offset_lanes g) ≡ true) × (are_moves (digit_lanes n g) ≡ true))
+    → is_row (record { low = get_or TABLES.low (3 * n + g) []; high = get_or TABLES.above (3 * n + g) []; taken = record { lanes = offset_lanes g; right = r.0 } })
+    (record { lanes = digit_lanes n g; right = r.1 }) e ((n + (18446744073709551616 - size)) % 18446744073709551616) ≡ true
 
 -- a fact of each number below one, the last one first
 abbrev Each : (ℕ → Type 0) → ℕ → Type 0
@@ -41,94 +41,19 @@ each_at P (suc n) k h lt = elim (cases_lt k n) [
 ]
 
 zulu_rows : Each (Right Zulu 0 1) 17
-zulu_rows = (
-  λ p q. refl,
-  (
-    λ p q. refl,
-    (
-      λ p q. refl,
-      (
-        λ p q. refl,
-        (
-          λ p q. refl,
-          (
-            λ p q. refl,
-            (
-              λ p q. refl,
-              (
-                λ p q. refl,
-                (
-                  λ p q. refl,
-                  (λ p q. refl, (λ p q. refl, (λ p q. refl, (λ p q. refl, (λ p q. refl, (λ p q. refl, (λ p q. refl, (λ p q. refl, tt)))))))),
-                ),
-              ),
-            ),
-          ),
-        ),
-      ),
-    ),
-  ),
-)
+zulu_rows =
+    let low : Each (Right Zulu 0 1) 8 = (λ r. refl, (λ r. refl, (λ r. refl, (λ r. refl, (λ r. refl, (λ r. refl, (λ r. refl, (λ r. refl, tt)))))))) in
+    (λ r. refl, (λ r. refl, (λ r. refl, (λ r. refl, (λ r. refl, (λ r. refl, (λ r. refl, (λ r. refl, (λ r. refl, low)))))))))
 
 plain_rows : Each (Right Plain 1 5) 17
-plain_rows = (
-  λ p q. refl,
-  (
-    λ p q. refl,
-    (
-      λ p q. refl,
-      (
-        λ p q. refl,
-        (
-          λ p q. refl,
-          (
-            λ p q. refl,
-            (
-              λ p q. refl,
-              (
-                λ p q. refl,
-                (
-                  λ p q. refl,
-                  (λ p q. refl, (λ p q. refl, (λ p q. refl, (λ p q. refl, (λ p q. refl, (λ p q. refl, (λ p q. refl, (λ p q. refl, tt)))))))),
-                ),
-              ),
-            ),
-          ),
-        ),
-      ),
-    ),
-  ),
-)
+plain_rows =
+    let low : Each (Right Plain 1 5) 8 = (λ r. refl, (λ r. refl, (λ r. refl, (λ r. refl, (λ r. refl, (λ r. refl, (λ r. refl, (λ r. refl, tt)))))))) in
+    (λ r. refl, (λ r. refl, (λ r. refl, (λ r. refl, (λ r. refl, (λ r. refl, (λ r. refl, (λ r. refl, (λ r. refl, low)))))))))
 
 colon_rows : Each (Right Colon 2 6) 17
-colon_rows = (
-  λ p q. refl,
-  (
-    λ p q. refl,
-    (
-      λ p q. refl,
-      (
-        λ p q. refl,
-        (
-          λ p q. refl,
-          (
-            λ p q. refl,
-            (
-              λ p q. refl,
-              (
-                λ p q. refl,
-                (
-                  λ p q. refl,
-                  (λ p q. refl, (λ p q. refl, (λ p q. refl, (λ p q. refl, (λ p q. refl, (λ p q. refl, (λ p q. refl, (λ p q. refl, tt)))))))),
-                ),
-              ),
-            ),
-          ),
-        ),
-      ),
-    ),
-  ),
-)
+colon_rows =
+    let low : Each (Right Colon 2 6) 8 = (λ r. refl, (λ r. refl, (λ r. refl, (λ r. refl, (λ r. refl, (λ r. refl, (λ r. refl, (λ r. refl, tt)))))))) in
+    (λ r. refl, (λ r. refl, (λ r. refl, (λ r. refl, (λ r. refl, (λ r. refl, (λ r. refl, (λ r. refl, (λ r. refl, low)))))))))
 
 right : (e : Ending) (n : ℕ) → n ≤ 16 → Right e (tail_row e) (16 - offset_at e) n
 right Zulu n few = each_at (Right Zulu 0 1) 17 n zulu_rows (omega (arith, few))
