@@ -3,4 +3,3 @@ pub mod LaneLemmas
 mod LastLemmas
 pub mod NumberLemmas
 pub mod ReadLemmas
-pub mod SumLemmas

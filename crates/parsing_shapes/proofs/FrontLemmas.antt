@@ -12,21 +12,20 @@ use Rattle.parsing_combinator.proofs.Fixed.{digits_one, digits_two}
 use Rattle.parsing_combinator.proofs.Longest.{taken_exactly}
 use Rattle.parsing_combinator.proofs.SpaceLemmas.{taken_spaced}
 use Rattle.parsing_places.proofs.NumberLemmas.{one_taken, byte_within}
-use Rattle.parsing_shapes.specs.Beside.{AreRead, HasSpaced, ReadAt, is_at, is_beside, is_fraction_at, is_ready, has_digits, has_room, stands, takes_ones}
+use Rattle.parsing_shapes.specs.Beside.{AreRead, HasSpaced, ReadAt, is_beside, is_fraction_at, is_ready, has_digits, has_room, stands, takes_ones}
 use Rattle.parsing_shapes.specs.Front.{fits_beside, takes_beside}
 use Rattle.parsing_layout.specs.Layout.{Values, Says, field_of, piece_of, value_at, value_of, width}
 use Rattle.parsing_layout.specs.declared.parts.Field.{Field}
 use Rattle.parsing_layout.specs.declared.parts.Part.{Part}
-use Rattle.parsing_shapes.specs.Shape.{lane_values, number_in, own, pair_of}
+use Rattle.parsing_shapes.specs.Shape.{is_at, lane_values, number_in, pair_of, taker_of}
 use Rattle.parsing_shapes.specs.Sums.{AreSums}
-use Rattle.parsing_shapes.specs.Windows.{lets_at, spares_one, takes_one}
+use Rattle.parsing_places.specs.Windows.{lets_at, spares_one, takes_one}
 use Rattle.parsing_shapes.specs.declared.front.Beside.{Beside}
 use Rattle.parsing_layout.specs.declared.parts.Field.TheVariants as field
 use Rattle.parsing_layout.specs.declared.parts.Names.TheVariants as names
 use Rattle.parsing_layout.specs.declared.parts.Part.TheVariants as part
 use Rattle.parsing_shapes.specs.declared.shape.Shape.{Shape}
-use Rattle.parsing_shapes.proofs.TakenLemmas.{part_at, taken_say}
-use Rattle.parsing_shapes.proofs.WindowLemmas.{digit_there, lets_there, spare_one}
+use Rattle.parsing_shapes.proofs.TakenLemmas.{paired_first, shape_part, taken_say}
 use Rattle.parsing_layout.proofs.TestLemmas.{at_most, both, otherwise, same, when}
 
 -- what a text says by its front
@@ -85,16 +84,16 @@ module _ (s : Shape) (b : Beside) (text : List ℕ) (d m o t : ℕ) (x : AreSums
   stand_at (part.Fraction count) at e = digits_there b.fraction text nanosecond count at e fraction
   stand_at p at e = absurd cc
 
-  by_kind : (beside : Bool) (p : Part) (at : ℕ) → is_beside b (field_of p) ≡ beside → takes_beside s b p at ≡ true → piece_of p (drop at text) ≡ Some (value_of p values, drop (at + width p) text)
+  by_kind : (beside : Bool) (p : Part) (at : ℕ) → is_beside b (field_of p) ≡ beside → takes_beside (taker_of s) b p at ≡ true → piece_of p (drop at text) ≡ Some (value_of p values, drop (at + width p) text)
   unfolding takes_beside
   by_kind true p at is e = stand_at p at (when _ _ _ is e)
   by_kind false p at is e =
-      part_at s text x.front x.both x.n year nanosecond x.front_taken x.own_lane x.paired small long year_is even p at (otherwise _ _ _ is e)
+      shape_part s text x.front x.both x.n year nanosecond x.front_taken x.own_lane x.paired small long year_is even p at (otherwise _ _ _ is e)
       ∙ ap (λ (k : ℕ). Some (k, drop (at + width p) text)) (same_value (field_of p) is)
 
   -- the central lemma of fronts
   pub front_says : (ps : List Part) → fits_beside s b ps ≡ true → Says ps text values (drop s.length text)
-  front_says ps e = taken_say (takes_beside s b) text values s.length (λ p at. by_kind (is_beside b (field_of p)) p at refl) ps e
+  front_says ps e = taken_say (takes_beside (taker_of s) b) text values s.length (λ p at. by_kind (is_beside b (field_of p)) p at refl) ps e
 
 -- ---- a day of two bytes, the first of which may be a space
 
@@ -142,10 +141,6 @@ day_spaced text place other h (inr is) =
 
 -- ---- what a front has room for
 
-day_own : (has_tail : Bool) → own has_tail 1 ≡ true
-day_own true = refl
-day_own false = refl
-
 module _ (s : Shape) (b : Beside) (ready : is_ready s b ≡ true) where
   rooms : (has_room s.length b.month ≡ true) × (has_room s.length b.weekday ≡ true) × (takes_ones s.windows b.day ≡ true) × (has_digits s.length b.fraction ≡ true)
   rooms =
@@ -190,8 +185,6 @@ module _ (s : Shape) (b : Beside) (ready : is_ready s b ≡ true) where
         let w = s.windows in
         let a = both (spares_one w 2) (lets_at w place 32 25 && takes_one w 3 (place + 1) 9) day_taken in
         let e = both (lets_at w place 32 25) (takes_one w 3 (place + 1) 9) a.1 in
-        let tens = byte_within w text x.front place 32 25 x.front_taken small (lets_there w place 32 25 e.0) (lit< tt) in
-        let same_two = x.own_lane 1 (lit< tt) (day_own s.has_tail) in
-        let ones = one_taken w text x.front x.n x.front_taken 1 (place + 1) (lit< tt) (spare_one w 2 a.0) (digit_there w 3 (place + 1) 9 e.1)
-        (λ p q. (omega (arith, x.paired 1 (lit< tt) (omega (arith, p, same_two.0)) (omega (arith, q, same_two.1)), same_two.0, same_two.1))) in
+        let tens = byte_within w text x.front x.front_taken small place 32 25 e.0 (lit< tt) in
+        let ones = one_taken w text x.front x.front_taken small x.n 1 (place + 1) (lit< tt) a.0 e.1 (paired_first (taker_of s) text x.front x.both x.n x.front_taken small x.own_lane x.paired 1 (lit< tt) refl) in
         (record { room = omega (arith, ones.room); first_low = tens.0; first_high = tens.1; second_low = ones.digit.low; second_high = ones.digit.high }, omega (arith, x.days_are, x.few.month, ones.is))

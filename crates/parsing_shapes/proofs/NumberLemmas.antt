@@ -8,7 +8,7 @@ use Rattle.parsing_layout.specs.Layout.{length_of}
 use Rattle.parsing_layout.specs.declared.parts.Part.{Part}
 use Rattle.parsing_shapes.specs.Moment.{SaysTailed}
 use Rattle.parsing_shapes.specs.Numbers.{AreOfSums, SaysNumbers, second_if}
-use Rattle.parsing_shapes.specs.Shape.{fits, takes_all, takes_part}
+use Rattle.parsing_shapes.specs.Shape.{fits, taker_of, takes_all, takes_part}
 use Rattle.parsing_shapes.specs.Tail.{fraction_parts}
 use Rattle.parsing_shapes.specs.declared.numbers.Numbers.{Numbers}
 use Rattle.parsing_shapes.specs.declared.shape.Shape.{Shape}
@@ -20,7 +20,7 @@ use Rattle.parsing_layout.proofs.TestLemmas.{both, same}
 
 -- a shape is as long as its layout
 pub long_as : (s : Shape) (front : List Part) → fits s front ≡ true → s.length ≡ length_of front
-long_as s front e = sym (same (length_of front) s.length (both (takes_all (takes_part s) front 0) (length_of front == s.length) e).1)
+long_as s front e = sym (same (length_of front) s.length (both (takes_all (takes_part (taker_of s)) front 0) (length_of front == s.length) e).1)
 
 module _ (s : Shape) (w : Window) (moves : Moves) (zone : List Part) (is_utc : Bool) (text digits : List ℕ) (d m o t at taken : ℕ) (h : Whole s w moves zone is_utc text digits d m o t at taken) where
   pub numbers_said : (has_second : Bool) (nanosecond bytes : ℕ) (n : Numbers) (front : List Part) → AreOfSums n has_second text s.year d m o t nanosecond → fits s front ≡ true → IsPlaced s zone text bytes nanosecond → (bytes ≡ 1 → ⊥) → (has_second ≡ false → bytes ≡ 0)

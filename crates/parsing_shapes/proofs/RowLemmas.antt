@@ -1,5 +1,5 @@
 -- The rows of the table of tails: each fact is computed for each row.
-use Rattle.std.proofs.Common.{◌≡◌, ◌≤◌, ◌<◌, ◌+◌, ◌-◌, ◌*◌, ◌%◌, ℕ, zero, suc, Bool, true, List, [], get_or, refl, inl, inr, arith}
+use Rattle.std.proofs.Common.{◌≡◌, ◌≤◌, ◌<◌, ◌+◌, ◌-◌, ◌*◌, ◌%◌, ℕ, zero, suc, Bool, true, List, [], get_or, refl, sym, subst, inl, inr, arith}
 use Rattle.std.proofs.lemmas.Bool.{agree_below, agree_below_at, cases_lt}
 use Rattle.parsing_places.specs.Lanes.{are_moves}
 use Rattle.parsing_places.specs.declared.ending.Ending.{Ending}
@@ -63,4 +63,4 @@ right Colon n few = each_at (Right Colon 2 6) 17 n colon_rows (omega (arith, few
 pub row_there : (e : Ending) (n g size : ℕ) → n ≤ 16 → g ≡ tail_row e → size + offset_at e ≡ 16 → Right e g size n
 row_there e n g size few same whole =
     let is : size ≡ 16 - offset_at e = omega (arith, whole) in
-    rw (same, is) (right e n few)
+    subst (λ (k : ℕ). Right e k size n) (sym same) (subst (λ (z : ℕ). Right e (tail_row e) z n) (sym is) (right e n few))

@@ -5,26 +5,23 @@ use Rattle.std.proofs.lemmas.Bool.{agree_below, agree_below_at, cases_lt, le-ltb
 use Rattle.std.proofs.lemmas.Bool.Decides.{nat_tests}
 use Rattle.base.specs.Bytes.{dot, lower_z}
 use Rattle.parsing_values.specs.Written.{WriteFraction}
-use Rattle.parsing_places.specs.Last.{HaveEnd, HaveFraction}
-use Rattle.parsing_places.specs.Shape.{with_moves}
+use Rattle.parsing_places.specs.Last.{HaveEnd, HaveFraction, with_moves}
 use Rattle.parsing_places.specs.Tail.{is_zulu}
+use Rattle.parsing_places.specs.Windows.{lets}
 use Rattle.parsing_places.specs.declared.ending.Ending.{Ending}
 use Rattle.parsing_places.specs.declared.ending.Ending.TheVariants.{Zulu, Colon, Plain}
 use Rattle.parsing_places.specs.declared.lanes.Moves.{Moves}
 use Rattle.parsing_places.specs.declared.shape.Window.{Window}
-use Rattle.parsing_places.proofs.NumberLemmas.{in_window}
+use Rattle.parsing_places.proofs.NumberLemmas.{digit_in, in_window}
 use Rattle.parsing_layout.specs.Layout.{length_of}
 use Rattle.parsing_layout.specs.declared.parts.Part.{Part}
-use Rattle.parsing_layout.proofs.TestLemmas.{both, one, less, same, when, otherwise}
+use Rattle.parsing_layout.proofs.TestLemmas.{at_most, both, one, less, same, when, otherwise}
 use Rattle.parsing_shapes.specs.End.{fits_end, is_end_bounded, spares_clock}
 use Rattle.parsing_shapes.specs.Moment.{AreTaken, AreInRange}
-use Rattle.parsing_shapes.specs.Tail.{FitsEnd, SparesOffset, IsEnd, ending_in, is_fraction, is_row, is_tail, offset_at, other_end, small_parts, takes_digit, takes_fraction, zone_parts}
-use Rattle.parsing_shapes.specs.Windows.{lets, spares, takes}
+use Rattle.parsing_shapes.specs.Tail.{IsEnd, ending_in, is_fraction, is_row, is_tail, offset_at, other_end, small_parts, takes_digit, takes_fraction, zone_parts}
 use Rattle.parsing_shapes.specs.declared.shape.Shape.{Shape}
 use Rattle.parsing_shapes.specs.declared.tail.Tail.{Tail}
-use Rattle.parsing_shapes.proofs.EndLemmas.{all_spared, end_fits, end_is}
 use Rattle.parsing_shapes.proofs.MomentLemmas.{IsPlaced, in_range}
-use Rattle.parsing_shapes.proofs.WindowLemmas.{lets_in, spares_there, takes_there}
 
 -- an offset ends at the end of the window
 pub zone_length : (e : Ending) → length_of (zone_parts e) + offset_at e ≡ 16
@@ -62,7 +59,7 @@ pub of_tail : (s : Shape) (tail : Tail) (text digits : List ℕ) (d m o t : ℕ)
 of_tail s tail text digits d m o t tailed x f small sixteen zulu =
     let last : length text - 16 + 15 ≡ length text - 1 = omega (arith, sixteen) in
     let ok : is_fraction tail.fraction ≡ true = possible tail.ending (is_fraction tail.fraction) (get_or text (length text - 1) 0) zulu (λ none.
-    let never = lets_in tail.window 15 (other_end tail.ending) 0 (otherwise _ _ _ none tail.right) in
+    let never : lets tail.window 15 (other_end tail.ending) 0 ≡ true = otherwise _ _ _ none tail.right in
     let b = in_window tail.window text (length text - 16) 15 (other_end tail.ending) 0 small x.end_taken.lies never (end_small tail.ending) in
     let byte : get_or text (length text - 16 + 15) 0 ≡ other_end tail.ending = omega (arith, b.0, b.1) in
     rw last at byte) in
@@ -80,17 +77,14 @@ module _ (s : Shape) (w : Window) (moves : Moves) (zone : List Part) (is_utc : B
   ends : (fits_end w zone ≡ true) × ((spares_clock w && is_end_bounded w (not is_utc)) ≡ true)
   ends = both (fits_end w zone) (spares_clock w && is_end_bounded w (not is_utc)) (both _ _ h.is_tail).0
 
-  pub whole_fits : FitsEnd w zone
-  whole_fits = end_fits w zone ends.0
+  pub whole_fits : fits_end w zone ≡ true
+  whole_fits = ends.0
 
   pub whole_is_end : IsEnd w
-  whole_is_end = let b = both (spares_clock w) (is_end_bounded w (not is_utc)) ends.1 in end_is w (not is_utc) b.0 b.1
+  whole_is_end = let b = both (spares_clock w) (is_end_bounded w (not is_utc)) ends.1 in record { has_offset = not is_utc; clock = b.0; offset = b.1 }
 
-  pub whole_spares : is_utc ≡ true → SparesOffset w
-  whole_spares is =
-      let b = both (spares_clock w) (is_end_bounded w (not is_utc)) ends.1 in
-      let none : is_end_bounded w false ≡ true = rw is at b.1 in
-      λ k low high. all_spared w 8 6 k none low high
+  pub whole_spares : is_utc ≡ true → is_end_bounded w false ≡ true
+  whole_spares is = rw is at (both (spares_clock w) (is_end_bounded w (not is_utc)) ends.1).1
 
   pub whole_in_range : s.length ≤ length text → AreInRange text s.year d o t
   whole_in_range long = in_range s w text (length text) d m o t h.tail whole_is_end h.taken h.small long
@@ -115,8 +109,8 @@ module _ (s : Shape) (w : Window) (moves : Moves) (zone : List Part) (is_utc : B
     each = λ k lt.
         let place : length text - 16 + (at - (bytes - 1) + k) ≡ length text - 16 + at - (bytes - 1) + k = omega (arith, room) in
         let small : k < 16 = omega (arith, lt, few) in
-        rw place at (h.fraction_taken.taken k (at - (bytes - 1) + k) 9 small (lit≤ tt) (takes_there (with_moves w moves) k (at - (bytes - 1) + k) 9 (when _ _ _ (lt-ltb k (bytes - 1) lt) (lane k small))));
-    zeros = λ k le lt. h.fraction_taken.none k lt (spares_there (with_moves w moves) k (otherwise _ _ _ (le-ltb k (bytes - 1) le) (lane k lt)));
+        rw place at (digit_in (with_moves w moves) text digits (length text - 16) k (at - (bytes - 1) + k) 9 h.small h.fraction_taken small (lit≤ tt) (when _ _ _ (lt-ltb k (bytes - 1) lt) (lane k small)));
+    zeros = λ k le lt. h.fraction_taken.none k lt (at_most _ _ (otherwise _ _ _ (le-ltb k (bytes - 1) le) (lane k lt)));
   }
 
   pub all_few : (k : ℕ) → k < 16 → get_or digits k 0 ≤ 9
@@ -134,7 +128,7 @@ module _ (s : Shape) (w : Window) (moves : Moves) (zone : List Part) (is_utc : B
       elim (one (bytes == 0) (lets w (at - bytes) dot 0) (both _ _ point.0).1) as (λ _. get_or text s.length 0 ≡ dot) [
         | inl zero ↦ absurd (omega (arith, some, same bytes 0 zero))
         | inr lets_dot ↦
-            let b = in_window w text (length text - 16) (at - bytes) dot 0 h.small h.taken.end_taken.lies (lets_in w (at - bytes) dot 0 lets_dot) (lit< tt) in
+            let b = in_window w text (length text - 16) (at - bytes) dot 0 h.small h.taken.end_taken.lies lets_dot (lit< tt) in
             let byte : get_or text (length text - 16 + (at - bytes)) 0 ≡ dot = omega (arith, b.0, b.1) in
             rw place at byte
       ] in

@@ -1,8 +1,7 @@
 //! The fields of a text, whose numbers are all read at once.
 ghost use Rattle.std.specs.Prelude.{◌≡◌, ◌≤◌, ◌<◌, ◌+◌, ◌-◌, drop, length, set, true, IfSome, List};
 ghost use Rattle.parsing_values.specs.Written.{WriteFraction};
-ghost use Rattle.parsing_places.specs.Last.{HaveEnd};
-ghost use Rattle.parsing_places.specs.Shape.{with_moves};
+ghost use Rattle.parsing_places.specs.Last.{HaveEnd, with_moves};
 ghost use Rattle.parsing_places.specs.Tail.{is_written, is_zulu};
 ghost use Rattle.parsing_places.specs.declared.ending.Ending.{Ending};
 ghost use Rattle.parsing_layout.specs.declared.parts.Part.{Part};
@@ -31,15 +30,7 @@ pub(crate) fn tailed_sums_of(
     ensures fraction { IfSome result
         (λ x. HaveEnd (with_moves last.now fraction.now) text.now (length text.now) x.1) }
 {
-    let windows = &shape.windows;
-    let (fits, front, end, digits) = digits_of_whole(
-        &windows.prefix,
-        &windows.back,
-        windows.back_at,
-        last,
-        fraction,
-        text,
-    );
+    let (fits, front, end, digits) = digits_of_whole(&shape.windows, last, fraction, text);
     if !fits {
         return None;
     }

@@ -3,7 +3,7 @@ ghost use Rattle.std.specs.Prelude.{◌≡◌, ◌≤◌, drop, false, length, t
 ghost use Rattle.parsing_layout.specs.declared.parts.Part.{Part};
 ghost use Rattle.parsing_shapes.specs.Named.{SaysNamed};
 ghost use Rattle.parsing_shapes.specs.Shape.{fits};
-ghost use Rattle.parsing_shapes.specs.Windows.{spares_two};
+ghost use Rattle.parsing_places.specs.Windows.{spares_two};
 
 use crate::dated::numbers_of;
 use crate::shape::Shape;

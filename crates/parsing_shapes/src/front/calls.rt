@@ -1,14 +1,15 @@
 //! Fronts that are made for parts, and then checked.
 ghost use Rattle.std.specs.Prelude.{◌≡◌, ◌≤◌, ◌<◌, ◌+◌, true, IfSome, List};
-ghost use Rattle.parsing_shapes.specs.Beside.{has_digits, has_room, is_at, is_beside, is_fraction_at, is_ready, stands, takes_ones};
+ghost use Rattle.parsing_shapes.specs.Beside.{has_digits, has_room, is_beside, is_fraction_at, is_ready, stands, takes_ones};
 ghost use Rattle.parsing_shapes.specs.Front.{fits_beside, takes_beside};
 ghost use Rattle.parsing_layout.specs.Layout.{field_of, length_of};
-ghost use Rattle.parsing_shapes.specs.Shape.{takes_all};
+ghost use Rattle.parsing_shapes.specs.Shape.{taker_of, takes_all};
 
 use super::{Beside, Front};
-use crate::fits::{FAR, are_bounded, lets_at, lets_year, spares_one, takes_one, takes_part};
+use crate::fits::{FAR, are_bounded, is_at, lets_at, lets_year, spares_one, takes_one, takes_part};
 use crate::made::{Made, width};
 use crate::shape::Shape;
+use crate::taker::Taker;
 use parsing_layout::{Field, Names, Part, field_of};
 use parsing_places::LANES;
 
@@ -82,15 +83,6 @@ impl Beside {
     }
 }
 
-fn is_at(place: Option<usize>, at: usize) -> bool
-    ensures { result ≡ is_at place at }
-{
-    match place {
-        Some(place) => place == at,
-        None => false,
-    }
-}
-
 fn is_fraction_at(place: Option<(usize, usize)>, count: usize, at: usize) -> bool
     ensures { result ≡ is_fraction_at place count at }
 {
@@ -161,6 +153,19 @@ impl Shape {
             year,
         })
     }
+
+    // What takes the parts.
+    fn taker(&self) -> Taker
+        ensures { result ≡ taker_of self.now }
+    {
+        Taker {
+            windows: self.windows,
+            has_clock: true,
+            has_offset: !self.has_tail,
+            length: self.length,
+            year: Some(self.year),
+        }
+    }
 }
 
 impl Front {
@@ -168,18 +173,18 @@ impl Front {
     #[tactic(auto, unfolding(crate::specs::Front::takes_beside))]
     fn takes(&self, part: Part, place: usize) -> bool
         requires { place < FAR }
-        ensures { result ≡ true → takes_beside self.now.shape self.now.beside part place ≡ true }
+        ensures { result ≡ true → takes_beside (taker_of self.now.shape) self.now.beside part place ≡ true }
     {
         if self.beside.has(field_of(part)) {
             return self.beside.stands(part, place);
         }
-        takes_part(&self.shape, part, place)
+        takes_part(&self.shape.taker(), part, place)
     }
 
     // Whether all parts are taken or read that begin at a place, and end where the shape does.
     fn takes_all(&self, parts: &[Part], place: usize) -> bool
         ensures all { result ≡ true
-            → takes_all (takes_beside self.now.shape self.now.beside) parts.now place ≡ true }
+            → takes_all (takes_beside (taker_of self.now.shape) self.now.beside) parts.now place ≡ true }
         ensures end { result ≡ true → place + length_of parts.now ≡ self.now.shape.length }
     {
         let [part, others @ ..] = parts else {
