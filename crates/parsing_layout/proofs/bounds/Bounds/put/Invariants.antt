@@ -1,7 +1,7 @@
 use Rattle.std.proofs.Common.{ℕ, Bool, List}
 use Rattle.parsing_layout.specs.Bounds.{Admits}
 use Rattle.parsing_layout.specs.Stretch.{IsCut}
-use Rattle.parsing_layout.proofs.bounds.Bounds.after.Given as goal
+use Rattle.parsing_layout.proofs.bounds.Bounds.put.Given as goal
 
 -- of places that were not looked at nothing is said
 abbrev pub invariant-loop-place : goal.invariant-loop-place

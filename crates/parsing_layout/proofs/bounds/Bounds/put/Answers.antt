@@ -1,5 +1,5 @@
 use Rattle.parsing_layout.proofs.BoundsLemmas.{admits_set}
-use Rattle.parsing_layout.proofs.bounds.Bounds.after.Goals as goal
+use Rattle.parsing_layout.proofs.bounds.Bounds.put.Goals as goal
 
 pub loop-place-init : goal.loop-place-init
 loop-place-init c = λ whole line rest cut h.

@@ -1,6 +1,6 @@
 use Rattle.std.proofs.Common.{ℕ, Bool, List}
 use Rattle.parsing_layout.specs.Bounds.{Admits}
-use Rattle.parsing_layout.proofs.bounds.Bounds.of_both.Given as goal
+use Rattle.parsing_layout.proofs.bounds.Bounds.join.Given as goal
 
 -- of places that were not looked at nothing is said
 abbrev pub invariant-loop-place : goal.invariant-loop-place

@@ -1,5 +1,5 @@
 use Rattle.std.proofs.Common.{length}
-use Rattle.parsing_layout.proofs.bounds.Bounds.of_both.Goals as goal
+use Rattle.parsing_layout.proofs.bounds.Bounds.join.Goals as goal
 
 pub loop-place-init : goal.loop-place-init
 loop-place-init c = (
