@@ -102,15 +102,7 @@ fn spaced(text: &[u8]) -> Option<(u8, &[u8])>
 fn weekday_number(weekday: Weekday) -> u64
     ensures { result ≡ Layout.weekday_number weekday }
 {
-    match weekday {
-        Weekday::Monday => 1,
-        Weekday::Tuesday => 2,
-        Weekday::Wednesday => 3,
-        Weekday::Thursday => 4,
-        Weekday::Friday => 5,
-        Weekday::Saturday => 6,
-        Weekday::Sunday => 7,
-    }
+    u64::from(weekday as u8) + 1
 }
 
 // The number of a name.

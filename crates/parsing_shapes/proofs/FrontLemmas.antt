@@ -2,15 +2,11 @@
 use Rattle.std.proofs.Common.{◌≡◌, ◌≤◌, ◌<◌, ◌+◌, ◌-◌, ◌*◌, ◌/◌, ◌%◌, ◌∙◌, ◌&&◌, ◌==◌, ℕ, Bool, true, false, List, ◌∷◌, get_or, length, drop, Option, Some, None, refl, sym, ap, arith, lit<, leb, inl, inr, bit_and}
 use Rattle.std.specs.Prelude.{nat_le, is_some, ◌⊎◌}
 use Rattle.std.specs.Option.{ForSome}
-use Rattle.std.specs.Char.{is_ascii_digit}
 use Rattle.std.proofs.lemmas.Bool.Decides.{nat_tests}
-use Rattle.std.proofs.lemmas.List.{drop_more}
 use Rattle.std.proofs.lemmas.Nat.{and_mask}
 use Rattle.parsing_combinator.specs.Pieces.{digits}
-use Rattle.parsing_combinator.specs.Shape.{taken, spaced_between, is_space}
-use Rattle.parsing_combinator.proofs.Fixed.{digits_one, digits_two}
-use Rattle.parsing_combinator.proofs.Longest.{taken_exactly}
-use Rattle.parsing_combinator.proofs.SpaceLemmas.{taken_spaced}
+use Rattle.parsing_combinator.proofs.AtPlaces.{byte_there, two_there}
+use Rattle.parsing_combinator.specs.Places.{HasPair}
 use Rattle.parsing_places.proofs.NumberLemmas.{one_taken, byte_within}
 use Rattle.parsing_shapes.specs.Beside.{AreRead, HasSpaced, ReadAt, is_beside, is_fraction_at, is_ready, has_digits, has_room, stands, takes_ones}
 use Rattle.parsing_shapes.specs.Front.{fits_beside, takes_beside}
@@ -25,7 +21,8 @@ use Rattle.parsing_layout.specs.declared.parts.Field.TheVariants as field
 use Rattle.parsing_layout.specs.declared.parts.Names.TheVariants as names
 use Rattle.parsing_layout.specs.declared.parts.Part.TheVariants as part
 use Rattle.parsing_shapes.specs.declared.shape.Shape.{Shape}
-use Rattle.parsing_shapes.proofs.TakenLemmas.{paired_first, shape_part, taken_say}
+use Rattle.parsing_shapes.proofs.TakenLemmas.{one_digit, paired_first, shape_part, taken_say}
+use Rattle.parsing_layout.proofs.SpacedLemmas.{after_space, without_space}
 use Rattle.parsing_layout.proofs.TestLemmas.{at_most, both, otherwise, same, when}
 
 -- what a text says by its front
@@ -97,32 +94,6 @@ module _ (s : Shape) (b : Beside) (text : List ℕ) (d m o t : ℕ) (x : AreSums
 
 -- ---- a day of two bytes, the first of which may be a space
 
-is_digit : (c : ℕ) → 48 ≤ c → c ≤ 57 → is_ascii_digit c ≡ true
-is_digit c low high = grind (arith, nat_tests)
-
-at_least : (n m : ℕ) → n ≤ m → leb n m ≡ true
-at_least n m le = grind (arith, nat_tests)
-
-spaced_one : (c d : ℕ) (rest : List ℕ) → c ≡ 32 → 48 ≤ d → d ≤ 57 → taken (spaced_between 2 2) (c ∷ d ∷ rest) ≡ Some (d - 48, rest)
-spaced_one c d rest is low high =
-    let space : is_space c ≡ true = grind (arith, nat_tests) in
-    let other : is_space d ≡ false = grind (arith, nat_tests) in
-    let more : leb 1 (length (d ∷ rest)) ≡ true = at_least 1 (length (d ∷ rest)) (omega arith) in
-    let one : digits 1 (d ∷ rest) ≡ Some (d - 48, rest) = digits_one (d ∷ rest) ∙ rw (more, is_digit d low high) refl in
-    taken_spaced 2 2 (c ∷ d ∷ rest) (omega arith) ∙ rw (space, other) (taken_exactly 1 (d ∷ rest) ∙ one)
-
-spaced_two : (c d : ℕ) (rest : List ℕ) → 48 ≤ c → c ≤ 57 → 48 ≤ d → d ≤ 57 → taken (spaced_between 2 2) (c ∷ d ∷ rest) ≡ Some ((c - 48) * 10 + (d - 48), rest)
-spaced_two c d rest low high second_low second_high =
-    let other : is_space c ≡ false = grind (arith, nat_tests) in
-    let more : leb 2 (length (c ∷ d ∷ rest)) ≡ true = at_least 2 (length (c ∷ d ∷ rest)) (omega arith) in
-    let two : digits 2 (c ∷ d ∷ rest) ≡ Some ((c - 48) * 10 + (d - 48), rest) = digits_two (c ∷ d ∷ rest) ∙ rw (more, is_digit c low high, is_digit d second_low second_high) refl in
-    taken_spaced 2 2 (c ∷ d ∷ rest) (omega arith) ∙ rw other (taken_exactly 2 (c ∷ d ∷ rest) ∙ two)
-
-two_there : (text : List ℕ) (place : ℕ) → place + 2 ≤ length text → drop place text ≡ get_or text place 0 ∷ get_or text (place + 1) 0 ∷ drop (place + 2) text
-two_there text place room =
-    let second : place + 1 + 1 ≡ place + 2 = omega arith in
-    drop_more text place 0 (omega (arith, room)) ∙ ap (λ (xs : List ℕ). get_or text place 0 ∷ xs) (drop_more text (place + 1) 0 (omega (arith, room)) ∙ rw second refl)
-
 -- the low half of a byte
 low_half : (c : ℕ) → bit_and c 15 ≡ c % 16
 low_half c = and_mask c 4
@@ -130,14 +101,14 @@ low_half c = and_mask c 4
 pub day_spaced : (text : List ℕ) (place other : ℕ) → HasSpaced text place → (48 ≤ get_or text place 0) ⊎ (get_or text place 0 ≡ 32)
     → ReadAt (Some place) (part.Spaced field.Day) text other (bit_and (get_or text place 0) 15 * 10 + (get_or text (place + 1) 0 - 48))
 day_spaced text place other h (inl low) =
-    let c : ℕ = get_or text place 0 in
-    let tens : bit_and c 15 ≡ c - 48 = omega (arith, low_half c, low, h.first_high) in
-    rw tens (ap (taken (spaced_between 2 2)) (two_there text place h.room) ∙ spaced_two c (get_or text (place + 1) 0) (drop (place + 2) text) low h.first_high h.second_low h.second_high)
+    let tens : bit_and (get_or text place 0) 15 ≡ get_or text place 0 - 48 = omega (arith, low_half (get_or text place 0), low, h.first_high) in
+    let pair : HasPair text place = record { room = h.room; first = record { low = low; high = h.first_high }; second = record { low = h.second_low; high = h.second_high } } in
+    rw tens (without_space (drop place text) (drop (place + 2) text) _ (two_there text place pair))
 day_spaced text place other h (inr is) =
-    let c : ℕ = get_or text place 0 in
-    let d : ℕ = get_or text (place + 1) 0 in
-    let tens : bit_and c 15 * 10 + (d - 48) ≡ d - 48 = omega (arith, low_half c, is) in
-    rw tens (ap (taken (spaced_between 2 2)) (two_there text place h.room) ∙ spaced_one c d (drop (place + 2) text) is h.second_low h.second_high)
+    let tens : bit_and (get_or text place 0) 15 * 10 + (get_or text (place + 1) 0 - 48) ≡ get_or text (place + 1) 0 - 48 = omega (arith, low_half (get_or text place 0), is) in
+    let next : place + 1 + 1 ≡ place + 2 = omega arith in
+    let one = rw next at (one_digit text (place + 1) (omega (arith, h.room)) (record { low = h.second_low; high = h.second_high })) in
+    rw tens (after_space (drop place text) (drop (place + 1) text) (drop (place + 2) text) _ (byte_there text place 32 (omega (arith, h.room)) is) one)
 
 -- ---- what a front has room for
 

@@ -55,7 +55,7 @@ sign_read text place n lt low high is even =
     let same : n + 43 ≡ get_or text place 0 = omega arith in
     rw same (places.sign_there text place lt (is_sign (get_or text place 0) n low high is even))
 
-one_digit : (text : List ℕ) (place : ℕ) → place < length text → HasDigit text place → digits 1 (drop place text) ≡ Some (get_or text place 0 - 48, drop (place + 1) text)
+pub one_digit : (text : List ℕ) (place : ℕ) → place < length text → HasDigit text place → digits 1 (drop place text) ≡ Some (get_or text place 0 - 48, drop (place + 1) text)
 one_digit text place lt d =
     let long : leb 1 (length (drop place text)) ≡ true = at_least 1 (length (drop place text)) (omega (arith, length-drop place text, lt)) in
     digits_one (drop place text) ∙ rw (long, first_at text place, is_digit (get_or text place 0) d.low d.high, drop-drop 1 place text) refl
