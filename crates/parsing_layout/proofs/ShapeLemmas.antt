@@ -12,7 +12,7 @@ use Rattle.parsing_combinator.specs.Pieces.{Piece}
 use Rattle.parsing_combinator.specs.Shape.{Shape, or_before, greatest, prefix, taken, is_space, space_count, are_digits, digits_as, spaced_between}
 use Rattle.parsing_combinator.specs.Names.{compared, is_name, named}
 use Rattle.parsing_layout.specs.Stretch.{Begins, Leaves, name_stands}
-use Rattle.parsing_layout.proofs.TestLemmas.{at_most, both, less, same}
+use Rattle.parsing_layout.proofs.TestLemmas.{at_most, both, less}
 
 -- ---- bytes that can stand at places
 
@@ -84,23 +84,15 @@ digits_hold value n m least whole le exact text =
       (omega (arith, le, d.0), λ w. omega (arith, d.0, d.1.0, (exact w).0, (exact w).1)),
     ))
 
-or_right : (a b : Bool) → b ≡ true → (a || b) ≡ true
-or_right true b e = refl
-or_right false b e = e
-
-or_left : (a b : Bool) → a ≡ true → (a || b) ≡ true
-or_left true b e = refl
-or_left false b e = absurd cc
-
 -- after so many spaces stand the digits
 spaced_stands : (n m s : ℕ) (text : List ℕ) (place : ℕ) → s ≡ space_count text → AreDigits n m (drop s text) → place < length text → (is_ascii_digit (get_or text place 0) || is_space (get_or text place 0)) ≡ true
 spaced_stands n m s text place e d lt =
     elim (cases_lt place s) [
-      | inl before ↦ or_right _ _ (prefix_len_passes is_space text place 0 (omega (arith, before, e)))
+      | inl before ↦ let space = prefix_len_passes is_space text place 0 (omega (arith, before, e)) in grind (arith, nat_tests, space)
       | inr after ↦
           let at : s + (place - s) ≡ place = omega (arith, after) in
-          let digit = all_at is_ascii_digit (drop s text) (place - s) d.1.1 (omega (arith, length-drop s text, lt, after)) in
-          or_left _ _ (rw (get_or-drop s text (place - s) 0, at) at digit)
+          let digit = rw (get_or-drop s text (place - s) 0, at) at (all_at is_ascii_digit (drop s text) (place - s) d.1.1 (omega (arith, length-drop s text, lt, after))) in
+          grind (arith, nat_tests, digit)
     ]
 
 spaced_text : (n m least s : ℕ) (whole : Bool) (text : List ℕ) → s ≡ space_count text → least ≤ n → (whole ≡ true → (n ≡ least) × (m ≡ least)) → s < n → AreDigits (n - s) (m - s) (drop s text)
@@ -158,19 +150,12 @@ begins_at : (b : Bool) (initials name text : List ℕ) → compared b name ≡ c
     → list_any (λ initial. initial == to_ascii_lowercase (get_or text 0 0)) initials ≡ true
 begins_at b initials name text e lt first = ap (λ c. list_any (λ initial. initial == c) initials) (sym (same_small b name text 0 e lt)) ∙ first
 
-not_or : (a b : Bool) → (not a || b) ≡ true → a ≡ true → b ≡ true
-not_or true b e t = e
-not_or false b e t = absurd cc
-
 -- what is_name_of tells of a name
 record NameOf (initials : List ℕ) (least : ℕ) (whole : Bool) (name : List ℕ) : Type 0 where
   first : list_any (λ initial. initial == to_ascii_lowercase (get_or name 0 0)) initials ≡ true
   few : least ≤ length name
   exact : whole ≡ true → length name ≡ least
   all : list_all late name ≡ true
-
-exactly : (whole : Bool) (n least : ℕ) → (not whole || nat_eq n least) ≡ true → whole ≡ true → n ≡ least
-exactly whole n least e w = let q = not_or whole (nat_eq n least) e w in grind (arith, nat_tests)
 
 name_of : (initials : List ℕ) (least : ℕ) (whole : Bool) (name : List ℕ) → is_name_of initials least whole name ≡ true → NameOf initials least whole name
 name_of initials least whole name good =
@@ -179,7 +164,7 @@ name_of initials least whole name good =
     let a = both first (nat_le least (length name) && (exact && list_all late name)) good in
     let b = both (nat_le least (length name)) (exact && list_all late name) a.1 in
     let c = both exact (list_all late name) b.1 in
-    record { first = a.0; few = at_most least (length name) b.0; exact = λ w. same (length name) least (not_or whole (nat_eq (length name) least) c.0 w); all = c.1 }
+    record { first = a.0; few = at_most least (length name) b.0; exact = λ w. grind (arith, nat_tests, c.0, w); all = c.1 }
 
 not_first : (place : ℕ) → (suc place == 0) ≡ false
 not_first place = grind (arith, nat_tests)

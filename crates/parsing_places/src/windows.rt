@@ -37,9 +37,7 @@ pub fn padded(text: &[u8]) -> [u8; LANES]
     ensures { (k : ℕ) → get_or result k 0 ≡ get_or text.now k 0 }
 {
     let mut bytes = [0; LANES];
-    for place in 0..text.len() {
-        bytes[place] = text[place];
-    }
+    bytes[..text.len()].copy_from_slice(text);
     bytes
 }
 

@@ -98,14 +98,12 @@ fn read_pieces(input: &[u8]) -> Result<OffsetDateTime, Parse>
 }
 
 /// Whether a text begins with the four digits of a year. Where it does not, that is its first fault.
+#[tactic(auto, using(crate::proofs::FastLemmas::no_year))]
 #[inline(always)]
 pub fn begins_with_year(input: &[u8]) -> bool
     ensures { result ≡ false → direct input.now ≡ Err (component (codes "year")) }
 {
-    match four_digits(input) {
-        Some(_) => true,
-        None => false,
-    }
+    four_digits(input).is_some()
 }
 
 /// The moment that a text of RFC 3339, section 5.6, names, with any one byte between date and time.
