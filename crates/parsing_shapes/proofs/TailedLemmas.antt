@@ -41,26 +41,24 @@ pub record Whole (s : Shape) (w : Window) (moves : Moves) (zone : List Part) (is
   pub small : (k : ℕ) → get_or text k 0 < 256
   pub sixteen : 16 ≤ length text
 
-end_small : (e : Ending) → other_end e + 0 < 256
-end_small Zulu = lit< tt
-end_small Colon = lit< tt
-end_small Plain = lit< tt
-
 -- a text that has a tail has a fraction of as many bytes as the tail has
-possible : (e : Ending) (fraction : Bool) (byte : ℕ) → is_zulu e ≡ (byte == 90) → (fraction ≡ false → byte ≡ other_end e) → fraction ≡ true
-possible e true byte zulu never = refl
-possible Zulu false byte zulu never = absurd (grind (arith, nat_tests, zulu, never refl))
-possible Colon false byte zulu never = absurd (grind (arith, nat_tests, zulu, never refl))
-possible Plain false byte zulu never = absurd (grind (arith, nat_tests, zulu, never refl))
+possible : (z fraction : Bool) (byte : ℕ) → z ≡ (byte == 90) → (fraction ≡ false → byte ≡ (if z then 48 else 90)) → fraction ≡ true
+possible z true byte zulu never = refl
+possible true false byte zulu never = absurd (grind (arith, nat_tests, zulu, never refl))
+possible false false byte zulu never = absurd (grind (arith, nat_tests, zulu, never refl))
+
+end_small : (z : Bool) → (if z then 48 else 90) + 0 < 256
+end_small true = lit< tt
+end_small false = lit< tt
 
 -- by a tail of the table, whose last byte is that of the text
 pub of_tail : (s : Shape) (tail : Tail) (text digits : List ℕ) (d m o t : ℕ) → s.has_tail ≡ true → AreTaken s tail.window text (length text) d m o t → HaveEnd (with_moves tail.window tail.digits) text (length text) digits → ((k : ℕ) → get_or text k 0 < 256) → 16 ≤ length text → is_zulu tail.ending ≡ (get_or text (length text - 1) 0 == 90)
     → Whole s tail.window tail.digits (zone_parts tail.ending) (is_zulu tail.ending) text digits d m o t (offset_at tail.ending) tail.fraction
 of_tail s tail text digits d m o t tailed x f small sixteen zulu =
     let last : length text - 16 + 15 ≡ length text - 1 = omega (arith, sixteen) in
-    let ok : is_fraction tail.fraction ≡ true = possible tail.ending (is_fraction tail.fraction) (get_or text (length text - 1) 0) zulu (λ none.
+    let ok : is_fraction tail.fraction ≡ true = possible (is_zulu tail.ending) (is_fraction tail.fraction) (get_or text (length text - 1) 0) zulu (λ none.
     let never : lets tail.window 15 (other_end tail.ending) 0 ≡ true = otherwise _ _ _ none tail.right in
-    let b = in_window tail.window text (length text - 16) 15 (other_end tail.ending) 0 small x.end_taken.lies never (end_small tail.ending) in
+    let b = in_window tail.window text (length text - 16) 15 (other_end tail.ending) 0 small x.end_taken.lies never (end_small (is_zulu tail.ending)) in
     let byte : get_or text (length text - 16 + 15) 0 ≡ other_end tail.ending = omega (arith, b.0, b.1) in
     rw last at byte) in
     record { tail = tailed; ok = ok; is_tail = (both _ _ (when _ _ _ ok tail.right)).0; taken = x; fraction_taken = f; small = small; sixteen = sixteen }

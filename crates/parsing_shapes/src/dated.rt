@@ -25,14 +25,6 @@ fn second_if(has_second: bool, second: u8) -> u8
     if has_second { second } else { 0 }
 }
 
-// Whether a fraction of so many bytes may follow: without a second none does.
-#[inline(always)]
-fn lets_fraction(has_second: bool, bytes: usize) -> bool
-    ensures { result ≡ true → has_second ≡ false → bytes ≡ 0 }
-{
-    has_second || bytes == 0
-}
-
 /// The numbers of sums, of the year at a place, and of a fraction, with the second or without.
 #[inline(always)]
 pub(crate) fn numbers_of(
@@ -86,12 +78,11 @@ pub fn read_numbers(
     }
     let ending = ending_of(text[text.len() - 1], has_colon);
     let tail = tail_of(ending, text.len().wrapping_sub(shape.length))?;
-    if !lets_fraction(has_second, tail.fraction) {
+    if !has_second && tail.fraction != 0 {
         return None;
     }
     let (sums, digits) = tailed_sums_of(shape, &tail.window, &tail.digits, text)?;
-    let numbers = numbers_of(text, shape.year, has_second, sums, fraction_of(digits))?;
-    Some(numbers)
+    numbers_of(text, shape.year, has_second, sums, fraction_of(digits))
 }
 
 /// The same with a second, and with a small `z` in the place of an offset.
@@ -114,8 +105,7 @@ pub(crate) fn read_small_numbers(shape: &Shape, text: &[u8]) -> Option<Numbers>
         ..tail.window
     };
     let (sums, digits) = tailed_sums_of(shape, &last, &tail.digits, text)?;
-    let numbers = numbers_of(text, shape.year, true, sums, fraction_of(digits))?;
-    Some(numbers)
+    numbers_of(text, shape.year, true, sums, fraction_of(digits))
 }
 
 /// The same with a second and more than nine digits after the point, of which the first nine are the fraction.
@@ -138,6 +128,5 @@ pub fn read_long_numbers(shape: &Shape, has_colon: bool, text: &[u8]) -> Option<
     let tail = tail_of(ending, width)?;
     let fraction = long_fraction(text, shape.length + 1, text.len() - width)?;
     let (sums, _) = tailed_sums_of(shape, &tail.window, &tail.digits, text)?;
-    let numbers = numbers_of(text, shape.year, true, sums, fraction)?;
-    Some(numbers)
+    numbers_of(text, shape.year, true, sums, fraction)
 }

@@ -81,8 +81,7 @@ pub fn read_moment(shape: &Shape, has_colon: bool, text: &[u8]) -> Option<Fields
         × SaysTailed front (is_zulu e) (zone_parts e) text.now f) }
 {
     let numbers = read_numbers(shape, has_colon, true, text)?;
-    let fields = numbers.on_day(numbers.high, numbers.low)?;
-    Some(fields)
+    numbers.on_day(numbers.high, numbers.low)
 }
 
 /// The same with a small `z` in the place of an offset.
@@ -93,8 +92,7 @@ pub fn read_small_moment(shape: &Shape, text: &[u8]) -> Option<Fields>
         → IfSome result (SaysTailed front true small_parts text.now) }
 {
     let numbers = read_small_numbers(shape, text)?;
-    let fields = numbers.on_day(numbers.high, numbers.low)?;
-    Some(fields)
+    numbers.on_day(numbers.high, numbers.low)
 }
 
 /// The same as `read_moment`, with more than nine digits after the point.
@@ -106,6 +104,5 @@ pub fn read_long_moment(shape: &Shape, has_colon: bool, text: &[u8]) -> Option<F
         × SaysTailed front (is_zulu e) (zone_parts e) text.now f) }
 {
     let numbers = read_long_numbers(shape, has_colon, text)?;
-    let fields = numbers.on_day(numbers.high, numbers.low)?;
-    Some(fields)
+    numbers.on_day(numbers.high, numbers.low)
 }

@@ -25,6 +25,5 @@ pub fn read_named_moment(shape: &Shape, month: u8, text: &[u8]) -> Option<Fields
     let days = days + u32::from(month);
     let sums = (days, minute, offset, seconds);
     let numbers = numbers_of(text, shape.year, true, sums, Fraction::new(0))?;
-    let fields = numbers.on_day(numbers.high, numbers.low)?;
-    Some(fields)
+    numbers.on_day(numbers.high, numbers.low)
 }

@@ -1,3 +1,4 @@
+use Rattle.std.proofs.lemmas.Option.{IfSome_then}
 use Rattle.std.proofs.Common.{◌≡◌, ◌-◌, ◌+◌, true, length, ap, arith}
 use Rattle.parsing_places.specs.Tail.{is_written}
 use Rattle.parsing_layout.specs.Layout.{length_of}
@@ -20,4 +21,4 @@ returns-clause-says c = λ front fits_front.
     let width : length_of (zone_parts tail.ending) ≡ c.length_of-width.result = omega (arith, zone_length tail.ending, ap offset_at c.in_ok-tail.ensures.ending, c.length_of-width.ensures.length) in
     let more = length c.args.text.now - c.length_of-width.result - (c.args.shape.now.length + 1) in
     let p = placed_long _ _ _ _ _ _ _ _ _ _ _ _ _ h c.in_ok-fraction.fraction more (omega (arith, fraction.many, width)) c.if-text-shape-ne46.false fraction.writes in
-    (tail.ending, more + 1, written, omega (arith, fraction.many), numbers_said _ _ _ _ _ _ _ _ _ _ _ _ _ h true c.in_ok-fraction.fraction (more + 1) c.in_ok-numbers.numbers front c.in_ok-numbers.ensures fits_front p (λ one. omega (arith, one, fraction.many)) (λ e. absurd cc) fraction.bound)
+    IfSome_then c.numbers_of.result c.numbers_of.ensures (λ n y. (tail.ending, more + 1, written, omega (arith, fraction.many), numbers_said _ _ _ _ _ _ _ _ _ _ _ _ _ h true c.in_ok-fraction.fraction (more + 1) n front y fits_front p (λ one. omega (arith, one, fraction.many)) (λ e. absurd cc) fraction.bound))

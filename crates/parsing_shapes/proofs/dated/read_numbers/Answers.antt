@@ -1,9 +1,11 @@
-use Rattle.std.proofs.Common.{◌≡◌, ◌+◌, true, length, ap, arith}
+use Rattle.std.proofs.lemmas.Option.{IfSome_then}
+use Rattle.std.proofs.Common.{◌≡◌, ◌+◌, true, false, length, ap, arith}
 use Rattle.parsing_places.specs.Tail.{is_written}
 use Rattle.parsing_shapes.specs.Tail.{offset_at}
 use Rattle.parsing_shapes.proofs.NumberLemmas.{numbers_said}
 use Rattle.parsing_shapes.proofs.TailLemmas.{not_one}
 use Rattle.parsing_shapes.proofs.TailedLemmas.{all_few, few, none_after, whole_in_range, of_tail, placed, zone_length}
+use Rattle.parsing_shapes.proofs.dated.read_numbers.Goals.{else-not-has_second-via-then-not-has_second+else-tail-ne0, else-not-has_second-via-else-not-has_second}
 use Rattle.parsing_shapes.proofs.dated.read_numbers.Goals as goal
 
 pub fraction_of-requires : goal.fraction_of-requires
@@ -23,5 +25,9 @@ returns c = λ front fits_front.
     let written : is_written c.args.has_colon tail.ending ≡ true = rw c.in_ok-tail.ensures.ending c.ending_of-ending.ensures.written in
     let all : c.args.shape.now.length + tail.fraction + 16 ≡ length c.args.text.now + offset_at tail.ending = omega (arith, c.if-text-lt-LANES.false, c.in_ok-tail.ensures.bytes h.ok, c.in_ok-tail.ensures.few, ap offset_at c.in_ok-tail.ensures.ending) in
     let fraction = c.fraction_of.ensures in
+    let short = λ (e : c.args.has_second ≡ false). elim c.else-not-has_second.branch as (λ _. tail.fraction ≡ 0) [
+      | else-not-has_second-via-then-not-has_second+else-tail-ne0 w ↦ w.if-tail-ne0.false
+      | else-not-has_second-via-else-not-has_second w ↦ let is = w.if-not-has_second.false in absurd cc
+    ] in
     let p = placed _ _ _ _ _ _ _ _ _ _ _ _ _ h c.fraction_of.result (zone_length tail.ending) all (fraction.writes c.args.text.now) in
-    (tail.ending, tail.fraction, written, few _ _ _ _ _ _ _ _ _ _ _ _ _ h, numbers_said _ _ _ _ _ _ _ _ _ _ _ _ _ h c.args.has_second c.fraction_of.result tail.fraction c.in_ok-numbers.numbers front c.in_ok-numbers.ensures fits_front p (not_one tail.fraction h.ok) (c.lets_fraction.ensures c.if-not-lets_fraction.false) fraction.bound)
+    IfSome_then c.numbers_of.result c.numbers_of.ensures (λ n y. (tail.ending, tail.fraction, written, few _ _ _ _ _ _ _ _ _ _ _ _ _ h, numbers_said _ _ _ _ _ _ _ _ _ _ _ _ _ h c.args.has_second c.fraction_of.result tail.fraction n front y fits_front p (not_one tail.fraction h.ok) short fraction.bound))

@@ -1,3 +1,4 @@
+use Rattle.std.proofs.lemmas.Option.{IfSome_then}
 use Rattle.std.proofs.Common.{◌≡◌, ◌+◌, true, length, refl, ap, arith}
 use Rattle.parsing_shapes.specs.Tail.{offset_at}
 use Rattle.parsing_shapes.proofs.NumberLemmas.{numbers_said}
@@ -27,4 +28,4 @@ returns c = λ front fits_front.
     let all : c.args.shape.now.length + tail.fraction + 16 ≡ length c.args.text.now + 15 = omega (arith, c.if-text-lt-LANES.false, c.in_ok-tail.ensures.bytes ok, c.in_ok-tail.ensures.few, ap offset_at c.in_ok-tail.ensures.ending) in
     let fraction = c.fraction_of.ensures in
     let p = placed _ _ _ _ _ _ _ _ _ _ _ _ _ h c.fraction_of.result refl all (fraction.writes c.args.text.now) in
-    (tail.fraction, numbers_said _ _ _ _ _ _ _ _ _ _ _ _ _ h true c.fraction_of.result tail.fraction c.in_ok-numbers.numbers front c.in_ok-numbers.ensures fits_front p (not_one tail.fraction ok) (λ e. absurd cc) fraction.bound)
+    IfSome_then c.numbers_of.result c.numbers_of.ensures (λ n y. (tail.fraction, numbers_said _ _ _ _ _ _ _ _ _ _ _ _ _ h true c.fraction_of.result tail.fraction n front y fits_front p (not_one tail.fraction ok) (λ e. absurd cc) fraction.bound))
