@@ -130,22 +130,6 @@ module _ (s : Shape) (b : Beside) (ready : is_ready s b ≡ true) where
   pub weekday_room : (place : ℕ) → b.weekday ≡ Some place → place + 4 ≤ s.length
   weekday_room place is = name_room b.weekday place rooms.1 is
 
-  -- for the digits of a fraction
-  pub record HasRoom (place count : ℕ) : Type 0 where
-    pub some : 1 ≤ count
-    pub few : count ≤ 8
-    pub far : 8 ≤ place + count
-    pub within : place + count ≤ s.length
-
-  pub digits_room : (x : ℕ × ℕ) → b.fraction ≡ Some x → HasRoom x.0 x.1
-  digits_room x is =
-      let l = s.length in
-      let all : (nat_le 1 x.1 && (nat_le x.1 8 && (nat_le 8 (x.0 + x.1) && nat_le (x.0 + x.1) l))) ≡ true = rw is at rooms.3 in
-      let a = both (nat_le 1 x.1) (nat_le x.1 8 && (nat_le 8 (x.0 + x.1) && nat_le (x.0 + x.1) l)) all in
-      let e = both (nat_le x.1 8) (nat_le 8 (x.0 + x.1) && nat_le (x.0 + x.1) l) a.1 in
-      let c = both (nat_le 8 (x.0 + x.1)) (nat_le (x.0 + x.1) l) e.1 in
-      record { some = at_most 1 x.1 a.0; few = at_most x.1 8 e.0; far = at_most 8 (x.0 + x.1) c.0; within = at_most (x.0 + x.1) l c.1 }
-
   module _ (text : List ℕ) (d m o t : ℕ) (x : AreSums s text d m o t) (small : (k : ℕ) → get_or text k 0 < 256) (place : ℕ) (is : b.day ≡ Some place) where
     day_taken : (spares_one s.windows 2 && (lets_at s.windows place 32 25 && takes_one s.windows 3 (place + 1) 9)) ≡ true
     day_taken = let e = rooms.2 in rw is at e

@@ -28,8 +28,11 @@ abbrev pub alone : Window → Windows
 alone w = alone_by refl w
 
 -- what takes the end of a text: its offset
+abbrev pub end_by : Windows → Taker
+end_by w = record { windows = w; has_clock = false; has_offset = true; length = 16; year = None }
+
 abbrev pub end_of : Window → Taker
-end_of w = record { windows = alone w; has_clock = false; has_offset = true; length = 16; year = None }
+end_of w = end_by (alone w)
 
 -- a window's last places were made for the parts
 abbrev pub fits_end : Window → List Part → Bool

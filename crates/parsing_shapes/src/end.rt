@@ -1,7 +1,7 @@
 //! What follows a fraction of any number of digits, taken by a window over the end of a text.
 ghost use Rattle.std.specs.Prelude.{◌≡◌, ◌≤◌, ◌<◌, ◌+◌, true, IfSome};
 ghost use Rattle.parsing_layout.specs.Layout.{length_of};
-ghost use Rattle.parsing_shapes.specs.End.{alone, begins_apart, end_of, fits_end, is_end_bounded, spares_clock};
+ghost use Rattle.parsing_shapes.specs.End.{begins_apart, end_of, fits_end, is_end_bounded, spares_clock};
 ghost use Rattle.parsing_shapes.specs.Shape.{takes_all, takes_part};
 
 use crate::fits::{is_offset_bounded, spares_from, takes_part};
@@ -22,9 +22,9 @@ fn begins_apart(parts: &[Part]) -> bool
     }
 }
 
-// Sixteen bytes alone, as two windows of which the first takes nothing.
-fn alone(window: &Window) -> Windows
-    ensures { result ≡ alone window.now }
+// What takes the end of a text: sixteen bytes, as two windows of which the first takes nothing.
+fn end_of(window: &Window) -> Taker
+    ensures { result ≡ end_of window.now }
 {
     let prefix = Window {
         low: window.low,
@@ -33,19 +33,13 @@ fn alone(window: &Window) -> Windows
             lanes: [128; LANES],
         },
     };
-    Windows {
+    let windows = Windows {
         prefix,
         back: *window,
         back_at: 0,
-    }
-}
-
-// What takes the end of a text.
-fn end_of(window: &Window) -> Taker
-    ensures { result ≡ end_of window.now }
-{
+    };
     Taker {
-        windows: alone(window),
+        windows,
         has_clock: false,
         has_offset: true,
         length: LANES,
