@@ -8,12 +8,12 @@ ghost use Rattle.parsing_shapes.specs.Numbers.{AreOfSums, SaysNumbers, second_if
 ghost use Rattle.parsing_shapes.specs.Shape.{fits};
 ghost use Rattle.parsing_shapes.specs.Tail.{small_parts, zone_parts};
 
-use crate::moment::{long_fraction, tailed_sums_of, with_last};
+use crate::moment::{long_fraction, tailed_sums_of};
 use crate::numbers::Numbers;
 use crate::shape::Shape;
 use crate::sums::Sums;
 use crate::tails::{length_of, tail_of};
-use parsing_places::{Ending, LANES, Window, ending_of, fraction_of, signed};
+use parsing_places::{Ending, LANES, ending_of, fraction_of, signed};
 use parsing_values::{Fraction, Year};
 
 // A second, if there is one, and else 0.
@@ -100,10 +100,8 @@ pub(crate) fn read_small_numbers(shape: &Shape, text: &[u8]) -> Option<Numbers>
     if tail.fraction == 1 || tail.fraction > 10 {
         return None;
     }
-    let last = Window {
-        low: with_last(tail.window.low, b'z'),
-        ..tail.window
-    };
+    let mut last = tail.window;
+    last.low[LANES - 1] = b'z';
     let (sums, digits) = tailed_sums_of(shape, &last, &tail.digits, text)?;
     numbers_of(text, shape.year, true, sums, fraction_of(digits))
 }

@@ -1,5 +1,5 @@
 //! The fields of a text, whose numbers are all read at once.
-ghost use Rattle.std.specs.Prelude.{◌≡◌, ◌≤◌, ◌<◌, ◌+◌, ◌-◌, drop, length, set, true, IfSome, List};
+ghost use Rattle.std.specs.Prelude.{◌≡◌, ◌≤◌, ◌<◌, ◌+◌, ◌-◌, drop, length, true, IfSome, List};
 ghost use Rattle.parsing_values.specs.Written.{WriteFraction};
 ghost use Rattle.parsing_places.specs.Last.{HaveEnd, with_moves};
 ghost use Rattle.parsing_places.specs.Tail.{is_written, is_zulu};
@@ -35,16 +35,6 @@ pub(crate) fn tailed_sums_of(
         return None;
     }
     Some((sums(paired(joined(front, end))), digits))
-}
-
-/// The lowest bytes of a window, with another one at its last place.
-#[inline(always)]
-pub(crate) fn with_last(low: [u8; LANES], last: u8) -> [u8; LANES]
-    ensures { result ≡ set low 15 last }
-{
-    let mut low = low;
-    low[LANES - 1] = last;
-    low
 }
 
 // How many digits a fraction keeps.

@@ -15,15 +15,13 @@ use parsing_places::LANES;
 
 impl Beside {
     // What of parts is read beside lanes, and where it stands.
-    fn of(parts: &[Part], has_offset: bool) -> Beside
-        ensures { result.has_offset ≡ has_offset }
-    {
+    fn of(parts: &[Part]) -> Beside {
         let mut beside = Beside {
             month: None,
             day: None,
             weekday: None,
             fraction: None,
-            has_offset,
+            has_offset: false,
         };
         let mut place: usize = 0;
         for part in parts {
@@ -34,9 +32,7 @@ impl Beside {
     }
 
     // Puts a part at a place.
-    fn put(&mut self, part: Part, place: usize)
-        ensures { self.new.has_offset ≡ self.old.has_offset }
-    {
+    fn put(&mut self, part: Part, place: usize) {
         match part {
             Part::Name(Names::ShortMonth, true) => self.month = Some(place),
             Part::Spaced(Field::Day) => self.day = Some(place),
@@ -205,7 +201,8 @@ impl Front {
         ensures offset { IfSome result (λ front. front.beside.has_offset ≡ has_offset) }
     {
         let shape = Shape::made(parts, has_tail)?;
-        let beside = Beside::of(parts, has_offset);
+        let mut beside = Beside::of(parts);
+        beside.has_offset = has_offset;
         if !beside.is_ready(&shape) {
             return None;
         }

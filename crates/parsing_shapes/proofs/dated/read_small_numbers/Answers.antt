@@ -10,21 +10,21 @@ pub fraction_of-requires : goal.fraction_of-requires
 fraction_of-requires c =
     let tail = c.in_ok-tail.tail in
     let ok = is_some tail.fraction c.if-tail-eq1.false (omega (arith, c.if-tail-gt10.false)) in
-    let h = of_small c.args.shape.now tail c.args.text.now c.in_ok-sums.digits _ _ _ _ c.requires.tail c.in_ok-tail.ensures.ending ok (rw c.with_last.ensures at c.in_ok-sums.ensures.sums) (rw c.with_last.ensures at c.in_ok-sums.ensures.fraction) (λ k. (omega (arith, c.type_inv.text k))) (omega (arith, c.if-text-lt-LANES.false)) in
+    let h = of_small c.args.shape.now tail c.args.text.now c.in_ok-sums.digits _ _ _ _ c.requires.tail c.in_ok-tail.ensures.ending ok c.in_ok-sums.ensures.sums c.in_ok-sums.ensures.fraction (λ k. (omega (arith, c.type_inv.text k))) (omega (arith, c.if-text-lt-LANES.false)) in
     record { few = all_few _ _ _ _ _ _ _ _ _ _ _ _ _ h; rest = none_after _ _ _ _ _ _ _ _ _ _ _ _ _ h }
 
 pub numbers_of-requires : goal.numbers_of-requires
 numbers_of-requires c =
     let tail = c.in_ok-tail.tail in
     let ok = is_some tail.fraction c.if-tail-eq1.false (omega (arith, c.if-tail-gt10.false)) in
-    let h = of_small c.args.shape.now tail c.args.text.now c.in_ok-sums.digits _ _ _ _ c.requires.tail c.in_ok-tail.ensures.ending ok (rw c.with_last.ensures at c.in_ok-sums.ensures.sums) (rw c.with_last.ensures at c.in_ok-sums.ensures.fraction) (λ k. (omega (arith, c.type_inv.text k))) (omega (arith, c.if-text-lt-LANES.false)) in
+    let h = of_small c.args.shape.now tail c.args.text.now c.in_ok-sums.digits _ _ _ _ c.requires.tail c.in_ok-tail.ensures.ending ok c.in_ok-sums.ensures.sums c.in_ok-sums.ensures.fraction (λ k. (omega (arith, c.type_inv.text k))) (omega (arith, c.if-text-lt-LANES.false)) in
     whole_in_range _ _ _ _ _ _ _ _ _ _ _ _ _ h (omega (arith, c.if-text-lt-LANES.false, c.in_ok-tail.ensures.few))
 
 pub returns : goal.returns
 returns c = λ front fits_front.
     let tail = c.in_ok-tail.tail in
     let ok = is_some tail.fraction c.if-tail-eq1.false (omega (arith, c.if-tail-gt10.false)) in
-    let h = of_small c.args.shape.now tail c.args.text.now c.in_ok-sums.digits _ _ _ _ c.requires.tail c.in_ok-tail.ensures.ending ok (rw c.with_last.ensures at c.in_ok-sums.ensures.sums) (rw c.with_last.ensures at c.in_ok-sums.ensures.fraction) (λ k. (omega (arith, c.type_inv.text k))) (omega (arith, c.if-text-lt-LANES.false)) in
+    let h = of_small c.args.shape.now tail c.args.text.now c.in_ok-sums.digits _ _ _ _ c.requires.tail c.in_ok-tail.ensures.ending ok c.in_ok-sums.ensures.sums c.in_ok-sums.ensures.fraction (λ k. (omega (arith, c.type_inv.text k))) (omega (arith, c.if-text-lt-LANES.false)) in
     let all : c.args.shape.now.length + tail.fraction + 16 ≡ length c.args.text.now + 15 = omega (arith, c.if-text-lt-LANES.false, c.in_ok-tail.ensures.bytes ok, c.in_ok-tail.ensures.few, ap offset_at c.in_ok-tail.ensures.ending) in
     let fraction = c.fraction_of.ensures in
     let p = placed _ _ _ _ _ _ _ _ _ _ _ _ _ h c.fraction_of.result refl all (fraction.writes c.args.text.now) in
