@@ -71,18 +71,6 @@ taken_say takes text v size each parts e =
     let b = both (takes_all takes parts 0) (length_of parts == size) e in
     says_there (λ p at. takes p at ≡ true) text v each parts 0 size (omega (arith, same (length_of parts) size b.1)) (all_fit takes parts 0 b.0)
 
--- of a list that is walked from its first part on
-others_are : (p : Part) (ps : List Part) → take (length (p ∷ ps) - 1) (drop 1 (p ∷ ps)) ≡ ps
-others_are p ps = let e : length (p ∷ ps) - 1 ≡ length ps = omega arith in rw e (take_all (length ps) ps (omega arith))
-
-pub first_taken : (takes : Part → ℕ → Bool) (ps : List Part) (other : Part) (at size : ℕ) → 1 ≤ length ps → size ≡ width (get_or ps 0 other) → takes (get_or ps 0 other) at ≡ true → takes_all takes (take (length ps - 1) (drop 1 ps)) (at + size) ≡ true → takes_all takes ps at ≡ true
-first_taken takes [] other at size some is first others = absurd (omega (arith, some))
-first_taken takes (p ∷ ps) other at size some is first others = rw first (rw (others_are p ps, is) at others)
-
-pub first_counted : (ps : List Part) (other : Part) (at size end : ℕ) → 1 ≤ length ps → size ≡ width (get_or ps 0 other) → at + size + length_of (take (length ps - 1) (drop 1 ps)) ≡ end → at + length_of ps ≡ end
-first_counted [] other at size end some is e = absurd (omega (arith, some))
-first_counted (p ∷ ps) other at size end some is e = let k : at + size + length_of ps ≡ end = rw (others_are p ps) at e in omega (arith, k, is)
-
 -- ---- two windows
 
 abbrev pub SameLanes : Taker → List ℕ → List ℕ → Type 0

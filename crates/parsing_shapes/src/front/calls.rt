@@ -164,35 +164,37 @@ impl Shape {
     }
 }
 
-impl Front {
+impl Beside {
     // Whether lanes take a part, or it is read beside them.
     #[tactic(auto, unfolding(crate::specs::Front::takes_beside))]
-    fn takes(&self, part: Part, place: usize) -> bool
+    fn takes(&self, taker: &Taker, part: Part, place: usize) -> bool
         requires { place < FAR }
-        ensures { result ≡ true → takes_beside (taker_of self.now.shape) self.now.beside part place ≡ true }
+        ensures { result ≡ true → takes_beside taker.now self.now part place ≡ true }
     {
-        if self.beside.has(field_of(part)) {
-            return self.beside.stands(part, place);
+        if self.has(field_of(part)) {
+            return self.stands(part, place);
         }
-        takes_part(&self.shape.taker(), part, place)
+        takes_part(taker, part, place)
     }
+}
 
-    // Whether all parts are taken or read that begin at a place, and end where the shape does.
-    fn takes_all(&self, parts: &[Part], place: usize) -> bool
-        ensures all { result ≡ true
-            → takes_all (takes_beside (taker_of self.now.shape) self.now.beside) parts.now place ≡ true }
-        ensures end { result ≡ true → place + length_of parts.now ≡ self.now.shape.length }
-    {
-        let [part, others @ ..] = parts else {
-            return place == self.shape.length;
-        };
-        let width = width(*part);
-        if place >= FAR || width >= FAR {
-            return false;
-        }
-        self.takes(*part, place) && self.takes_all(others, place + width)
+// Whether all parts are taken or read that begin at a place, and end where the shape does.
+fn take_all(taker: &Taker, beside: &Beside, parts: &[Part], place: usize) -> bool
+    ensures all { result ≡ true
+        → takes_all (takes_beside taker.now beside.now) parts.now place ≡ true }
+    ensures end { result ≡ true → place + length_of parts.now ≡ taker.now.length }
+{
+    let [part, others @ ..] = parts else {
+        return place == taker.length;
+    };
+    let width = width(*part);
+    if place >= FAR || width >= FAR {
+        return false;
     }
+    beside.takes(taker, *part, place) && take_all(taker, beside, others, place + width)
+}
 
+impl Front {
     /// The front for parts, before which nothing stands, and after which a window over the end of a text takes an offset, or none
     /// does: `None` where a part has no fixed width, or is not known.
     pub fn of_parts(parts: &[Part], has_tail: bool, has_offset: bool) -> Option<Front>
@@ -206,10 +208,9 @@ impl Front {
         if !beside.is_ready(&shape) {
             return None;
         }
-        let front = Front { shape, beside };
-        if !front.takes_all(parts, 0) {
+        if !take_all(&shape.taker(), &beside, parts, 0) {
             return None;
         }
-        Some(front)
+        Some(Front { shape, beside })
     }
 }
