@@ -130,11 +130,3 @@ module _ (w : Windows) (text v : List ℕ) (h : Taken w text v) (small : (k : �
         let off : above (get_or text place 0) 43 ≡ get_or text place 0 - 43 = omega (arith, byte.0, byte.1) in
         let sum : get_or n 12 0 ≡ get_or v 12 0 * 10 + get_or v 13 0 = paired (omega (arith, twelve)) (omega (arith, thirteen, off, byte.1)) in
         record { low = byte.0; high = byte.1; is = omega (arith, sum, twelve, thirteen, off) }
-
--- ---- a text with zeros after it
-
-padded_window : (w : Window) (text bytes v : List ℕ) (at : ℕ) → ((k : ℕ) → get_or bytes k 0 ≡ get_or text k 0) → HaveWindow w bytes at v → HaveWindow w text at v
-padded_window w text bytes v at same h = record { lies = λ k lt. rw (same (at + k)) at (h.lies k lt); taken = λ lane place lt inside is. rw (same (at + place)) at (h.taken lane place lt inside is); none = h.none }
-
-pub of_padded : (w : Windows) (text bytes v : List ℕ) → ((k : ℕ) → get_or bytes k 0 ≡ get_or text k 0) → Taken w bytes v → Taken w text v
-of_padded w text bytes v same h = record { front = h.front; back = h.back; front_there = padded_window w.prefix text bytes h.front 0 same h.front_there; back_there = padded_window w.back text bytes h.back w.back_at same h.back_there; joined = h.joined }
