@@ -58,6 +58,7 @@ fn number(run: &[u8]) -> u64
 }
 
 // The number of all digits, at least one: `None` where they are more than so many, or than always fit.
+#[tactic(auto, using(crate::proofs::RunLemmas::run_taken))]
 #[inline(always)]
 fn run(most: usize, text: &[u8]) -> Option<(u64, &[u8])>
     ensures { IfSome result (λ x. Shape.taken (Shape.digits_between 1 most) text.now ≡ Some (x.0, x.1.now)) }
@@ -70,6 +71,7 @@ fn run(most: usize, text: &[u8]) -> Option<(u64, &[u8])>
 }
 
 // So many digits, at least one, as the nanoseconds of a fraction of a second.
+#[tactic(auto, using(crate::proofs::RunLemmas::exact_taken))]
 #[inline(always)]
 fn exact_fraction(count: usize, text: &[u8]) -> Option<(u64, &[u8])>
     ensures { IfSome result (λ x. Layout.exact_fraction count text.now ≡ Some (x.0, x.1.now)) }
