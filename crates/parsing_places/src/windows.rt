@@ -17,6 +17,7 @@ pub struct Windows {
 
 impl Moves {
     /// The moves of these lanes, where each takes one of sixteen bytes, or nothing.
+    #[tactic(auto, using(crate::proofs::LaneLemmas::moves_all))]
     pub fn checked(lanes: [u8; LANES]) -> Option<Moves>
         ensures { IfSome result (λ m. m.lanes ≡ lanes) }
     {

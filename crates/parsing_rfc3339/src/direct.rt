@@ -110,6 +110,7 @@ pub fn begins_with_year(input: &[u8]) -> bool
 ///
 /// The first fault counts: what can't be read, the offset's range, what follows, the ranges of date and time, and last
 /// whether a second 60 can be a leap second. It reads piece by piece; `read_fast` finds most moments sooner.
+#[tactic(auto, using(crate::proofs::TameLemmas::given_short))]
 #[inline(always)]
 pub fn read_exact(input: &[u8]) -> Result<OffsetDateTime, Parse>
     ensures gives { Gives (λ d. d) fault_of result (direct input.now) }
