@@ -6,7 +6,7 @@ use Rattle.std.proofs.lemmas.Bool.Decides.{nat_tests}
 use Rattle.parsing_places.specs.Lanes.{are_moves}
 use Rattle.parsing_places.specs.declared.windows.Windows.{Windows}
 use Rattle.parsing_shapes.specs.Shape.{fits}
-use Rattle.parsing_shapes.specs.Windows.{lets_year, are_bounded}
+use Rattle.parsing_places.specs.Windows.{lets_year, are_bounded}
 use Rattle.parsing_shapes.specs.declared.shape.Shape.{Shape}
 use Rattle.parsing_iso8601_shapes.specs.Layout.{front_parts, row_of}
 use Rattle.parsing_iso8601_shapes.specs.declared.form.Dating.TheVariants.{Calendar}

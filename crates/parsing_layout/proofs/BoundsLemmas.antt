@@ -1,5 +1,5 @@
--- One place of bounds, and one byte of a set, after the other.
-use Rattle.std.proofs.Common.{◌≡◌, ◌≤◌, ◌<◌, ◌+◌, ℕ, zero, suc, Bool, true, false, List, [], ◌∷◌, length, get_or, refl, arith}
+-- One place of bounds after the other.
+use Rattle.std.proofs.Common.{◌≤◌, ◌<◌, ℕ, zero, suc, Bool, List, [], ◌∷◌, get_or}
 use Rattle.std.specs.Prelude.{set}
 use Rattle.parsing_layout.specs.Bounds.{Admits}
 use Rattle.parsing_layout.specs.declared.bounds.Bounds.{Bounds}
@@ -20,18 +20,3 @@ admits_set whole b line i low high h l k = record {
   highest = set_each (λ p n. get_or line p 0 < 256 → get_or line p 0 ≤ n) b.high i high 255 h.highest k;
   longest = h.longest;
 }
-
--- ---- sets of bytes
-
--- what holds of each byte below one that is not in a set, where that one is added or left out
-pub set_next : (P : ℕ → Type 0) (bytes : List Bool) (i : ℕ) (v : Bool) → ((b : ℕ) → b < i → get_or bytes b true ≡ false → P b) → (v ≡ false → P i) → (b : ℕ) → b < i + 1 → get_or (set bytes i v) b true ≡ false → P b
-set_next P [] i v h k b lt e = absurd cc
-set_next P (x ∷ xs) zero v h k zero lt e = k e
-set_next P (x ∷ xs) zero v h k (suc b) lt e = absurd (omega (arith, lt))
-set_next P (x ∷ xs) (suc i) v h k zero lt e = h zero (omega arith) e
-set_next P (x ∷ xs) (suc i) v h k (suc b) lt e = set_next (λ n. P (suc n)) xs i v (λ n l. h (suc n) (omega (arith, l))) k b (omega (arith, lt)) e
-
-pub past_all : (bytes : List Bool) (b : ℕ) → length bytes ≤ b → get_or bytes b true ≡ true
-past_all [] b le = refl
-past_all (x ∷ xs) zero le = absurd (omega (arith, le))
-past_all (x ∷ xs) (suc b) le = past_all xs b (omega (arith, le))

@@ -9,7 +9,7 @@ use Rattle.calendar_count.specs.declared.weekday.Weekday.{Weekday}
 use Rattle.calendar_count.specs.declared.weekday.Weekday.TheVariants.{Monday, Tuesday, Wednesday, Thursday, Friday, Saturday, Sunday}
 use Rattle.parsing_combinator.specs.Names.{named, found, begins, short_months, short_weekdays}
 use Rattle.parsing_combinator.specs.Shape.{taken}
-use Rattle.parsing_combinator.proofs.NameLemmas.{apart, taken_named}
+use Rattle.parsing_combinator.proofs.NameLemmas.{apart, taken_named, taken_short_weekday}
 use Rattle.parsing_layout.specs.Layout.{Names, name_piece, weekday_number}
 use Rattle.parsing_layout.specs.Letters.{IsNamed}
 use Rattle.parsing_layout.specs.declared.parts.Names.TheVariants as names
@@ -31,13 +31,9 @@ month_named m a b c name = λ rest.
 abbrev IsWeekday : Weekday → ℕ → ℕ → ℕ → Type 0
 IsWeekday w a b c = (rest : List ℕ) → found true short_weekdays (a ∷ b ∷ c ∷ rest) ≡ Some (w, rest)
 
-apart_weekdays : apart true short_weekdays ≡ true
-unfolding begins
-apart_weekdays = refl
-
 weekday_named : (w : Weekday) (a b c : ℕ) → IsWeekday w a b c → IsNamed names.ShortWeekday a b c (weekday_number w)
 weekday_named w a b c name = λ rest.
-    let here : taken (named true short_weekdays) (a ∷ b ∷ c ∷ rest) ≡ Some (w, rest) = taken_named true short_weekdays (a ∷ b ∷ c ∷ rest) apart_weekdays ∙ name rest in
+    let here : taken (named true short_weekdays) (a ∷ b ∷ c ∷ rest) ≡ Some (w, rest) = taken_short_weekday true (a ∷ b ∷ c ∷ rest) ∙ name rest in
     rw here refl
 
 -- ---- at a place of a text

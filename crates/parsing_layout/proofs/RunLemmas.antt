@@ -3,8 +3,10 @@ use Rattle.std.proofs.Common.{◌≡◌, ◌∙◌, ◌≤◌, ◌<◌, ◌+◌,
 use Rattle.std.specs.Prelude.{◌==◌, nat_le, option_map}
 use Rattle.std.specs.Str.Parse.{digits_value}
 use Rattle.std.specs.Char.{is_ascii_digit}
+use Rattle.std.proofs.lemmas.Bool.{eq-eqb, eqb-true, le-leb}
 use Rattle.std.proofs.lemmas.Bool.Decides.{nat_tests}
-use Rattle.std.proofs.lemmas.List.{length-take-le, length-drop, take_all, take-take}
+use Rattle.std.proofs.lemmas.List.{length-take-le, length-drop, nil_from_length, take-append-drop, take_all, take-take}
+use Rattle.std.proofs.lemmas.List.Folds.{prefix_len-append}
 use Rattle.std.proofs.Math.Nat.{pow-le-pow_right}
 use Rattle.parsing_combinator.specs.Pieces.{digit_count, digit_run, fraction, nanoseconds_of}
 use Rattle.parsing_combinator.specs.Shape.{taken, digits_between}
@@ -41,14 +43,12 @@ run_taken most text run rest e few =
 
 -- ---- a fraction of so many digits
 
-count_more : (b : Bool) (m n : ℕ) → m ≤ n → cond b (1 + m) 0 ≤ cond b (1 + n) 0
-count_more true m n le = omega arith
-count_more false m n le = omega arith
-
-count_in_prefix : (n : ℕ) (text : List ℕ) → digit_count (take n text) ≤ digit_count text
-count_in_prefix zero text = omega arith
-count_in_prefix (suc n) [] = omega arith
-count_in_prefix (suc n) (c ∷ cs) = count_more (is_ascii_digit c) (digit_count (take n cs)) (digit_count cs) (count_in_prefix n cs)
+-- digits that a prefix of bytes is made of are counted
+counted : (n : ℕ) (text : List ℕ) → digit_count (take n text) ≡ length (take n text) → length (take n text) ≤ digit_count text
+counted n text all =
+    let same : (digit_count (take n text) == length (take n text)) ≡ true = eq-eqb _ _ all in
+    let sum = rw (same, take-append-drop n text) at (prefix_len-append {X = ℕ} is_ascii_digit (take n text) (drop n text)) in
+    omega (arith, sum)
 
 -- what a fraction was read of
 fraction_said : (o : Option (List ℕ × List ℕ)) (v : ℕ) → option_map {U = ℕ × List ℕ} (λ p. (nanoseconds_of p.0, p.1)) o ≡ Some (v, []) → (run : List ℕ) × (o ≡ Some (run, [])) × (nanoseconds_of run ≡ v)
@@ -59,14 +59,10 @@ fraction_said (Some p) v e =
     let value : nanoseconds_of p.0 ≡ v = ap (λ (z : ℕ × List ℕ). z.0) read in
     (p.0, ap (λ (r : List ℕ). Some (p.0, r)) rest, value)
 
-empty : (xs : List ℕ) → (length xs == 0) ≡ true → xs ≡ []
-empty [] e = refl
-empty (x ∷ xs) e = absurd (let zero : length (x ∷ xs) ≡ 0 = grind (arith, nat_tests, e) in omega (arith, zero))
-
 pub exact_taken : (n v : ℕ) (text first left rest : List ℕ) → n ≤ length text → take n text ≡ first → drop n text ≡ rest → fraction first ≡ Some (v, left) → (length left == 0) ≡ true → exact_fraction n text ≡ Some (v, rest)
 unfolding exact_fraction fraction
 exact_taken n v text first left rest within before after e none_left =
-    let read : fraction first ≡ Some (v, []) = rw (empty left none_left) at e in
+    let read : fraction first ≡ Some (v, []) = rw (nil_from_length left (eqb-true _ _ none_left)) at e in
     let said = fraction_said (digit_run first) v read in
     let run = is_run _ first said.0 [] refl said.1 in
     let long : length first ≡ n = rw (sym before) (length-take-le n text within) in
@@ -74,8 +70,8 @@ exact_taken n v text first left rest within before after e none_left =
     let all : digit_count first ≡ n = omega (arith, long, none, length-drop (digit_count first) first, digit_count_within first) in
     let whole : take (digit_count first) first ≡ first = take_all (digit_count first) first (omega (arith, all, long)) in
     let value : nanoseconds_of first ≡ v = rw (sym whole) (rw (sym run.all) at said.2) in
-    let counted : digit_count (take n text) ≡ n = rw before all in
-    let enough : nat_le n (digit_count text) ≡ true = let more = count_in_prefix n text in grind (arith, nat_tests) in
+    let whole_run : digit_count (take n text) ≡ length (take n text) = rw before (all ∙ sym long) in
+    let enough : nat_le n (digit_count text) ≡ true = le-leb n (digit_count text) (omega (arith, counted n text whole_run, length-take-le n text within)) in
     rw (enough, before, after, value) refl
 
 -- a fraction of more than nine digits, by the first nine

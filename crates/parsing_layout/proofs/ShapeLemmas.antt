@@ -5,14 +5,14 @@ use Rattle.std.specs.Char.{is_ascii_digit, to_ascii_lowercase}
 use Rattle.std.specs.List.{list_all, list_any}
 use Rattle.std.proofs.lemmas.Bool.{cases_lt}
 use Rattle.std.proofs.lemmas.Bool.Decides.{nat_tests}
-use Rattle.std.proofs.lemmas.List.{get_or-take, get_or-drop, length-take-le, length-drop}
-use Rattle.std.proofs.lemmas.List.Folds.{list_all_at}
-use Rattle.std.proofs.lemmas.List.Sums.{prefix_len_passes, prefix_len-le-length}
+use Rattle.std.proofs.lemmas.List.{get_or-take, get_or-drop, get_or-map, length-map, length-take-le, length-drop}
+use Rattle.std.proofs.lemmas.List.Sums.{AllPass-from_list_all, prefix_len_passes, prefix_len-le-length}
 use Rattle.std.proofs.lemmas.Slice.Eq.{bytes_eq-Decides}
 use Rattle.parsing_combinator.specs.Pieces.{Piece}
 use Rattle.parsing_combinator.specs.Shape.{Shape, or_before, greatest, prefix, taken, is_space, space_count, are_digits, digits_as, spaced_between}
 use Rattle.parsing_combinator.specs.Names.{compared, is_name, named}
 use Rattle.parsing_layout.specs.Stretch.{Begins, Leaves, name_stands}
+use Rattle.parsing_layout.proofs.TestLemmas.{at_most, both, less}
 
 -- ---- bytes that can stand at places
 
@@ -58,61 +58,41 @@ taken_cuts t least w shape holds line = greatest_each (λ x. Leaves t least w li
 
 -- ---- numbers
 
-left : (a b : Bool) → (a && b) ≡ true → a ≡ true
-left true b e = refl
-left false b e = absurd cc
-
-right : (a b : Bool) → (a && b) ≡ true → b ≡ true
-right true b e = e
-right false b e = absurd cc
-
 all_at : (p : ℕ → Bool) (text : List ℕ) (place : ℕ) → list_all p text ≡ true → place < length text → p (get_or text place 0) ≡ true
-all_at p text place all lt = elim (p (get_or text place 0)) as (λ b. p (get_or text place 0) ≡ b → b ≡ true) [
-  | true ↦ λ t. refl
-  | false ↦ λ t. sym (list_all_at p text place 0 lt t) ∙ all
-] refl
+all_at p text place all lt = AllPass-from_list_all p text all place 0 lt
 
 abbrev AreDigits : ℕ → ℕ → List ℕ → Type 0
 AreDigits n m text = (n ≤ length text) × ((length text ≤ m) × (list_all is_ascii_digit text ≡ true))
 
 digits_are : (n m : ℕ) (text : List ℕ) → are_digits n m text ≡ true → AreDigits n m text
 digits_are n m text e =
-    let both = left (nat_le n (length text) && nat_le (length text) m) (list_all is_ascii_digit text) e in
-    let low = left (nat_le n (length text)) (nat_le (length text) m) both in
-    let high = right (nat_le n (length text)) (nat_le (length text) m) both in
-    (grind (arith, nat_tests), (grind (arith, nat_tests), right (nat_le n (length text) && nat_le (length text) m) (list_all is_ascii_digit text) e))
+    let a = both (nat_le n (length text) && nat_le (length text) m) (list_all is_ascii_digit text) e in
+    let b = both (nat_le n (length text)) (nat_le (length text) m) a.0 in
+    (at_most n (length text) b.0, (at_most (length text) m b.1, a.1))
 
-if_chosen : {A : Type 0} (b : Bool) (x : A) (P : A → Type 0) → (b ≡ true → P x) → IfSome (if b then Some x else None) P
-if_chosen true x P h = h refl
-if_chosen false x P h = tt
+if_chosen : {A : Type 0} (b : Bool) (o : Option A) (P : A → Type 0) → (b ≡ true → IfSome o P) → IfSome (if b then o else None) P
+if_chosen true o P h = h refl
+if_chosen false o P h = tt
 
 -- n to m digits, of which so many are known
 pub digits_hold : {A : Type 0} (value : List ℕ → A) (n m least : ℕ) (whole : Bool) → least ≤ n → (whole ≡ true → (n ≡ least) × (m ≡ least)) → Holds (λ place c. is_ascii_digit c) least whole (digits_as value n m)
 unfolding digits_as
 digits_hold value n m least whole le exact text =
-    if_chosen (are_digits n m text) (value text) _ (λ e.
+    if_chosen (are_digits n m text) (Some (value text)) _ (λ e.
     let d = digits_are n m text e in (
       (λ place lt. all_at is_ascii_digit text place d.1.1 (omega (arith, lt, le, d.0))),
       (omega (arith, le, d.0), λ w. omega (arith, d.0, d.1.0, (exact w).0, (exact w).1)),
     ))
 
-or_right : (a b : Bool) → b ≡ true → (a || b) ≡ true
-or_right true b e = refl
-or_right false b e = e
-
-or_left : (a b : Bool) → a ≡ true → (a || b) ≡ true
-or_left true b e = refl
-or_left false b e = absurd cc
-
 -- after so many spaces stand the digits
 spaced_stands : (n m s : ℕ) (text : List ℕ) (place : ℕ) → s ≡ space_count text → AreDigits n m (drop s text) → place < length text → (is_ascii_digit (get_or text place 0) || is_space (get_or text place 0)) ≡ true
 spaced_stands n m s text place e d lt =
     elim (cases_lt place s) [
-      | inl before ↦ or_right _ _ (prefix_len_passes is_space text place 0 (omega (arith, before, e)))
+      | inl before ↦ let space = prefix_len_passes is_space text place 0 (omega (arith, before, e)) in grind (arith, nat_tests, space)
       | inr after ↦
           let at : s + (place - s) ≡ place = omega (arith, after) in
-          let digit = all_at is_ascii_digit (drop s text) (place - s) d.1.1 (omega (arith, length-drop s text, lt, after)) in
-          or_left _ _ (rw (get_or-drop s text (place - s) 0, at) at digit)
+          let digit = rw (get_or-drop s text (place - s) 0, at) at (all_at is_ascii_digit (drop s text) (place - s) d.1.1 (omega (arith, length-drop s text, lt, after))) in
+          grind (arith, nat_tests, digit)
     ]
 
 spaced_text : (n m least s : ℕ) (whole : Bool) (text : List ℕ) → s ≡ space_count text → least ≤ n → (whole ≡ true → (n ≡ least) × (m ≡ least)) → s < n → AreDigits (n - s) (m - s) (drop s text)
@@ -124,17 +104,13 @@ spaced_text n m least s whole text e le exact lt d =
       (omega (arith, le, lt, d.0, cut), λ w. omega (arith, lt, d.0, d.1.0, cut, within, e, (exact w).0, (exact w).1)),
     )
 
-if_both : {A : Type 0} (a b : Bool) (x : A) (P : A → Type 0) → (a ≡ true → b ≡ true → P x) → IfSome (if a then (if b then Some x else None) else None) P
-if_both true true x P h = h refl refl
-if_both true false x P h = tt
-if_both false b x P h = tt
-
 pub spaced_hold : (n m least : ℕ) (whole : Bool) → least ≤ n → (whole ≡ true → (n ≡ least) × (m ≡ least)) → Holds (λ place c. is_ascii_digit c || is_space c) least whole (spaced_between n m)
 unfolding spaced_between digits_as
 spaced_hold n m least whole le exact text =
     let s = space_count text in
-    if_both (nat_lt s n) (are_digits (n - s) (m - s) (drop s text)) _ _ (λ few e.
-    spaced_text n m least s whole text refl le exact (grind (arith, nat_tests)) (digits_are (n - s) (m - s) (drop s text) e))
+    if_chosen (nat_lt s n) _ _ (λ few.
+    if_chosen (are_digits (n - s) (m - s) (drop s text)) _ _ (λ e.
+    spaced_text n m least s whole text refl le exact (less s n few) (digits_are (n - s) (m - s) (drop s text) e)))
 
 -- ---- names
 
@@ -154,38 +130,25 @@ are_names_of initials least whole (entry ∷ entries) = is_name_of initials leas
 late_kept : (c : ℕ) → nat_lt 57 (to_ascii_lowercase c) ≡ true → nat_lt 57 c ≡ true
 late_kept c e = grind (arith, nat_tests)
 
-get_mapped : (f : ℕ → ℕ) (xs : List ℕ) (place : ℕ) → place < length xs → get_or (map f xs) place 0 ≡ f (get_or xs place 0)
-get_mapped f [] place lt = absurd (omega (arith, lt))
-get_mapped f (x ∷ xs) zero lt = refl
-get_mapped f (x ∷ xs) (suc place) lt = get_mapped f xs place (omega (arith, lt))
-
-length_mapped : (f : ℕ → ℕ) (xs : List ℕ) → length (map f xs) ≡ length xs
-length_mapped f [] = refl
-length_mapped f (x ∷ xs) = ap suc (length_mapped f xs)
-
 same_length : (b : Bool) (name text : List ℕ) → compared b name ≡ compared b text → length name ≡ length text
 same_length true name text e = ap length e
-same_length false name text e = sym (length_mapped to_ascii_lowercase name) ∙ ap length e ∙ length_mapped to_ascii_lowercase text
+same_length false name text e = sym (length-map name to_ascii_lowercase) ∙ ap length e ∙ length-map text to_ascii_lowercase
 
 -- in small letters they are the same
 same_small : (b : Bool) (name text : List ℕ) (place : ℕ) → compared b name ≡ compared b text → place < length name → to_ascii_lowercase (get_or name place 0) ≡ to_ascii_lowercase (get_or text place 0)
 same_small true name text place e lt = ap (λ t. to_ascii_lowercase (get_or t place 0)) e
 same_small false name text place e lt =
     let n = same_length false name text e in
-    sym (get_mapped to_ascii_lowercase name place lt) ∙ ap (λ t. get_or t place 0) e ∙ get_mapped to_ascii_lowercase text place (omega (arith, n, lt))
+    sym (get_or-map to_ascii_lowercase name place 0 0 lt) ∙ ap (λ t. get_or t place 0) e ∙ get_or-map to_ascii_lowercase text place 0 0 (omega (arith, n, lt))
 
 late_at : (b : Bool) (name text : List ℕ) (place : ℕ) → compared b name ≡ compared b text → list_all late name ≡ true → place < length name → nat_lt 57 (get_or text place 0) ≡ true
 late_at b name text place e all lt =
-    let here = right (nat_lt 57 (get_or name place 0)) (nat_lt 57 (to_ascii_lowercase (get_or name place 0))) (all_at late name place all lt) in
-    late_kept (get_or text place 0) (ap (λ c. nat_lt 57 c) (sym (same_small b name text place e lt)) ∙ here)
+    let here = both (nat_lt 57 (get_or name place 0)) (nat_lt 57 (to_ascii_lowercase (get_or name place 0))) (all_at late name place all lt) in
+    late_kept (get_or text place 0) (ap (λ c. nat_lt 57 c) (sym (same_small b name text place e lt)) ∙ here.1)
 
 begins_at : (b : Bool) (initials name text : List ℕ) → compared b name ≡ compared b text → 0 < length name → list_any (λ initial. initial == to_ascii_lowercase (get_or name 0 0)) initials ≡ true
     → list_any (λ initial. initial == to_ascii_lowercase (get_or text 0 0)) initials ≡ true
 begins_at b initials name text e lt first = ap (λ c. list_any (λ initial. initial == c) initials) (sym (same_small b name text 0 e lt)) ∙ first
-
-not_or : (a b : Bool) → (not a || b) ≡ true → a ≡ true → b ≡ true
-not_or true b e t = e
-not_or false b e t = absurd cc
 
 -- what is_name_of tells of a name
 record NameOf (initials : List ℕ) (least : ℕ) (whole : Bool) (name : List ℕ) : Type 0 where
@@ -194,24 +157,14 @@ record NameOf (initials : List ℕ) (least : ℕ) (whole : Bool) (name : List �
   exact : whole ≡ true → length name ≡ least
   all : list_all late name ≡ true
 
-exactly : (whole : Bool) (n least : ℕ) → (not whole || nat_eq n least) ≡ true → whole ≡ true → n ≡ least
-exactly whole n least e w = let q = not_or whole (nat_eq n least) e w in grind (arith, nat_tests)
-
-at_least : (n least : ℕ) → nat_le least n ≡ true → least ≤ n
-at_least n least e = grind (arith, nat_tests)
-
 name_of : (initials : List ℕ) (least : ℕ) (whole : Bool) (name : List ℕ) → is_name_of initials least whole name ≡ true → NameOf initials least whole name
 name_of initials least whole name good =
     let first = list_any (λ initial. initial == to_ascii_lowercase (get_or name 0 0)) initials in
     let exact = not whole || nat_eq (length name) least in
-    let after = right first (nat_le least (length name) && (exact && list_all late name)) good in
-    let last = right (nat_le least (length name)) (exact && list_all late name) after in
-    record {
-      first = left first (nat_le least (length name) && (exact && list_all late name)) good;
-      few = at_least (length name) least (left (nat_le least (length name)) (exact && list_all late name) after);
-      exact = exactly whole (length name) least (left exact (list_all late name) last);
-      all = right exact (list_all late name) last;
-    }
+    let a = both first (nat_le least (length name) && (exact && list_all late name)) good in
+    let b = both (nat_le least (length name)) (exact && list_all late name) a.1 in
+    let c = both exact (list_all late name) b.1 in
+    record { first = a.0; few = at_most least (length name) b.0; exact = λ w. grind (arith, nat_tests, c.0, w); all = c.1 }
 
 not_first : (place : ℕ) → (suc place == 0) ≡ false
 not_first place = grind (arith, nat_tests)
@@ -233,9 +186,8 @@ names_hold : {A : Type 0} (b : Bool) (initials : List ℕ) (least : ℕ) (whole 
 unfolding named
 names_hold b initials least whole [] good text = tt
 names_hold b initials least whole (entry ∷ entries) good text =
-    let own = left (is_name_of initials least whole entry.0) (are_names_of initials least whole entries) good in
-    let others = right (is_name_of initials least whole entry.0) (are_names_of initials least whole entries) good in
-    name_or_others b (is_name b entry.0 text) initials least whole entry.0 text entry.1 (named b entries text) own refl (names_hold b initials least whole entries others text)
+    let each = both (is_name_of initials least whole entry.0) (are_names_of initials least whole entries) good in
+    name_or_others b (is_name b entry.0 text) initials least whole entry.0 text entry.1 (named b entries text) each.0 refl (names_hold b initials least whole entries each.1 text)
 
 pub names_cut : {A : Type 0} (b : Bool) (initials : List ℕ) (least : ℕ) (whole : Bool) (entries : List (List ℕ × A)) → are_names_of initials least whole entries ≡ true → Cuts (name_stands initials) least whole (taken (named b entries))
 names_cut b initials least whole entries good = taken_cuts (name_stands initials) least whole (named b entries) (names_hold b initials least whole entries good)

@@ -13,6 +13,7 @@ use Rattle.parsing_layout.specs.Layout.{Names, Part, piece_of, name_piece, exact
 use Rattle.parsing_layout.specs.declared.parts.Names.TheVariants as names
 use Rattle.parsing_layout.specs.declared.parts.Part.TheVariants as part
 use Rattle.parsing_layout.proofs.LayoutLemmas.{numbered}
+use Rattle.parsing_layout.proofs.PieceLemmas.{exact_said, inside, literal_said, sign_is, skip_is}
 use Rattle.parsing_layout.proofs.ShapeLemmas.{Test, digits_hold, spaced_hold, taken_cuts, names_cut}
 
 -- ---- parts
@@ -25,60 +26,19 @@ named_there f t n w line rest None k e h = absurd cc
 named_there f t n w line rest (Some x) k e h =
     let same : x.1 ≡ rest = ap (λ (z : ℕ × List ℕ). z.1) (inside (f x.0, x.1) (k, rest) e) in
     rw same at h
-  where
-    inside : {A : Type 0} → (x y : A) → Some x ≡ Some y → x ≡ y
-    inside x y e = cc
 
 -- so many digits
 digits_stand : (count : ℕ) (line : List ℕ) → count ≤ digit_count line → Begins (λ place c. is_ascii_digit c) count line
 digits_stand count line enough place lt = prefix_len_passes is_ascii_digit line place 0 (omega (arith, lt, enough))
 
-fraction_stands : (count n : ℕ) (line rest : List ℕ) (b : Bool) → nat_le count (digit_count line) ≡ b → exact_fraction count line ≡ Some (n, rest) → Leaves (λ place c. is_ascii_digit c) count true line rest
-unfolding exact_fraction
-fraction_stands count n line rest true is e =
-    let same : drop count line ≡ rest = ap (λ (o : Option (ℕ × List ℕ)). rest_of o) (rw is at e) in
-    (digits_stand count line (grind (arith, nat_tests)), λ w. sym same)
-  where
-    rest_of : Option (ℕ × List ℕ) → List ℕ
-    rest_of None = []
-    rest_of (Some x) = x.1
-fraction_stands count n line rest false is e = absurd (let never : None ≡ Some (n, rest) = rw is at e in cc)
-
 -- one byte
-only_first : (p : ℕ → Bool) (c : ℕ) (cs : List ℕ) → p c ≡ true → Begins (λ place x. p x) 1 (c ∷ cs)
-only_first p c cs e place lt = let first : place ≡ 0 = omega (arith, lt) in rw first e
-
-byte_stands : (p : ℕ → Bool) (c : ℕ) (cs rest : List ℕ) (n : ℕ) (b : Bool) → p c ≡ b → byte_of p (c ∷ cs) ≡ Some (n, rest) → Leaves (λ place x. p x) 1 true (c ∷ cs) rest
-unfolding byte_of
-byte_stands p c cs rest n true is e =
-    let same : cs ≡ rest = ap (λ (o : Option (ℕ × List ℕ)). rest_of o) (rw is at e) in
-    (only_first p c cs is, λ w. sym same)
-  where
-    rest_of : Option (ℕ × List ℕ) → List ℕ
-    rest_of None = []
-    rest_of (Some x) = x.1
-byte_stands p c cs rest n false is e = absurd (let never : None ≡ Some (n, rest) = rw is at e in cc)
-
-sign_stands : (line rest : List ℕ) (n : ℕ) → sign line ≡ Some (n, rest) → Leaves (λ place c. is_sign c) 1 true line rest
-unfolding byte_of
-sign_stands [] rest n e = absurd cc
-sign_stands (c ∷ cs) rest n e = byte_stands is_sign c cs rest n (is_sign c) refl e
-
-skip_stands : (p : ℕ → Bool) (c : ℕ) (cs rest : List ℕ) (n : ℕ) (b : Bool) → p c ≡ b → numbered (λ _. 0) (skip_of p (c ∷ cs)) ≡ Some (n, rest) → Leaves (λ place x. p x) 1 true (c ∷ cs) rest
-unfolding skip_of
-skip_stands p c cs rest n true is e =
-    let same : cs ≡ rest = ap (λ (o : Option (ℕ × List ℕ)). rest_of o) (rw is at e) in
-    (only_first p c cs is, λ w. sym same)
-  where
-    rest_of : Option (ℕ × List ℕ) → List ℕ
-    rest_of None = []
-    rest_of (Some x) = x.1
-skip_stands p c cs rest n false is e = absurd (let never : None ≡ Some (n, rest) = rw is at e in cc)
+first_stands : (p : ℕ → Bool) (c : ℕ) (line rest : List ℕ) → line ≡ c ∷ rest → p c ≡ true → Leaves (λ place x. p x) 1 true line rest
+first_stands p c line rest is passes = rw is (λ place lt. (let first : place ≡ 0 = omega (arith, lt) in rw first passes), λ w. refl)
 
 literal_stands : (p : ℕ → Bool) (line rest : List ℕ) (n : ℕ) → numbered (λ _. 0) (skip_of p line) ≡ Some (n, rest) → Leaves (λ place x. p x) 1 true line rest
-unfolding skip_of
-literal_stands p [] rest n e = absurd cc
-literal_stands p (c ∷ cs) rest n e = skip_stands p c cs rest n (p c) refl e
+literal_stands p line rest n e =
+    let k = skip_is p line rest (literal_said (skip_of p line) rest e) in
+    first_stands p k.0 line rest k.1 k.2
 
 name_cut : (kind : Names) (b : Bool) (line rest : List ℕ) (n : ℕ) → name_piece kind b line ≡ Some (n, rest) → IsCut (stretch_of (part.Name kind b)) line rest
 name_cut names.ShortMonth b line rest n e = named_there _ (name_stands (initials names.ShortMonth)) 3 true line rest (taken (named b short_months) line) n e (names_cut b (initials names.ShortMonth) 3 true short_months refl line)
@@ -102,7 +62,7 @@ part_cut (part.Digits f count) line rest n e = let d = digits_read count line n 
 part_cut (part.Bare f) line rest n e = cut_there (λ place c. is_ascii_digit c) 1 false line rest _ n e (digits_cut _ 2 line)
 part_cut (part.Spaced f) line rest n e = cut_there (λ place c. is_ascii_digit c || is_space c) 2 true line rest _ n e (spaced_cut line)
 part_cut (part.Name kind b) line rest n e = name_cut kind b line rest n e
-part_cut part.Sign line rest n e = sign_stands line rest n e
-part_cut (part.Fraction count) line rest n e = fraction_stands count n line rest (nat_le count (digit_count line)) refl e
+part_cut part.Sign line rest n e = let k = sign_is line rest n e in first_stands is_sign n line rest k.all k.is
+part_cut (part.Fraction count) line rest n e = let d = exact_said _ line rest count n refl e in (digits_stand count line d.0, λ w. sym d.2)
 part_cut part.OpenFraction line rest n e = cut_there (λ place c. is_ascii_digit c) 1 false line rest _ n e (digits_cut _ 32 line)
 part_cut (part.Run f most) line rest n e = cut_there (λ place c. is_ascii_digit c) 1 false line rest _ n e (digits_cut _ most line)

@@ -1,11 +1,11 @@
 -- Layouts: parts that stand one after another in a text, and what a text that has them says.
 use Rattle.std.specs.Prelude.{◌≡◌, ℕ, ◌+◌, Bool, List, [], ◌∷◌, take, drop, Option, Some, None, option_map, nat_le, if◌then◌else◌}
 use Rattle.calendar_count.specs.Month.{month_number}
+use Rattle.calendar_count.specs.Weekday.{days_from_monday}
 use Rattle.parsing_combinator.specs.Pieces.{Piece, digits, byte, any_byte, sign, digit_count, nanoseconds_of}
 use Rattle.parsing_combinator.specs.Shape.{taken, digits_between, spaced_between, fraction_between}
 use Rattle.parsing_combinator.specs.Names.{named, short_months, long_months, short_weekdays, long_weekdays, periods}
 use Rattle.calendar_count.specs.declared.weekday.Weekday.{Weekday}
-use Rattle.calendar_count.specs.declared.weekday.Weekday.TheVariants as weekday
 pub use Rattle.parsing_layout.specs.declared.parts.Field.{Field}
 use Rattle.parsing_layout.specs.declared.parts.Field.TheVariants as field
 pub use Rattle.parsing_layout.specs.declared.parts.Names.{Names}
@@ -21,13 +21,7 @@ Values = Field → ℕ
 
 -- a name as a number: a month from 1, a weekday from 1 on Monday, a half of the day from 0
 abbrev pub weekday_number : Weekday → ℕ
-weekday_number weekday.Monday = 1
-weekday_number weekday.Tuesday = 2
-weekday_number weekday.Wednesday = 3
-weekday_number weekday.Thursday = 4
-weekday_number weekday.Friday = 5
-weekday_number weekday.Saturday = 6
-weekday_number weekday.Sunday = 7
+weekday_number w = days_from_monday w + 1
 
 abbrev pub half_number : Bool → ℕ
 half_number b = if b then 1 else 0

@@ -84,10 +84,10 @@ impl Bounds {
         self.longest?.checked_add(stretch.least)
     }
 
-    // Those of the texts that begin with a stretch and go on with one of their texts.
-    fn after(&self, stretch: Stretch) -> Bounds
+    /// Makes them those of the texts that begin with a stretch and go on with one of their texts.
+    pub fn put(&mut self, stretch: Stretch)
         ensures { (whole : Bool) (line rest : List ℕ) → IsCut stretch line rest
-            → Admits whole self.now rest → Admits whole result line }
+            → Admits whole self.old rest → Admits whole self.new line }
     {
         let mut bounds = Bounds::any();
         bounds.longest = self.longest_after(stretch);
@@ -96,15 +96,7 @@ impl Bounds {
             bounds.low[place] = low;
             bounds.high[place] = high;
         }
-        bounds
-    }
-
-    /// Makes them those of the texts that begin with a stretch and go on with one of their texts.
-    pub fn put(&mut self, stretch: Stretch)
-        ensures { (whole : Bool) (line rest : List ℕ) → IsCut stretch line rest
-            → Admits whole self.old rest → Admits whole self.new line }
-    {
-        *self = self.after(stretch);
+        *self = bounds;
     }
 
     // How long their texts and others are at most.
@@ -117,22 +109,6 @@ impl Bounds {
         Some(self.longest?.max(other.longest?))
     }
 
-    // Those of their texts and others.
-    fn of_both(&self, other: &Bounds) -> Bounds
-        ensures kept { (whole : Bool) (line : List ℕ) → Admits whole self.now line
-            → Admits whole result line }
-        ensures joined { (whole : Bool) (line : List ℕ) → Admits whole other.now line
-            → Admits whole result line }
-    {
-        let mut bounds = Bounds::any();
-        bounds.longest = self.longest_of_both(other);
-        for place in 0..PLACES {
-            bounds.low[place] = self.low[place].min(other.low[place]);
-            bounds.high[place] = self.high[place].max(other.high[place]);
-        }
-        bounds
-    }
-
     /// Makes them those of their texts and others.
     pub fn join(&mut self, other: &Bounds)
         ensures kept { (whole : Bool) (line : List ℕ) → Admits whole self.old line
@@ -140,7 +116,13 @@ impl Bounds {
         ensures joined { (whole : Bool) (line : List ℕ) → Admits whole other.now line
             → Admits whole self.new line }
     {
-        *self = self.of_both(other);
+        let mut bounds = Bounds::any();
+        bounds.longest = self.longest_of_both(other);
+        for place in 0..PLACES {
+            bounds.low[place] = self.low[place].min(other.low[place]);
+            bounds.high[place] = self.high[place].max(other.high[place]);
+        }
+        *self = bounds;
     }
 
     // Whether the byte at a place of a line can't stand there; after the line stands NUL.

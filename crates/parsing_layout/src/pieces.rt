@@ -58,6 +58,7 @@ fn number(run: &[u8]) -> u64
 }
 
 // The number of all digits, at least one: `None` where they are more than so many, or than always fit.
+#[tactic(auto, using(crate::proofs::RunLemmas::run_taken))]
 #[inline(always)]
 fn run(most: usize, text: &[u8]) -> Option<(u64, &[u8])>
     ensures { IfSome result (λ x. Shape.taken (Shape.digits_between 1 most) text.now ≡ Some (x.0, x.1.now)) }
@@ -70,6 +71,7 @@ fn run(most: usize, text: &[u8]) -> Option<(u64, &[u8])>
 }
 
 // So many digits, at least one, as the nanoseconds of a fraction of a second.
+#[tactic(auto, using(crate::proofs::RunLemmas::exact_taken))]
 #[inline(always)]
 fn exact_fraction(count: usize, text: &[u8]) -> Option<(u64, &[u8])>
     ensures { IfSome result (λ x. Layout.exact_fraction count text.now ≡ Some (x.0, x.1.now)) }
@@ -102,15 +104,7 @@ fn spaced(text: &[u8]) -> Option<(u8, &[u8])>
 fn weekday_number(weekday: Weekday) -> u64
     ensures { result ≡ Layout.weekday_number weekday }
 {
-    match weekday {
-        Weekday::Monday => 1,
-        Weekday::Tuesday => 2,
-        Weekday::Wednesday => 3,
-        Weekday::Thursday => 4,
-        Weekday::Friday => 5,
-        Weekday::Saturday => 6,
-        Weekday::Sunday => 7,
-    }
+    u64::from(weekday as u8) + 1
 }
 
 // The number of a name.

@@ -135,6 +135,7 @@ impl Stretch {
     }
 
     /// The bytes of a part.
+    #[tactic(auto, using(crate::proofs::StretchLemmas::part_cut))]
     pub fn of_part(part: Part) -> Stretch
         ensures { (line rest : List ℕ) (number : ℕ) → piece_of part line ≡ Some (number, rest)
             → IsCut result line rest }

@@ -1,8 +1,8 @@
 -- Lanes of vectors.
 use Rattle.std.proofs.Common.{◌≡◌, ◌≤◌, ◌<◌, ◌+◌, ◌*◌, ◌^◌, ◌/◌, ◌%◌, ◌∙◌, ℕ, zero, suc, Bool, true, false, cond, List, [], ◌∷◌, length, get_or, take, drop, map, refl, sym, ap, arith, w8, lit<, inl, inr}
 use Rattle.std.specs.Int.Bits.{bit_and}
-use Rattle.std.specs.Prelude.{◌-◌, nat_le, nat_eq, replicate}
-use Rattle.std.proofs.lemmas.Bool.{cases_lt, agree_below_at, leb-true}
+use Rattle.std.specs.Prelude.{◌-◌, nat_le, nat_lt, nat_eq, replicate}
+use Rattle.std.proofs.lemmas.Bool.{cases_lt, agree_below_at, eqb-true, le-ltb, leb-true, lt-ltb}
 use Rattle.std.proofs.lemmas.Bool.Decides.{nat_tests}
 use Rattle.std.proofs.lemmas.List.{drop_more, length-map, get_or-map, take_all}
 use Rattle.std.proofs.lemmas.Simd.{swz_l, get_or-swz_l, get_or_wider, get_or_narrower, below_from_Fits, get_or-zip2, length-zip2, mask_l-mod, get_or-replicate}
@@ -156,24 +156,17 @@ plus a b = (a + b) % 256
 abbrev nine_zeros : List ℕ
 nine_zeros = 48 ∷ 48 ∷ 48 ∷ 48 ∷ 48 ∷ 48 ∷ 48 ∷ 48 ∷ 48 ∷ 0 ∷ 0 ∷ 0 ∷ 0 ∷ 0 ∷ 0 ∷ 0 ∷ []
 
-before_ninth : (k : ℕ) → k < 9 → get_or nine_zeros k 0 ≡ 48
-before_ninth k lt = let h = agree_below_at (λ k. nat_eq (get_or nine_zeros k 0) 48) (λ _. true) 9 k refl lt in grind (arith, nat_tests, h)
+nine_at : (k : ℕ) → k < 16 → get_or nine_zeros k 0 ≡ cond (nat_lt k 9) 48 0
+nine_at k lt = let h = agree_below_at (λ k. nat_eq (get_or nine_zeros k 0) (cond (nat_lt k 9) 48 0)) (λ _. true) 16 k refl lt in eqb-true _ _ h
 
-after_ninth : (k : ℕ) → 9 ≤ k → k < 16 → get_or nine_zeros k 0 ≡ 0
-after_ninth k le lt =
-    let h = agree_below_at (λ j. nat_eq (get_or nine_zeros (9 + j) 0) 0) (λ _. true) 7 (k - 9) refl (omega (arith, le, lt)) in
-    let k_is : 9 + (k - 9) ≡ k = omega (arith, le) in
-    let there : nat_eq (get_or nine_zeros k 0) 0 ≡ true = rw k_is at h in
-    grind (arith, nat_tests, there)
-
-text_at : (xs : List ℕ) (k : ℕ) → length xs ≡ 16 → k < 16 → get_or (zip2 plus xs nine_zeros) k 0 ≡ plus (get_or xs k 0) (get_or nine_zeros k 0)
-text_at xs k n lt = get_or-zip2 plus xs nine_zeros k 0 0 0 (omega (arith, n, lt)) lt
+text_at : (xs : List ℕ) (k : ℕ) → length xs ≡ 16 → k < 16 → get_or (zip2 plus xs nine_zeros) k 0 ≡ plus (get_or xs k 0) (cond (nat_lt k 9) 48 0)
+text_at xs k n lt = get_or-zip2 plus xs nine_zeros k 0 0 0 (omega (arith, n, lt)) lt ∙ ap (plus (get_or xs k 0)) (nine_at k lt)
 
 pub text_lane : (xs : List ℕ) (k : ℕ) → length xs ≡ 16 → k < 9 → get_or (zip2 plus xs nine_zeros) k 0 ≡ (get_or xs k 0 + 48) % 256
-text_lane xs k n lt = text_at xs k n (omega (arith, lt)) ∙ ap (plus (get_or xs k 0)) (before_ninth k lt)
+text_lane xs k n lt = text_at xs k n (omega (arith, lt)) ∙ rw (lt-ltb k 9 lt) refl
 
 pub rest_lane : (xs : List ℕ) (k : ℕ) → length xs ≡ 16 → 9 ≤ k → k < 16 → get_or xs k 0 ≡ 0 → get_or (zip2 plus xs nine_zeros) k 0 ≡ 0
-rest_lane xs k n le lt is = text_at xs k n lt ∙ rw (is, after_ninth k le lt) refl
+rest_lane xs k n le lt is = text_at xs k n lt ∙ rw (le-ltb k 9 le, is) refl
 
 -- the ninth byte alone is in the second half
 pub ninth_alone : (xs : List ℕ) → length xs ≡ 16 → ((k : ℕ) → 9 ≤ k → k < 16 → get_or xs k 0 ≡ 0) → ((k : ℕ) → get_or xs k 0 < 256) → number_l 256 xs / 18446744073709551616 % 18446744073709551616 ≡ get_or xs 8 0

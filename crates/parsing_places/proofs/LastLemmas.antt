@@ -67,10 +67,7 @@ pub last_read : (last : LastBytes) (text : List ℕ) (end count : ℕ) (a v digi
     → 16 ≤ end → end ≤ length text → count ≤ 9 → count + last.length ≤ 16 → ((k : ℕ) → k < count → get_or digits k 0 ≡ get_or a (16 - last.length - count + k) 0)
     → ((k : ℕ) → count ≤ k → k < 16 → get_or digits k 0 ≡ 0) → ((k : ℕ) → k < 16 → get_or digits k 0 ≤ 9) → HaveLast last text end count v digits
 last_read last text end count a v digits seen above_is small long within few near taken zeros nine = record {
-  lies = seen.lies;
-  taken = seen.taken;
-  none = seen.none;
-  raw = seen.raw;
+  window = seen;
   fraction = record {
     few = few;
     each = λ k lt.

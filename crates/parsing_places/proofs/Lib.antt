@@ -1,8 +1,5 @@
-pub mod Checks
 mod FractionLemmas
 pub mod LaneLemmas
 mod LastLemmas
 pub mod NumberLemmas
 pub mod ReadLemmas
-pub mod SumLemmas
-mod TailLemmas

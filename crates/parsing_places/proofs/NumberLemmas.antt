@@ -1,14 +1,17 @@
--- The numbers that lanes take of a text, and its bytes, by two windows.
-use Rattle.std.proofs.Common.{◌≡◌, ◌≤◌, ◌<◌, ◌+◌, ◌-◌, ◌*◌, ℕ, List, length, get_or, inl, inr, arith, lit<, lit≤}
-use Rattle.std.proofs.lemmas.Bool.{cases_lt}
-use Rattle.std.proofs.lemmas.List.{get_or_past}
+-- The numbers that lanes take of a text, and its bytes, by tests of windows.
+use Rattle.std.proofs.Common.{◌≡◌, ◌≤◌, ◌<◌, ◌+◌, ◌-◌, ◌*◌, ◌∙◌, ◌&&◌, ◌==◌, ℕ, Bool, true, false, List, [], length, get_or, drop, replicate, refl, sym, arith, inl, inr, lit<, lit≤}
+use Rattle.std.specs.Prelude.{nat_lt, nat_le, if◌then◌else◌}
+use Rattle.std.proofs.lemmas.Bool.{and_parts, cases_lt, eqb-true, leb-true}
+use Rattle.std.proofs.lemmas.Bool.Decides.{nat_tests}
+use Rattle.std.proofs.lemmas.List.{get_or-drop, get_or_past}
 use Rattle.parsing_combinator.specs.Places.{HasDigit}
 use Rattle.parsing_places.specs.Lanes.{above}
-use Rattle.parsing_places.specs.Numbers.{LieIn}
-use Rattle.parsing_places.specs.Windows.{LetsIn, LetsAt, TakeOne, SpareTwo, SpareOne, TakeSign, Taken}
+use Rattle.parsing_places.specs.Last.{HaveWindow}
+use Rattle.parsing_places.specs.Numbers.{IsDigitAt, LieIn}
+use Rattle.parsing_places.specs.Windows.{Taken, lets, lets_at, spares, spares_one, takes, takes_one, takes_sign}
 use Rattle.parsing_places.specs.declared.shape.Window.{Window}
 use Rattle.parsing_places.specs.declared.windows.Windows.{Windows}
-use Rattle.parsing_places.proofs.SumLemmas.{sign_byte}
+use Rattle.parsing_places.proofs.ReadLemmas.{or_zero, zero_or, same_lane}
 
 -- a single digit, and a sign with how far it lies above a plus
 pub record One (text : List ℕ) (place number : ℕ) : Type 0 where
@@ -21,66 +24,109 @@ pub record SignAt (text : List ℕ) (place sign : ℕ) : Type 0 where
   pub high : get_or text place 0 ≤ 45
   pub is : sign ≡ get_or text place 0 - 43
 
--- the number of two lanes
-abbrev pub PairedAt : List ℕ → List ℕ → ℕ → Type 0
-PairedAt v n j = get_or v (2 * j) 0 ≤ 9 → get_or v (2 * j + 1) 0 ≤ 9 → get_or n (2 * j) 0 ≡ get_or v (2 * j) 0 * 10 + get_or v (2 * j + 1) 0
+-- ---- one window
 
-module _ (w : Windows) (text v n : List ℕ) (h : Taken w text v) where
-  pub one_taken : (j place : ℕ) → j < 8 → SpareOne w (2 * j) → TakeOne w (2 * j + 1) place → PairedAt v n j → One text place (get_or n (2 * j) 0)
-  one_taken j place lt spared takes paired =
-      let first = h.none (2 * j) (omega (arith, lt)) spared in
-      let second = h.taken (2 * j + 1) place 9 (omega (arith, lt)) (lit≤ tt) takes in
-      let sum = paired (omega (arith, first)) second.few in
-      record { room = second.room; digit = second.digit; is = omega (arith, sum, first, second.value) }
+-- what a test of a place says
+record LetsIn (w : Window) (place low most : ℕ) : Type 0 where
+  inside : place < 16
+  low_is : get_or w.low place 0 ≡ low
+  high_is : get_or w.high place 0 ≤ most
 
-  pub nothing_taken : (j : ℕ) → j < 8 → SpareTwo w (2 * j) → PairedAt v n j → get_or n (2 * j) 0 ≡ 0
-  nothing_taken j lt spared paired =
-      let first = h.none (2 * j) (omega (arith, lt)) (record { prefix_free = spared.first_prefix; back_free = spared.first_back }) in
-      let second = h.none (2 * j + 1) (omega (arith, lt)) (record { prefix_free = spared.second_prefix; back_free = spared.second_back }) in
-      omega (arith, paired (omega (arith, first)) (omega (arith, second)), first, second)
-
-  pub sign_taken : (place : ℕ) → ((k : ℕ) → get_or text k 0 < 256) → TakeSign w place → PairedAt v n 6 → SignAt text place (get_or n 12 0)
-  sign_taken place small s paired =
-      let there : w.back_at + (place - w.back_at) ≡ place = omega (arith, s.after) in
-      let twelve = h.none 12 (lit< tt) s.alone in
-      let thirteen : get_or v 13 0 ≡ above (get_or text place 0) 43 = rw (there, s.low) at (h.raw 13 (place - w.back_at) (lit< tt) s.prefix_free s.inside s.is_there) in
-      let within : above (get_or text place 0) 43 ≤ 2 = omega (arith, rw (there, s.low) at (h.back_lies (place - w.back_at) s.inside), s.high) in
-      let byte = sign_byte (get_or text place 0) (small _) within in
-      let sum : get_or n 12 0 ≡ get_or v 12 0 * 10 + get_or v 13 0 = paired (omega (arith, twelve)) (omega (arith, thirteen, within)) in
-      record { low = byte.low; high = byte.high; is = omega (arith, sum, twelve, thirteen, byte.is) }
-
--- ---- bytes within bounds
+lets_in : (w : Window) (place low most : ℕ) → lets w place low most ≡ true → LetsIn w place low most
+lets_in w place low most e = record { inside = grind (arith, nat_tests, e); low_is = grind (arith, nat_tests, e); high_is = grind (arith, nat_tests, e) }
 
 within : (byte low most high : ℕ) → byte < 256 → above byte low ≤ high → high ≤ most → low + most < 256 → (low ≤ byte) × (byte ≤ low + most)
 within byte low most high small few le sum = (omega (arith, small, few, le, sum), omega (arith, small, few, le, sum))
 
-pub in_window : (window : Window) (text : List ℕ) (at place low most : ℕ) → ((k : ℕ) → get_or text k 0 < 256) → LieIn window text at → LetsIn window place low most → low + most < 256 → (low ≤ get_or text (at + place) 0) × (get_or text (at + place) 0 ≤ low + most)
-in_window window text at place low most small lies lets sum = within (get_or text (at + place) 0) low most (get_or window.high place 0) (small _) (rw lets.low_is at (lies place lets.inside)) lets.high_is sum
+pub in_window : (w : Window) (text : List ℕ) (at place low most : ℕ) → ((k : ℕ) → get_or text k 0 < 256) → LieIn w text at → lets w place low most ≡ true → low + most < 256 → (low ≤ get_or text (at + place) 0) × (get_or text (at + place) 0 ≤ low + most)
+in_window w text at place low most small lies e sum =
+    let l = lets_in w place low most e in
+    within (get_or text (at + place) 0) low most (get_or w.high place 0) (small _) (rw l.low_is at (lies place l.inside)) l.high_is sum
 
-pub byte_within : (w : Windows) (text v : List ℕ) (place low most : ℕ) → Taken w text v → ((k : ℕ) → get_or text k 0 < 256) → LetsAt w place low most → low + most < 256 → (low ≤ get_or text place 0) × (get_or text place 0 ≤ low + most)
-byte_within w text v place low most h small lets sum = elim (cases_lt place 16) [
-  | inl near ↦
+-- a byte that is no NUL stands within the text
+not_past : (text : List ℕ) (place low : ℕ) → 0 < low → low ≤ get_or text place 0 → place < length text
+not_past text place low some is = elim (cases_lt place (length text)) [ inl lt ↦ lt | inr le ↦ absurd (omega (arith, some, is, get_or_past text place 0 le)) ]
+
+pub digit_in : (w : Window) (text v : List ℕ) (at lane place most : ℕ) → ((k : ℕ) → get_or text k 0 < 256) → HaveWindow w text at v → lane < 16 → most ≤ 9 → takes w lane place most ≡ true → IsDigitAt v lane text (at + place) most
+digit_in w text v at lane place most small h lt few e =
+    let t = and_parts (lets w place 48 most) (get_or w.taken.lanes lane 0 == place) e in
+    let l = lets_in w place 48 most t.0 in
+    let byte : ℕ = get_or text (at + place) 0 in
+    let is : get_or v lane 0 ≡ above byte 48 = rw l.low_is at (h.taken lane place lt l.inside (eqb-true _ _ t.1)) in
+    let b = in_window w text at place 48 most small h.lies t.0 (omega (arith, few)) in
+    record { room = not_past text (at + place) 48 (lit< tt) b.0; digit = record { low = b.0; high = omega (arith, b.1, few) }; value = omega (arith, is, b.0, b.1, few); few = omega (arith, is, b.0, b.1, few) }
+
+-- ---- two windows
+
+-- the number of two lanes
+abbrev pub PairedAt : List ℕ → List ℕ → ℕ → Type 0
+PairedAt v n j = get_or v (2 * j) 0 ≤ 9 → get_or v (2 * j + 1) 0 ≤ 9 → get_or n (2 * j) 0 ≡ get_or v (2 * j) 0 * 10 + get_or v (2 * j + 1) 0
+
+module _ (w : Windows) (text v : List ℕ) (h : Taken w text v) (small : (k : ℕ) → get_or text k 0 < 256) where
+  first_lane : (lane : ℕ) → lane < 16 → spares w.back lane ≡ true → get_or v lane 0 ≡ get_or h.front lane 0
+  first_lane lane lt free = h.joined lane lt ∙ rw (h.back_there.none lane lt (leb-true _ _ free)) (or_zero (get_or h.front lane 0))
+
+  second_lane : (lane : ℕ) → lane < 16 → spares w.prefix lane ≡ true → get_or v lane 0 ≡ get_or h.back lane 0
+  second_lane lane lt free = h.joined lane lt ∙ rw (h.front_there.none lane lt (leb-true _ _ free)) (zero_or (get_or h.back lane 0))
+
+  pub none_taken : (lane : ℕ) → lane < 16 → spares_one w lane ≡ true → get_or v lane 0 ≡ 0
+  none_taken lane lt e = let b = and_parts (spares w.prefix lane) (spares w.back lane) e in first_lane lane lt b.1 ∙ h.front_there.none lane lt (leb-true _ _ b.0)
+
+  digit_by : (free : Bool) (lane place most : ℕ) → spares w.prefix lane ≡ free → lane < 16 → most ≤ 9 → takes_one w lane place most ≡ true → IsDigitAt v lane text place most
+  digit_by true lane place most is lt few e =
+      let there : (nat_le w.back_at place && takes w.back lane (place - w.back_at) most) ≡ true = rw is at e in
+      let b = and_parts _ _ there in
+      let same : w.back_at + (place - w.back_at) ≡ place = omega (arith, leb-true w.back_at place b.0) in
+      same_lane h.back v text lane place most (second_lane lane lt is) (rw same at (digit_in w.back text h.back w.back_at lane (place - w.back_at) most small h.back_there lt few b.1))
+  digit_by false lane place most is lt few e =
+      let here : (takes w.prefix lane place most && spares w.back lane) ≡ true = rw is at e in
+      let b = and_parts _ _ here in
       let same : 0 + place ≡ place = omega arith in
-      rw same at (in_window w.prefix text 0 place low most small h.prefix_lies (lets.here near) sum)
-  | inr far ↦
-      let there = lets.there far in
-      let same : w.back_at + (place - w.back_at) ≡ place = omega (arith, there.0) in
-      rw same at (in_window w.back text w.back_at (place - w.back_at) low most small h.back_lies there.1 sum)
-]
+      same_lane h.front v text lane place most (first_lane lane lt b.1) (rw same at (digit_in w.prefix text h.front 0 lane place most small h.front_there lt few b.0))
 
--- ---- a text with zeros after it
+  pub digit_taken : (lane place most : ℕ) → lane < 16 → most ≤ 9 → takes_one w lane place most ≡ true → IsDigitAt v lane text place most
+  digit_taken lane place most lt few e = digit_by (spares w.prefix lane) lane place most refl lt few e
 
-not_past : (text : List ℕ) (place : ℕ) → 48 ≤ get_or text place 0 → place < length text
-not_past text place low = elim (cases_lt place (length text)) [ inl lt ↦ lt | inr le ↦ absurd (omega (arith, low, get_or_past text place 0 le)) ]
+  byte_by : (near : Bool) (place low most : ℕ) → nat_lt place 16 ≡ near → lets_at w place low most ≡ true → low + most < 256 → (low ≤ get_or text place 0) × (get_or text place 0 ≤ low + most)
+  byte_by true place low most is e sum =
+      let here : lets w.prefix place low most ≡ true = grind (arith, nat_tests, is, e) in
+      let same : 0 + place ≡ place = omega arith in
+      rw same at (in_window w.prefix text 0 place low most small h.front_there.lies here sum)
+  byte_by false place low most is e sum =
+      let there : (nat_le w.back_at place && lets w.back (place - w.back_at) low most) ≡ true = rw is at e in
+      let b = and_parts _ _ there in
+      let same : w.back_at + (place - w.back_at) ≡ place = omega (arith, leb-true w.back_at place b.0) in
+      rw same at (in_window w.back text w.back_at (place - w.back_at) low most small h.back_there.lies b.1 sum)
 
-pub of_padded : (w : Windows) (text bytes v : List ℕ) → ((k : ℕ) → get_or bytes k 0 ≡ get_or text k 0) → w.back_at ≡ 0 → Taken w bytes v → Taken w text v
-of_padded w text bytes v same prefix h = record {
-  prefix_lies = λ k lt. rw (same (0 + k)) at (h.prefix_lies k lt);
-  back_lies = λ k lt. rw (same (w.back_at + k)) at (h.back_lies k lt);
-  taken = λ lane place most lt few takes.
-      let d = h.taken lane place most lt few takes in
-      let low : 48 ≤ get_or text place 0 = rw (same place) at d.digit.low in
-      record { room = not_past text place low; digit = record { low = low; high = rw (same place) at d.digit.high }; value = rw (same place) at d.value; few = d.few };
-  none = h.none;
-  raw = λ lane place lt free inside is. rw (same (w.back_at + place)) at (h.raw lane place lt free inside is);
-}
+  pub byte_within : (place low most : ℕ) → lets_at w place low most ≡ true → low + most < 256 → (low ≤ get_or text place 0) × (get_or text place 0 ≤ low + most)
+  byte_within place low most e sum = byte_by (nat_lt place 16) place low most refl e sum
+
+  module _ (n : List ℕ) where
+    pub one_taken : (j place : ℕ) → j < 8 → spares_one w (2 * j) ≡ true → takes_one w (2 * j + 1) place 9 ≡ true → PairedAt v n j → One text place (get_or n (2 * j) 0)
+    one_taken j place lt spared takes paired =
+        let first = none_taken (2 * j) (omega (arith, lt)) spared in
+        let second = digit_taken (2 * j + 1) place 9 (omega (arith, lt)) (lit≤ tt) takes in
+        let sum = paired (omega (arith, first)) second.few in
+        record { room = second.room; digit = second.digit; is = omega (arith, sum, first, second.value) }
+
+    pub nothing_taken : (j : ℕ) → j < 8 → spares_one w (2 * j) ≡ true → spares_one w (2 * j + 1) ≡ true → PairedAt v n j → get_or n (2 * j) 0 ≡ 0
+    nothing_taken j lt spared next paired =
+        let first = none_taken (2 * j) (omega (arith, lt)) spared in
+        let second = none_taken (2 * j + 1) (omega (arith, lt)) next in
+        omega (arith, paired (omega (arith, first)) (omega (arith, second)), first, second)
+
+    pub sign_taken : (place : ℕ) → takes_sign w place ≡ true → PairedAt v n 6 → SignAt text place (get_or n 12 0)
+    sign_taken place e paired =
+        let is = get_or w.back.taken.lanes 13 0 == place - w.back_at in
+        let a = and_parts (nat_le w.back_at place) (lets w.back (place - w.back_at) 43 2 && (spares_one w 12 && (spares w.prefix 13 && is))) e in
+        let b = and_parts (lets w.back (place - w.back_at) 43 2) (spares_one w 12 && (spares w.prefix 13 && is)) a.1 in
+        let c = and_parts (spares_one w 12) (spares w.prefix 13 && is) b.1 in
+        let d = and_parts (spares w.prefix 13) is c.1 in
+        let l = lets_in w.back (place - w.back_at) 43 2 b.0 in
+        let same : w.back_at + (place - w.back_at) ≡ place = omega (arith, leb-true w.back_at place a.0) in
+        let byte = rw same at (in_window w.back text w.back_at (place - w.back_at) 43 2 small h.back_there.lies b.0 (lit< tt)) in
+        let twelve = none_taken 12 (lit< tt) c.0 in
+        let thirteen : get_or v 13 0 ≡ above (get_or text place 0) 43 = second_lane 13 (lit< tt) d.0 ∙ rw (same, l.low_is) at (h.back_there.taken 13 (place - w.back_at) (lit< tt) l.inside (eqb-true _ _ d.1)) in
+        let off : above (get_or text place 0) 43 ≡ get_or text place 0 - 43 = omega (arith, byte.0, byte.1) in
+        let sum : get_or n 12 0 ≡ get_or v 12 0 * 10 + get_or v 13 0 = paired (omega (arith, twelve)) (omega (arith, thirteen, off, byte.1)) in
+        record { low = byte.0; high = byte.1; is = omega (arith, sum, twelve, thirteen, off) }

@@ -96,6 +96,7 @@ pub fn taken_by(moves: &Moves, bytes: u8x16) -> u8x16
 }
 
 // Each two bytes as one number, the first one lowest.
+#[tactic(auto, using(crate::proofs::LaneLemmas::word_at))]
 #[inline(always)]
 fn words_of(bytes: u8x16) -> u16x8
     ensures { (j : ℕ) → j < 8 → get_or result j 0 ≡ get_or bytes (2 * j) 0 + get_or bytes (2 * j + 1) 0 * 256 }
@@ -120,6 +121,7 @@ fn bytes_of(words: u16x8) -> u8x16
 }
 
 /// Of each two digits the number.
+#[tactic(auto, using(crate::proofs::LaneLemmas::number_at))]
 #[inline(always)]
 pub fn paired(digits: u8x16) -> u8x16
     ensures { (j : ℕ) → j < 8 → get_or digits (2 * j) 0 ≤ 9 → get_or digits (2 * j + 1) 0 ≤ 9 → get_or result (2 * j) 0 ≡ get_or digits (2 * j) 0 * 10 + get_or digits (2 * j + 1) 0 }

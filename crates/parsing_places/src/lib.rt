@@ -11,8 +11,6 @@ mod last;
 mod long;
 mod parts;
 mod shape;
-mod tail;
-mod tails;
 mod whole;
 mod windows;
 
@@ -22,7 +20,5 @@ pub use last::{LastBytes, fraction_of};
 pub use long::are_digits;
 pub use parts::signed;
 pub use shape::Window;
-pub use tail::Tail;
-pub use tails::{length_of, tail_of};
 pub use whole::digits_of_whole;
 pub use windows::{Windows, padded};

@@ -17,6 +17,7 @@ pub struct Windows {
 
 impl Moves {
     /// The moves of these lanes, where each takes one of sixteen bytes, or nothing.
+    #[tactic(auto, using(crate::proofs::LaneLemmas::moves_all))]
     pub fn checked(lanes: [u8; LANES]) -> Option<Moves>
         ensures { IfSome result (λ m. m.lanes ≡ lanes) }
     {
@@ -37,9 +38,7 @@ pub fn padded(text: &[u8]) -> [u8; LANES]
     ensures { (k : ℕ) → get_or result k 0 ≡ get_or text.now k 0 }
 {
     let mut bytes = [0; LANES];
-    for place in 0..text.len() {
-        bytes[place] = text[place];
-    }
+    bytes[..text.len()].copy_from_slice(text);
     bytes
 }
 

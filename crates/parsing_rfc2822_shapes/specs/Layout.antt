@@ -8,7 +8,7 @@ use Rattle.parsing_values.specs.declared.fields.Fields.{Fields}
 use Rattle.parsing_values.specs.Resolution.{signed_offset_of}
 use Rattle.parsing_values.specs.Moment.{moment_of}
 use Rattle.parsing_shapes.specs.Named.{SaysNamed}
-use Rattle.parsing_shapes.specs.Windows.{spares_two}
+use Rattle.parsing_places.specs.Windows.{spares_two}
 use Rattle.parsing_layout.specs.declared.parts.Part.{Part}
 use Rattle.parsing_layout.specs.declared.parts.Field.TheVariants as field
 use Rattle.parsing_layout.specs.declared.parts.Part.TheVariants.{Byte, Any, Digits, Sign}

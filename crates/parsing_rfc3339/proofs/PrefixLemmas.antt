@@ -2,6 +2,7 @@
 use Rattle.std.proofs.Common.{◌≡◌, ◌<◌, ◌≤◌, ◌==◌, ◌||◌, ℕ, Bool, true, false, cond, eqb, List, [], ◌∷◌, ◌++◌, length, take, drop, Option, Some, None, Result, Ok, Err, refl, arith}
 use Rattle.std.specs.Prelude.{codes, nat_le}
 use Rattle.std.specs.Char.{is_ascii_digit}
+use Rattle.std.proofs.lemmas.Bool.{cond_both}
 use Rattle.std.proofs.lemmas.Bool.Decides.{nat_tests}
 use Rattle.std.proofs.lemmas.List.{take-append-le, drop-append-le, take-append-drop, drop_all}
 use Rattle.std.proofs.lemmas.List.Folds.{prefix_len-append}
@@ -52,30 +53,22 @@ byte_on p (x ∷ xs) b = first_on (p x) x xs b
 
 no_fewer : (a b : List ℕ) → digit_count a ≤ digit_count (a ++ b)
 no_fewer a b =
-    let counted = prefix_len-append {X = ℕ} is_ascii_digit a b in
-    elim (eqb (digit_count a) (length a)) as (λ t. eqb (digit_count a) (length a) ≡ t → digit_count a ≤ digit_count (a ++ b)) [
-      | true ↦ λ e. let n = rw e at counted in omega (arith, n, prefix_len-le-length is_ascii_digit a)
-      | false ↦ λ e. let n = rw e at counted in omega (arith, n)
-    ] refl
+    let within = prefix_len-le-length is_ascii_digit a in
+    rw (prefix_len-append {X = ℕ} is_ascii_digit a b) (cond_both (eqb (digit_count a) (length a)) _ _ (λ n. digit_count a ≤ n) (λ e. omega (arith, within)) (λ e. omega arith))
 
 digits_on : (n : ℕ) (a b : List ℕ) → PieceOn b (digits n a) (digits n (a ++ b))
 unfolding digits
-digits_on n a b =
-    elim (nat_le n (digit_count a)) as (λ t. nat_le n (digit_count a) ≡ t → PieceOn b (digits n a) (digits n (a ++ b))) [
-      | true ↦ λ e.
-          let enough : nat_le n (digit_count (a ++ b)) ≡ true = grind (arith, nat_tests, e, no_fewer a b) in
-          let room : n ≤ length a = grind (arith, nat_tests, e, prefix_len-le-length is_ascii_digit a) in
-          rw (e, enough, take-append-le n a b room, drop-append-le n a b room) refl
-      | false ↦ λ e. rw e tt
-    ] refl
+digits_on n a b = cond_both (nat_le n (digit_count a)) _ _ (λ o. PieceOn b o (digits n (a ++ b))) (λ e.
+    let enough : nat_le n (digit_count (a ++ b)) ≡ true = grind (arith, nat_tests, e, no_fewer a b) in
+    let room : n ≤ length a = grind (arith, nat_tests, e, prefix_len-le-length is_ascii_digit a) in
+    rw (enough, take-append-le n a b room, drop-append-le n a b room) refl) (λ none. tt)
 
 -- a fraction that does not end the bytes
 fraction_on : (a b : List ℕ) → digit_count a < length a → PieceOn b (fraction a) (fraction (a ++ b))
 unfolding fraction digit_run
 fraction_on a b lt =
     let other : eqb (digit_count a) (length a) ≡ false = grind (arith, nat_tests, lt) in
-    let counted = prefix_len-append {X = ℕ} is_ascii_digit a b in
-    let same : digit_count (a ++ b) ≡ digit_count a = rw other at counted in
+    let same : digit_count (a ++ b) ≡ digit_count a = rw other at (prefix_len-append {X = ℕ} is_ascii_digit a b) in
     elim (digit_count a == 0) as (λ t. (digit_count a == 0) ≡ t → PieceOn b (fraction a) (fraction (a ++ b))) [
       | true ↦ λ e. rw e tt
       | false ↦ λ e. rw (same, e, take-append-le (digit_count a) a b (omega (arith, lt)), drop-append-le (digit_count a) a b (omega (arith, lt))) refl

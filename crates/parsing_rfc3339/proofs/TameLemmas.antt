@@ -42,10 +42,3 @@ moment_tame b0 = search (tame, rfc3339_tame) depth 20 fits 5000
 pub given_short : (result : Result Shown Parse) (bytes : List ℕ) → Gives (λ d. d) fault_of result (direct bytes) → IfErr result (λ e. HasShortName (fault_of e))
 unfolding direct
 given_short result bytes given = value_given_short (λ d. d) result bytes (moment bytes) given (moment_tame bytes)
-
--- the same of what stands at the start
-pub given_end : (is_strict : Bool) (result : Result (Rfc3339Parts × Bor (List ℕ)) ParseFromDescription) (bytes : List ℕ) → Gives (λ x. (x.0, x.1.now)) reading_fault result (rfc3339 is_strict bytes) → IfOk result (λ x. EndsWith bytes x.1.now)
-given_end is_strict result bytes given = prefix_ends (λ w. w) result bytes (rfc3339 is_strict bytes) given (rfc3339_tame is_strict bytes)
-
-pub given_prefix_short : (is_strict : Bool) (result : Result (Rfc3339Parts × Bor (List ℕ)) ParseFromDescription) (bytes : List ℕ) → Gives (λ x. (x.0, x.1.now)) reading_fault result (rfc3339 is_strict bytes) → IfErr result (λ e. HasShortName (reading_fault e))
-given_prefix_short is_strict result bytes given = prefix_short (λ w. w) result bytes (rfc3339 is_strict bytes) given (rfc3339_tame is_strict bytes)

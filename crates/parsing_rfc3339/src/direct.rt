@@ -98,20 +98,19 @@ fn read_pieces(input: &[u8]) -> Result<OffsetDateTime, Parse>
 }
 
 /// Whether a text begins with the four digits of a year. Where it does not, that is its first fault.
+#[tactic(auto, using(crate::proofs::FastLemmas::no_year))]
 #[inline(always)]
 pub fn begins_with_year(input: &[u8]) -> bool
     ensures { result ≡ false → direct input.now ≡ Err (component (codes "year")) }
 {
-    match four_digits(input) {
-        Some(_) => true,
-        None => false,
-    }
+    four_digits(input).is_some()
 }
 
 /// The moment that a text of RFC 3339, section 5.6, names, with any one byte between date and time.
 ///
 /// The first fault counts: what can't be read, the offset's range, what follows, the ranges of date and time, and last
 /// whether a second 60 can be a leap second. It reads piece by piece; `read_fast` finds most moments sooner.
+#[tactic(auto, using(crate::proofs::TameLemmas::given_short))]
 #[inline(always)]
 pub fn read_exact(input: &[u8]) -> Result<OffsetDateTime, Parse>
     ensures gives { Gives (λ d. d) fault_of result (direct input.now) }

@@ -86,8 +86,7 @@ fn zulu(bytes: &[u8]) -> Option<&[u8]>
 fn signed_offset(is_strict: bool, bytes: &[u8]) -> Result<(Zone, &[u8]), ParseFromDescription>
     ensures gives { Gives (λ x. (x.0, x.1.now)) reading_fault result
         (Reading.signed_offset is_strict bytes.now) }
-    ensures hours { IfOk result (λ x. x.0.hours ≤ 23) }
-    ensures minutes { IfOk result (λ x. x.0.minutes < 100) }
+    ensures few { IfOk result (λ x. (x.0.hours ≤ 23) × (x.0.minutes < 100)) }
 {
     let (mark, rest) = sign(bytes).ok_or(InvalidComponent("offset hour"))?;
     let (hour, rest) = two_digits(rest).ok_or(InvalidComponent("offset hour"))?;
@@ -114,8 +113,7 @@ fn signed_offset(is_strict: bool, bytes: &[u8]) -> Result<(Zone, &[u8]), ParseFr
 fn offset(is_strict: bool, bytes: &[u8]) -> Result<(Zone, &[u8]), ParseFromDescription>
     ensures gives { Gives (λ x. (x.0, x.1.now)) reading_fault result
         (Reading.offset is_strict bytes.now) }
-    ensures hours { IfOk result (λ x. x.0.hours ≤ 23) }
-    ensures minutes { IfOk result (λ x. x.0.minutes < 100) }
+    ensures few { IfOk result (λ x. (x.0.hours ≤ 23) × (x.0.minutes < 100)) }
 {
     if let Some(rest) = zulu(bytes) {
         let zone = Zone {

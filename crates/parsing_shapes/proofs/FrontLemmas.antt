@@ -2,31 +2,27 @@
 use Rattle.std.proofs.Common.{◌≡◌, ◌≤◌, ◌<◌, ◌+◌, ◌-◌, ◌*◌, ◌/◌, ◌%◌, ◌∙◌, ◌&&◌, ◌==◌, ℕ, Bool, true, false, List, ◌∷◌, get_or, length, drop, Option, Some, None, refl, sym, ap, arith, lit<, leb, inl, inr, bit_and}
 use Rattle.std.specs.Prelude.{nat_le, is_some, ◌⊎◌}
 use Rattle.std.specs.Option.{ForSome}
-use Rattle.std.specs.Char.{is_ascii_digit}
 use Rattle.std.proofs.lemmas.Bool.Decides.{nat_tests}
-use Rattle.std.proofs.lemmas.List.{drop_more}
 use Rattle.std.proofs.lemmas.Nat.{and_mask}
 use Rattle.parsing_combinator.specs.Pieces.{digits}
-use Rattle.parsing_combinator.specs.Shape.{taken, spaced_between, is_space}
-use Rattle.parsing_combinator.proofs.Fixed.{digits_one, digits_two}
-use Rattle.parsing_combinator.proofs.Longest.{taken_exactly}
-use Rattle.parsing_combinator.proofs.SpaceLemmas.{taken_spaced}
+use Rattle.parsing_combinator.proofs.AtPlaces.{byte_there, two_there}
+use Rattle.parsing_combinator.specs.Places.{HasPair}
 use Rattle.parsing_places.proofs.NumberLemmas.{one_taken, byte_within}
-use Rattle.parsing_shapes.specs.Beside.{AreRead, HasSpaced, ReadAt, is_at, is_beside, is_fraction_at, is_ready, has_digits, has_room, stands, takes_ones}
+use Rattle.parsing_shapes.specs.Beside.{AreRead, HasSpaced, ReadAt, is_beside, is_fraction_at, is_ready, has_digits, has_room, stands, takes_ones}
 use Rattle.parsing_shapes.specs.Front.{fits_beside, takes_beside}
 use Rattle.parsing_layout.specs.Layout.{Values, Says, field_of, piece_of, value_at, value_of, width}
 use Rattle.parsing_layout.specs.declared.parts.Field.{Field}
 use Rattle.parsing_layout.specs.declared.parts.Part.{Part}
-use Rattle.parsing_shapes.specs.Shape.{lane_values, number_in, own, pair_of}
+use Rattle.parsing_shapes.specs.Shape.{is_at, lane_values, number_in, pair_of, taker_of}
 use Rattle.parsing_shapes.specs.Sums.{AreSums}
-use Rattle.parsing_shapes.specs.Windows.{lets_at, spares_one, takes_one}
+use Rattle.parsing_places.specs.Windows.{lets_at, spares_one, takes_one}
 use Rattle.parsing_shapes.specs.declared.front.Beside.{Beside}
 use Rattle.parsing_layout.specs.declared.parts.Field.TheVariants as field
 use Rattle.parsing_layout.specs.declared.parts.Names.TheVariants as names
 use Rattle.parsing_layout.specs.declared.parts.Part.TheVariants as part
 use Rattle.parsing_shapes.specs.declared.shape.Shape.{Shape}
-use Rattle.parsing_shapes.proofs.TakenLemmas.{part_at, taken_say}
-use Rattle.parsing_shapes.proofs.WindowLemmas.{digit_there, lets_there, spare_one}
+use Rattle.parsing_shapes.proofs.TakenLemmas.{one_digit, paired_first, shape_part, taken_say}
+use Rattle.parsing_layout.proofs.SpacedLemmas.{after_space, without_space}
 use Rattle.parsing_layout.proofs.TestLemmas.{at_most, both, otherwise, same, when}
 
 -- what a text says by its front
@@ -85,44 +81,18 @@ module _ (s : Shape) (b : Beside) (text : List ℕ) (d m o t : ℕ) (x : AreSums
   stand_at (part.Fraction count) at e = digits_there b.fraction text nanosecond count at e fraction
   stand_at p at e = absurd cc
 
-  by_kind : (beside : Bool) (p : Part) (at : ℕ) → is_beside b (field_of p) ≡ beside → takes_beside s b p at ≡ true → piece_of p (drop at text) ≡ Some (value_of p values, drop (at + width p) text)
+  by_kind : (beside : Bool) (p : Part) (at : ℕ) → is_beside b (field_of p) ≡ beside → takes_beside (taker_of s) b p at ≡ true → piece_of p (drop at text) ≡ Some (value_of p values, drop (at + width p) text)
   unfolding takes_beside
   by_kind true p at is e = stand_at p at (when _ _ _ is e)
   by_kind false p at is e =
-      part_at s text x.front x.both x.n year nanosecond x.front_taken x.own_lane x.paired small long year_is even p at (otherwise _ _ _ is e)
+      shape_part s text x.front x.both x.n year nanosecond x.front_taken x.own_lane x.paired small long year_is even p at (otherwise _ _ _ is e)
       ∙ ap (λ (k : ℕ). Some (k, drop (at + width p) text)) (same_value (field_of p) is)
 
   -- the central lemma of fronts
   pub front_says : (ps : List Part) → fits_beside s b ps ≡ true → Says ps text values (drop s.length text)
-  front_says ps e = taken_say (takes_beside s b) text values s.length (λ p at. by_kind (is_beside b (field_of p)) p at refl) ps e
+  front_says ps e = taken_say (takes_beside (taker_of s) b) text values s.length (λ p at. by_kind (is_beside b (field_of p)) p at refl) ps e
 
 -- ---- a day of two bytes, the first of which may be a space
-
-is_digit : (c : ℕ) → 48 ≤ c → c ≤ 57 → is_ascii_digit c ≡ true
-is_digit c low high = grind (arith, nat_tests)
-
-at_least : (n m : ℕ) → n ≤ m → leb n m ≡ true
-at_least n m le = grind (arith, nat_tests)
-
-spaced_one : (c d : ℕ) (rest : List ℕ) → c ≡ 32 → 48 ≤ d → d ≤ 57 → taken (spaced_between 2 2) (c ∷ d ∷ rest) ≡ Some (d - 48, rest)
-spaced_one c d rest is low high =
-    let space : is_space c ≡ true = grind (arith, nat_tests) in
-    let other : is_space d ≡ false = grind (arith, nat_tests) in
-    let more : leb 1 (length (d ∷ rest)) ≡ true = at_least 1 (length (d ∷ rest)) (omega arith) in
-    let one : digits 1 (d ∷ rest) ≡ Some (d - 48, rest) = digits_one (d ∷ rest) ∙ rw (more, is_digit d low high) refl in
-    taken_spaced 2 2 (c ∷ d ∷ rest) (omega arith) ∙ rw (space, other) (taken_exactly 1 (d ∷ rest) ∙ one)
-
-spaced_two : (c d : ℕ) (rest : List ℕ) → 48 ≤ c → c ≤ 57 → 48 ≤ d → d ≤ 57 → taken (spaced_between 2 2) (c ∷ d ∷ rest) ≡ Some ((c - 48) * 10 + (d - 48), rest)
-spaced_two c d rest low high second_low second_high =
-    let other : is_space c ≡ false = grind (arith, nat_tests) in
-    let more : leb 2 (length (c ∷ d ∷ rest)) ≡ true = at_least 2 (length (c ∷ d ∷ rest)) (omega arith) in
-    let two : digits 2 (c ∷ d ∷ rest) ≡ Some ((c - 48) * 10 + (d - 48), rest) = digits_two (c ∷ d ∷ rest) ∙ rw (more, is_digit c low high, is_digit d second_low second_high) refl in
-    taken_spaced 2 2 (c ∷ d ∷ rest) (omega arith) ∙ rw other (taken_exactly 2 (c ∷ d ∷ rest) ∙ two)
-
-two_there : (text : List ℕ) (place : ℕ) → place + 2 ≤ length text → drop place text ≡ get_or text place 0 ∷ get_or text (place + 1) 0 ∷ drop (place + 2) text
-two_there text place room =
-    let second : place + 1 + 1 ≡ place + 2 = omega arith in
-    drop_more text place 0 (omega (arith, room)) ∙ ap (λ (xs : List ℕ). get_or text place 0 ∷ xs) (drop_more text (place + 1) 0 (omega (arith, room)) ∙ rw second refl)
 
 -- the low half of a byte
 low_half : (c : ℕ) → bit_and c 15 ≡ c % 16
@@ -131,20 +101,16 @@ low_half c = and_mask c 4
 pub day_spaced : (text : List ℕ) (place other : ℕ) → HasSpaced text place → (48 ≤ get_or text place 0) ⊎ (get_or text place 0 ≡ 32)
     → ReadAt (Some place) (part.Spaced field.Day) text other (bit_and (get_or text place 0) 15 * 10 + (get_or text (place + 1) 0 - 48))
 day_spaced text place other h (inl low) =
-    let c : ℕ = get_or text place 0 in
-    let tens : bit_and c 15 ≡ c - 48 = omega (arith, low_half c, low, h.first_high) in
-    rw tens (ap (taken (spaced_between 2 2)) (two_there text place h.room) ∙ spaced_two c (get_or text (place + 1) 0) (drop (place + 2) text) low h.first_high h.second_low h.second_high)
+    let tens : bit_and (get_or text place 0) 15 ≡ get_or text place 0 - 48 = omega (arith, low_half (get_or text place 0), low, h.first_high) in
+    let pair : HasPair text place = record { room = h.room; first = record { low = low; high = h.first_high }; second = record { low = h.second_low; high = h.second_high } } in
+    rw tens (without_space (drop place text) (drop (place + 2) text) _ (two_there text place pair))
 day_spaced text place other h (inr is) =
-    let c : ℕ = get_or text place 0 in
-    let d : ℕ = get_or text (place + 1) 0 in
-    let tens : bit_and c 15 * 10 + (d - 48) ≡ d - 48 = omega (arith, low_half c, is) in
-    rw tens (ap (taken (spaced_between 2 2)) (two_there text place h.room) ∙ spaced_one c d (drop (place + 2) text) is h.second_low h.second_high)
+    let tens : bit_and (get_or text place 0) 15 * 10 + (get_or text (place + 1) 0 - 48) ≡ get_or text (place + 1) 0 - 48 = omega (arith, low_half (get_or text place 0), is) in
+    let next : place + 1 + 1 ≡ place + 2 = omega arith in
+    let one = rw next at (one_digit text (place + 1) (omega (arith, h.room)) (record { low = h.second_low; high = h.second_high })) in
+    rw tens (after_space (drop place text) (drop (place + 1) text) (drop (place + 2) text) _ (byte_there text place 32 (omega (arith, h.room)) is) one)
 
 -- ---- what a front has room for
-
-day_own : (has_tail : Bool) → own has_tail 1 ≡ true
-day_own true = refl
-day_own false = refl
 
 module _ (s : Shape) (b : Beside) (ready : is_ready s b ≡ true) where
   rooms : (has_room s.length b.month ≡ true) × (has_room s.length b.weekday ≡ true) × (takes_ones s.windows b.day ≡ true) × (has_digits s.length b.fraction ≡ true)
@@ -164,22 +130,6 @@ module _ (s : Shape) (b : Beside) (ready : is_ready s b ≡ true) where
   pub weekday_room : (place : ℕ) → b.weekday ≡ Some place → place + 4 ≤ s.length
   weekday_room place is = name_room b.weekday place rooms.1 is
 
-  -- for the digits of a fraction
-  pub record HasRoom (place count : ℕ) : Type 0 where
-    pub some : 1 ≤ count
-    pub few : count ≤ 8
-    pub far : 8 ≤ place + count
-    pub within : place + count ≤ s.length
-
-  pub digits_room : (x : ℕ × ℕ) → b.fraction ≡ Some x → HasRoom x.0 x.1
-  digits_room x is =
-      let l = s.length in
-      let all : (nat_le 1 x.1 && (nat_le x.1 8 && (nat_le 8 (x.0 + x.1) && nat_le (x.0 + x.1) l))) ≡ true = rw is at rooms.3 in
-      let a = both (nat_le 1 x.1) (nat_le x.1 8 && (nat_le 8 (x.0 + x.1) && nat_le (x.0 + x.1) l)) all in
-      let e = both (nat_le x.1 8) (nat_le 8 (x.0 + x.1) && nat_le (x.0 + x.1) l) a.1 in
-      let c = both (nat_le 8 (x.0 + x.1)) (nat_le (x.0 + x.1) l) e.1 in
-      record { some = at_most 1 x.1 a.0; few = at_most x.1 8 e.0; far = at_most 8 (x.0 + x.1) c.0; within = at_most (x.0 + x.1) l c.1 }
-
   module _ (text : List ℕ) (d m o t : ℕ) (x : AreSums s text d m o t) (small : (k : ℕ) → get_or text k 0 < 256) (place : ℕ) (is : b.day ≡ Some place) where
     day_taken : (spares_one s.windows 2 && (lets_at s.windows place 32 25 && takes_one s.windows 3 (place + 1) 9)) ≡ true
     day_taken = let e = rooms.2 in rw is at e
@@ -190,8 +140,6 @@ module _ (s : Shape) (b : Beside) (ready : is_ready s b ≡ true) where
         let w = s.windows in
         let a = both (spares_one w 2) (lets_at w place 32 25 && takes_one w 3 (place + 1) 9) day_taken in
         let e = both (lets_at w place 32 25) (takes_one w 3 (place + 1) 9) a.1 in
-        let tens = byte_within w text x.front place 32 25 x.front_taken small (lets_there w place 32 25 e.0) (lit< tt) in
-        let same_two = x.own_lane 1 (lit< tt) (day_own s.has_tail) in
-        let ones = one_taken w text x.front x.n x.front_taken 1 (place + 1) (lit< tt) (spare_one w 2 a.0) (digit_there w 3 (place + 1) 9 e.1)
-        (λ p q. (omega (arith, x.paired 1 (lit< tt) (omega (arith, p, same_two.0)) (omega (arith, q, same_two.1)), same_two.0, same_two.1))) in
+        let tens = byte_within w text x.front x.front_taken small place 32 25 e.0 (lit< tt) in
+        let ones = one_taken w text x.front x.front_taken small x.n 1 (place + 1) (lit< tt) a.0 e.1 (paired_first (taker_of s) text x.front x.both x.n x.front_taken small x.own_lane x.paired 1 (lit< tt) refl) in
         (record { room = omega (arith, ones.room); first_low = tens.0; first_high = tens.1; second_low = ones.digit.low; second_high = ones.digit.high }, omega (arith, x.days_are, x.few.month, ones.is))

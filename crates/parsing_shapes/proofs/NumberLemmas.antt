@@ -1,47 +1,43 @@
 -- What lanes take of a text, and of its end, as the numbers of what it says.
 use Rattle.std.proofs.Common.{◌≡◌, ◌≤◌, ◌<◌, ◌/◌, ◌∙◌, ◌==◌, ℕ, Bool, true, false, List, [], ◌++◌, drop, get_or, length, refl, sym, ap, arith}
-use Rattle.std.proofs.lemmas.Bool.Decides.{nat_tests}
 use Rattle.parsing_values.specs.Numbers.{HaveNumbers}
 use Rattle.parsing_values.specs.declared.fields.Fields.{Fields}
-use Rattle.parsing_places.specs.Tail.{is_fraction}
 use Rattle.parsing_places.specs.declared.lanes.Moves.{Moves}
 use Rattle.parsing_places.specs.declared.shape.Window.{Window}
 use Rattle.parsing_layout.specs.Layout.{length_of}
 use Rattle.parsing_layout.specs.declared.parts.Part.{Part}
 use Rattle.parsing_shapes.specs.Moment.{SaysTailed}
 use Rattle.parsing_shapes.specs.Numbers.{AreOfSums, SaysNumbers, second_if}
-use Rattle.parsing_shapes.specs.Shape.{fits, takes_all, takes_part}
-use Rattle.parsing_shapes.specs.Tail.{FitsEnd, SparesOffset, fraction_parts}
+use Rattle.parsing_shapes.specs.Shape.{fits, taker_of, takes_all, takes_part}
+use Rattle.parsing_shapes.specs.Tail.{fraction_parts}
 use Rattle.parsing_shapes.specs.declared.numbers.Numbers.{Numbers}
 use Rattle.parsing_shapes.specs.declared.shape.Shape.{Shape}
 use Rattle.parsing_layout.proofs.LayoutLemmas.{says_both}
 use Rattle.parsing_shapes.proofs.MomentLemmas.{IsPlaced, are_few, values, front_said, end_said, offset_said}
 use Rattle.parsing_shapes.proofs.TailLemmas.{none_written}
-use Rattle.parsing_shapes.proofs.TailedLemmas.{Whole}
+use Rattle.parsing_shapes.proofs.TailedLemmas.{Whole, whole_fits, whole_is_end, whole_spares}
 use Rattle.parsing_layout.proofs.TestLemmas.{both, same}
-
--- so few bytes a fraction has that can be one
-pub some_few : (bytes : ℕ) → is_fraction bytes ≡ true → bytes ≤ 10
-some_few bytes ok = grind (arith, nat_tests)
 
 -- a shape is as long as its layout
 pub long_as : (s : Shape) (front : List Part) → fits s front ≡ true → s.length ≡ length_of front
-long_as s front e = sym (same (length_of front) s.length (both (takes_all (takes_part s) front 0) (length_of front == s.length) e).1)
+long_as s front e = sym (same (length_of front) s.length (both (takes_all (takes_part (taker_of s)) front 0) (length_of front == s.length) e).1)
 
-module _ (s : Shape) (w : Window) (moves : Moves) (text digits : List ℕ) (d m o t at taken : ℕ) (h : Whole s w moves text digits d m o t at taken) where
-  pub numbers_said : (has_second : Bool) (nanosecond bytes : ℕ) (n : Numbers) (front zone : List Part) → AreOfSums n has_second text s.year d m o t nanosecond → fits s front ≡ true → FitsEnd w zone → IsPlaced s zone text bytes nanosecond → (bytes ≡ 1 → ⊥) → (has_second ≡ false → bytes ≡ 0)
-      → nanosecond < 1_000_000_000 → (is_utc : Bool) → (is_utc ≡ true → SparesOffset w) → SaysNumbers has_second is_utc front bytes zone text n
-  numbers_said has_second nanosecond bytes n front zone y fits_front fits_end p more short bound is_utc utc =
+module _ (s : Shape) (w : Window) (moves : Moves) (zone : List Part) (is_utc : Bool) (text digits : List ℕ) (d m o t at taken : ℕ) (h : Whole s w moves zone is_utc text digits d m o t at taken) where
+  pub numbers_said : (has_second : Bool) (nanosecond bytes : ℕ) (n : Numbers) (front : List Part) → AreOfSums n has_second text s.year d m o t nanosecond → fits s front ≡ true → IsPlaced s zone text bytes nanosecond → (bytes ≡ 1 → ⊥) → (has_second ≡ false → bytes ≡ 0)
+      → nanosecond < 1_000_000_000 → SaysNumbers has_second is_utc front bytes zone text n
+  numbers_said has_second nanosecond bytes n front y fits_front p more short bound =
       let x = h.taken in
-      let few = are_few s w text (length text) d m o t h.tail h.is_end x h.small in
+      let is_end = whole_is_end s w moves zone is_utc text digits d m o t at taken h in
+      let fits_end = whole_fits s w moves zone is_utc text digits d m o t at taken h in
+      let few = are_few s w text (length text) d m o t h.tail is_end x h.small in
       let long = long_as s front fits_front in
       let high : n.high ≡ get_or x.n 0 0 = y.high_is ∙ (omega (arith, x.days_are, few.month)) in
       let low : n.low ≡ get_or x.n 2 0 = y.low_is ∙ (omega (arith, x.days_are, few.month)) in
       let seconds : t / 64 ≡ get_or x.n 14 0 = omega (arith, x.seconds_are, few.sign) in
       record {
-        values = values s w text d m o t h.tail h.is_end x h.small n.year nanosecond bytes front zone y.year_is y.even fits_front fits_end h.sixteen p;
-        front_says = rw long at (front_said s w text d m o t h.tail h.is_end x h.small n.year nanosecond bytes front zone y.year_is y.even fits_front fits_end h.sixteen p);
-        end_says = rw long at (end_said s w text d m o t h.tail h.is_end x h.small n.year nanosecond bytes front zone y.year_is y.even fits_front fits_end h.sixteen p);
+        values = values s w text d m o t h.tail is_end x h.small n.year nanosecond bytes front zone y.year_is y.even fits_front fits_end h.sixteen p;
+        front_says = rw long at (front_said s w text d m o t h.tail is_end x h.small n.year nanosecond bytes front zone y.year_is y.even fits_front fits_end h.sixteen p);
+        end_says = rw long at (end_said s w text d m o t h.tail is_end x h.small n.year nanosecond bytes front zone y.year_is y.even fits_front fits_end h.sixteen p);
         more = more;
         none = λ e. y.fraction_is ∙ none_written _ _ nanosecond (omega (arith, e)) p.written;
         short = short;
@@ -52,7 +48,7 @@ module _ (s : Shape) (w : Window) (moves : Moves) (text digits : List ℕ) (d m 
         hour_few = omega (arith, x.minutes_are, y.minute_is, n.within_a_day);
         minute_few = few.minute;
         fraction_few = omega (arith, y.fraction_is, bound);
-        offset_is = offset_said s w text d m o t h.tail h.is_end x h.small n.year nanosecond bytes front zone y.year_is y.even fits_front fits_end h.sixteen p n.offset y.value is_utc utc;
+        offset_is = offset_said s w text d m o t h.tail is_end x h.small n.year nanosecond bytes front zone y.year_is y.even fits_front fits_end h.sixteen p n.offset y.value is_utc (whole_spares s w moves zone is_utc text digits d m o t at taken h);
       }
 
 -- ---- fields

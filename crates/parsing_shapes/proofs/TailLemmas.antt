@@ -1,30 +1,25 @@
 -- What stands after the parts of a shape: a fraction, and what a window over the end of the text takes.
-use Rattle.std.proofs.Common.{◌≡◌, ◌≤◌, ◌<◌, ◌+◌, ◌-◌, ◌*◌, ◌%◌, ◌∙◌, ℕ, zero, suc, true, false, List, [], ◌∷◌, get_or, length, drop, Some, refl, arith, lit<, lit≤, inl, inr}
-use Rattle.std.specs.Prelude.{◌⊎◌, nat_le}
-use Rattle.std.proofs.lemmas.Bool.{cases_lt}
+use Rattle.std.proofs.Common.{◌≡◌, ◌≤◌, ◌<◌, ◌+◌, ◌-◌, ◌*◌, ◌%◌, ◌∙◌, ℕ, zero, suc, true, false, List, [], ◌∷◌, get_or, length, drop, Option, Some, None, refl, sym, ap, arith}
+use Rattle.std.specs.Prelude.{nat_le}
 use Rattle.std.proofs.lemmas.Bool.Decides.{nat_tests}
-use Rattle.std.proofs.lemmas.List.{drop-drop}
+use Rattle.std.proofs.lemmas.List.{drop-drop, get_or-drop, get_or-replicate, length-drop}
 use Rattle.base.specs.Bytes.{dot}
-use Rattle.parsing_combinator.specs.Pieces.{digits, digit_count}
+use Rattle.parsing_combinator.specs.Pieces.{digit_count}
 use Rattle.parsing_values.specs.Written.{WriteFraction}
-use Rattle.parsing_places.specs.Lanes.{above}
-use Rattle.parsing_places.specs.Last.{HaveEnd, HaveFraction}
-use Rattle.parsing_places.specs.Shape.{Takes}
-use Rattle.parsing_places.specs.Tail.{LetsByte, TakesSigned, TakesZulu, TakesFraction, is_fraction, is_zulu}
-use Rattle.parsing_places.specs.Windows.{LetsIn}
-use Rattle.parsing_places.specs.declared.ending.Ending.{Ending}
-use Rattle.parsing_places.specs.declared.ending.Ending.TheVariants.{Zulu, Colon, Plain}
+use Rattle.parsing_places.specs.Last.{HaveEnd, HaveWindow}
+use Rattle.parsing_places.specs.Numbers.{LieIn}
+use Rattle.parsing_places.specs.Windows.{Taken}
 use Rattle.parsing_places.specs.declared.shape.Window.{Window}
-use Rattle.parsing_places.proofs.NumberLemmas.{SignAt, in_window}
-use Rattle.parsing_places.proofs.ReadLemmas.{Pair, Paired, pair_read, same_lane}
-use Rattle.parsing_layout.specs.Layout.{Values, Says, Fits, piece_of, value_of, width, length_of, exact_fraction}
+use Rattle.parsing_places.proofs.ReadLemmas.{Paired, zero_or}
+use Rattle.parsing_layout.specs.Layout.{Values, Says, length_of, exact_fraction}
 use Rattle.parsing_layout.specs.declared.parts.Field.{Field}
 use Rattle.parsing_layout.specs.declared.parts.Part.{Part}
 use Rattle.parsing_layout.specs.declared.parts.Field.TheVariants as field
-use Rattle.parsing_layout.specs.declared.parts.Part.TheVariants as part
-use Rattle.parsing_shapes.specs.Tail.{TakesEnd, TakesEndDigits, TakesOffset, FitsEnd, SparesOffset, IsEnd, fraction_parts, zone_parts}
-use Rattle.parsing_layout.proofs.LayoutLemmas.{says_there}
-use Rattle.parsing_shapes.proofs.TakenLemmas.{literal_there, sign_read}
+use Rattle.parsing_layout.proofs.TestLemmas.{at_most, both}
+use Rattle.parsing_shapes.specs.End.{alone, end_of, fits_end}
+use Rattle.parsing_shapes.specs.Shape.{own, pair_of, takes_all, takes_part}
+use Rattle.parsing_shapes.specs.Tail.{fraction_parts, is_fraction}
+use Rattle.parsing_shapes.proofs.TakenLemmas.{SameLanes, literal_there, parts_say}
 
 -- ---- the fraction
 
@@ -49,64 +44,6 @@ fraction_says text place end (suc count) nanosecond v is all room point w =
 pub none_written : (bytes : List ℕ) (count n : ℕ) → count ≡ 0 → WriteFraction bytes count n → n ≡ 0
 none_written bytes count n e w = w.value ∙ rw e refl
 
-module _ (w : Window) (text digits : List ℕ) (at count : ℕ) (takes : TakesFraction w at count) (h : HaveEnd w text (length text) digits) where
-  pub fraction_taken : 16 ≤ length text → HaveFraction text (length text - 16 + at - count) count digits
-  fraction_taken long = record {
-    few = takes.few;
-    each = λ k lt.
-        let place : length text - 16 + (at - count + k) ≡ length text - 16 + at - count + k = omega (arith, takes.room) in
-        rw place at (h.taken k (at - count + k) 9 (omega (arith, lt, takes.few)) (lit≤ tt) (takes.each k lt));
-    zeros = λ k le lt. h.none k lt (takes.nothing k le lt);
-  }
-
-  pub digits_few : 16 ≤ length text → (k : ℕ) → k < 16 → get_or digits k 0 ≤ 9
-  digits_few long k lt = elim (cases_lt k count) [
-    | inl there ↦ ((fraction_taken long).each k there).few
-    | inr past ↦ omega (arith, (fraction_taken long).zeros k past lt)
-  ]
-
--- ---- the ends of tails
-
-pub lets_byte : (w : Window) (place byte : ℕ) → LetsByte w place byte → LetsIn w place byte 0
-lets_byte w place byte l = record { inside = l.inside; low_is = l.low; high_is = omega (arith, l.high) }
-
-zulu_fits : (w : Window) → TakesZulu w → FitsEnd w (zone_parts Zulu)
-zulu_fits w z = record { few = lit≤ tt; taken = ((lit< tt, lets_byte w 15 90 z.zulu), tt) }
-
-sign_taken : (w : Window) (width place : ℕ) → TakesSigned width w place → TakesEnd w part.Sign place
-sign_taken w width place t = (t.alone, t.sign_is, record { inside = omega (arith, t.end); low_is = t.sign_low; high_is = t.sign_high })
-
-pub zone_fits : (e : Ending) (w : Window) → (e ≡ Zulu → TakesZulu w) → (e ≡ Colon → TakesSigned 1 w 10) → (e ≡ Plain → TakesSigned 0 w 11) → FitsEnd w (zone_parts e)
-zone_fits Zulu w z c p = zulu_fits w (z refl)
-zone_fits Colon w z c p = let t = c refl in record { few = lit≤ tt; taken = (sign_taken w 1 10 t, ((refl, t.hour_tens, t.hour_ones), ((lit< tt, lets_byte w 13 58 (t.colon (lit< tt))), ((refl, t.minute_tens, t.minute_ones), tt)))) }
-zone_fits Plain w z c p = let t = p refl in record { few = lit≤ tt; taken = (sign_taken w 0 11 t, ((refl, t.hour_tens, t.hour_ones), ((refl, t.minute_tens, t.minute_ones), tt))) }
-
-offset_taken : (w : Window) (width place : ℕ) → TakesSigned width w place → TakesOffset w
-offset_taken w width place t = record {
-  hour = place + 1;
-  hour_next = place + 2;
-  minute = place + width + 3;
-  minute_next = place + width + 4;
-  sign = place;
-  hour_tens = t.hour_tens;
-  hour_ones = t.hour_ones;
-  minute_tens = t.minute_tens;
-  minute_ones = t.minute_ones;
-  alone = t.alone;
-  sign_is = t.sign_is;
-  lets = record { inside = omega (arith, t.end); low_is = t.sign_low; high_is = t.sign_high };
-}
-
-pub zone_offset : (e : Ending) (w : Window) → (e ≡ Zulu → TakesZulu w) → (e ≡ Colon → TakesSigned 1 w 10) → (e ≡ Plain → TakesSigned 0 w 11) → SparesOffset w ⊎ TakesOffset w
-zone_offset Zulu w z c p = inl (z refl).nothing
-zone_offset Colon w z c p = inr (offset_taken w 1 10 (c refl))
-zone_offset Plain w z c p = inr (offset_taken w 0 11 (p refl))
-
-pub zulu_spares : (e : Ending) (w : Window) → (e ≡ Zulu → TakesZulu w) → is_zulu e ≡ true → SparesOffset w
-zulu_spares Zulu w z is = (z refl).nothing
-zulu_spares Colon w z is = absurd cc
-zulu_spares Plain w z is = absurd cc
-
 pub is_some : (bytes : ℕ) → (bytes ≡ 1 → ⊥) → bytes ≤ 10 → is_fraction bytes ≡ true
 is_some bytes more few = grind (arith, nat_tests)
 
@@ -114,84 +51,47 @@ is_some bytes more few = grind (arith, nat_tests)
 pub not_one : (bytes : ℕ) → is_fraction bytes ≡ true → bytes ≡ 1 → ⊥
 not_one bytes ok one = let never : false ≡ true = rw one at ok in cc
 
--- ---- the lanes of an end
+-- ---- the end of a text, as a text of sixteen bytes
 
-shifted : (Takes' : Part → ℕ → Type 0) (by : ℕ) (parts : List Part) (at : ℕ) → Fits Takes' parts at → Fits (λ p place. (a : ℕ) × (place ≡ by + a) × Takes' p a) parts (by + at)
-shifted Takes' by [] at h = tt
-shifted Takes' by (p ∷ ps) at h =
-    let next : by + at + width p ≡ by + (at + width p) = omega arith in
-    ((at, refl, h.0), rw next (shifted Takes' by ps (at + width p) h.1))
+pub end_taken : (w : Window) (text v : List ℕ) (at : ℕ) → HaveWindow w text at v → Taken (alone w) (drop at text) v
+end_taken w text v at h =
+    let lies : LieIn w (drop at text) 0 = λ k lt. (let same : 0 + k ≡ k = omega arith in rw (same, get_or-drop at text k 0) (h.lies k lt)) in
+    record {
+      front = [];
+      back = v;
+      front_there = record { lies = lies; taken = λ lane place lt inside is. absurd (omega (arith, inside, is, get_or-replicate {A = ℕ} 16 lane 128 0 lt)); none = λ lane lt free. refl };
+      back_there = record { lies = lies; taken = λ lane place lt inside is. (let same : 0 + place ≡ place = omega arith in rw (same, get_or-drop at text place 0) (h.taken lane place lt inside is)); none = h.none };
+      joined = λ k lt. sym (zero_or (get_or v k 0));
+    }
 
-module _ (w : Window) (text : List ℕ) (end : ℕ) (v2 v n : List ℕ) (h : HaveEnd w text end v2)
-    (same_two : (j : ℕ) → 4 ≤ j → j ≤ 6 → (get_or v (2 * j) 0 ≡ get_or v2 (2 * j) 0) × (get_or v (2 * j + 1) 0 ≡ get_or v2 (2 * j + 1) 0))
-    (paired : Paired v n) (small : (k : ℕ) → get_or text k 0 < 256) where
-  two : (j at most : ℕ) → 4 ≤ j → j ≤ 5 → most ≤ 9 → Takes w (2 * j) at most → Takes w (2 * j + 1) (at + 1) 9 → Pair text (end - 16 + at) (get_or n (2 * j) 0) most
-  two j at most low high few t u =
-      let place = end - 16 + at in
-      let next : end - 16 + (at + 1) ≡ place + 1 = omega arith in
-      let e = same_two j low (omega (arith, high)) in
-      let first = same_lane v2 v text (2 * j) place most e.0 (h.taken (2 * j) at most (omega (arith, high)) few t) in
-      let second = same_lane v2 v text (2 * j + 1) (place + 1) 9 e.1 (rw next at (h.taken (2 * j + 1) (at + 1) 9 (omega (arith, high)) (lit≤ tt) u)) in
-      pair_read v n text (2 * j) place most first second (paired j (omega (arith, high)) (omega (arith, first.few, few)) second.few)
+pub small_there : (text : List ℕ) (at : ℕ) → ((k : ℕ) → get_or text k 0 < 256) → (k : ℕ) → get_or (drop at text) k 0 < 256
+small_there text at small k = rw (get_or-drop at text k 0) (small (at + k))
 
-  few : (j at next most : ℕ) → 4 ≤ j → j ≤ 6 → most ≤ 9 → Takes w (2 * j) at most → Takes w (2 * j + 1) next 9 → get_or n (2 * j) 0 ≤ most * 10 + 9
-  few j at next most low high small_most t u =
-      let e = same_two j low high in
-      let x = (h.taken (2 * j) at most (omega (arith, high)) small_most t).few in
-      let y = (h.taken (2 * j + 1) next 9 (omega (arith, high)) (lit≤ tt) u).few in
-      omega (arith, paired j (omega (arith, high)) (omega (arith, e.0, x, small_most)) (omega (arith, e.1, y)), e.0, e.1, x, y)
+-- the lanes of an offset are its own
+abbrev pub EndLanes : List ℕ → List ℕ → Type 0
+EndLanes v v2 = (j : ℕ) → 4 ≤ j → j ≤ 6 → (get_or v (2 * j) 0 ≡ get_or v2 (2 * j) 0) × (get_or v (2 * j + 1) 0 ≡ get_or v2 (2 * j + 1) 0)
 
-  nothing : SparesOffset w → (j : ℕ) → 4 ≤ j → j ≤ 6 → get_or n (2 * j) 0 ≡ 0
-  nothing free j low high =
-      let e = same_two j low high in
-      let x = h.none (2 * j) (omega (arith, high)) (free (2 * j) (omega (arith, low)) (omega (arith, high))) in
-      let y = h.none (2 * j + 1) (omega (arith, high)) (free (2 * j + 1) (omega (arith, low)) (omega (arith, high))) in
-      omega (arith, paired j (omega (arith, high)) (omega (arith, e.0, x)) (omega (arith, e.1, y)), e.0, e.1, x, y)
+pub end_lanes : (w : Window) (v v2 : List ℕ) → EndLanes v v2 → SameLanes (end_of w) v v2
+end_lanes w v v2 same j lt mine = same j (grind (arith, nat_tests, mine)) (grind (arith, nat_tests, lt, mine))
 
-  sign_at_end : (at : ℕ) → TakesEnd w part.Sign at → SignAt text (end - 16 + at) (get_or n 12 0)
-  sign_at_end at t =
-      let lets = t.2 in
-      let b = in_window w text (end - 16) at 43 2 small h.lies lets (lit< tt) in
-      let twelve = h.none 12 (lit< tt) t.0 in
-      let thirteen : get_or v2 13 0 ≡ above (get_or text (end - 16 + at) 0) 43 = rw lets.low_is at (h.raw 13 at (lit< tt) lets.inside t.1) in
-      let off : above (get_or text (end - 16 + at) 0) 43 ≡ get_or text (end - 16 + at) 0 - 43 = omega (arith, b.0, b.1) in
-      let e = same_two 6 (lit≤ tt) (lit≤ tt) in
-      let sum : get_or n 12 0 ≡ get_or v 12 0 * 10 + get_or v 13 0 = paired 6 (lit< tt) (omega (arith, e.0, twelve)) (omega (arith, e.1, thirteen, off, b.1)) in
-      record { low = b.0; high = b.1; is = omega (arith, sum, e.0, e.1, twelve, thirteen, off) }
-
-  -- an offset is below twenty hours, and a sign one of three bytes
-  pub end_few : IsEnd w → (get_or n 8 0 ≤ 19) × (get_or n 10 0 ≤ 59) × (get_or n 12 0 ≤ 2)
-  end_few is_end = elim is_end.offset [
-    | inl free ↦ (omega (arith, nothing free 4 (lit≤ tt) (lit≤ tt)), omega (arith, nothing free 5 (lit≤ tt) (lit≤ tt)), omega (arith, nothing free 6 (lit≤ tt) (lit≤ tt)))
-    | inr t ↦
-        let s = sign_at_end t.sign (t.alone, t.sign_is, t.lets) in
-        (few 4 t.hour t.hour_next 1 (lit≤ tt) (lit≤ tt) (lit≤ tt) t.hour_tens t.hour_ones, few 5 t.minute t.minute_next 5 (lit≤ tt) (lit≤ tt) (lit≤ tt) t.minute_tens t.minute_ones, omega (arith, s.is, s.high))
-  ]
-
-  pub end_none : SparesOffset w → (get_or n 8 0 ≡ 0) × (get_or n 10 0 ≡ 0) × (get_or n 12 0 ≡ 0)
-  end_none free = (nothing free 4 (lit≤ tt) (lit≤ tt), nothing free 5 (lit≤ tt) (lit≤ tt), nothing free 6 (lit≤ tt) (lit≤ tt))
+abbrev index : Option ℕ → ℕ
+index None = 0
+index (Some j) = j
 
 module _ (w : Window) (text : List ℕ) (end : ℕ) (v2 v n : List ℕ) (values : Values)
     (are : (values field.OffsetHour ≡ get_or n 8 0) × (values field.OffsetMinute ≡ get_or n 10 0) × (values field.Sign ≡ get_or n 12 0 + 43)) (h : HaveEnd w text end v2)
-    (same_two : (j : ℕ) → 4 ≤ j → j ≤ 6 → (get_or v (2 * j) 0 ≡ get_or v2 (2 * j) 0) × (get_or v (2 * j + 1) 0 ≡ get_or v2 (2 * j + 1) 0))
-    (paired : Paired v n) (small : (k : ℕ) → get_or text k 0 < 256) (sixteen : 16 ≤ end) (within : end ≤ length text) (even : get_or n 12 0 % 2 ≡ 0) where
-  byte_at : (c at : ℕ) → c < 256 → LetsIn w at c 0 → get_or text (end - 16 + at) 0 ≡ c
-  byte_at c at lt lets = let b = in_window w text (end - 16) at c 0 small h.lies lets (omega (arith, lt)) in omega (arith, b.0, b.1)
+    (same_two : EndLanes v v2) (paired : Paired v n) (small : (k : ℕ) → get_or text k 0 < 256) (sixteen : 16 ≤ end) (within : end ≤ length text) (even : get_or n 12 0 % 2 ≡ 0) where
+  end_number : (f : Field) (j : ℕ) → pair_of f ≡ Some j → own (end_of w) j ≡ true → values f ≡ get_or n (2 * j) 0
+  end_number field.OffsetHour j e mine = let is : 4 ≡ j = ap index e in rw (sym is) are.0
+  end_number field.OffsetMinute j e mine = let is : 5 ≡ j = ap index e in rw (sym is) are.1
+  end_number f j e mine = absurd (let is = ap index e in grind (arith, nat_tests, is, mine))
 
-  digits_at : (f : Field) (k at : ℕ) → TakesEndDigits w f k at → digits k (drop (end - 16 + at) text) ≡ Some (values f, drop (end - 16 + at + k) text)
-  digits_at field.OffsetHour k at t = rw (t.0, are.0) (two w text end v2 v n h same_two paired small 4 at 1 (lit≤ tt) (lit≤ tt) (lit≤ tt) t.1 t.2).written
-  digits_at field.OffsetMinute k at t = rw (t.0, are.1) (two w text end v2 v n h same_two paired small 5 at 5 (lit≤ tt) (lit≤ tt) (lit≤ tt) t.1 t.2).written
-  digits_at f k at t = absurd t
-
-  part_at : (p : Part) (at : ℕ) → TakesEnd w p at → piece_of p (drop (end - 16 + at) text) ≡ Some (value_of p values, drop (end - 16 + at + width p) text)
-  part_at (part.Byte c) at t = literal_there text (end - 16 + at) c (omega (arith, t.1.inside, sixteen, within)) (byte_at c at t.0 t.1)
-  part_at (part.Digits f k) at t = digits_at f k at t
-  part_at part.Sign at t =
-      let s = sign_at_end w text end v2 v n h same_two paired small at t in
-      rw are.2 (sign_read text (end - 16 + at) (get_or n 12 0) (omega (arith, t.2.inside, sixteen, within)) s.low s.high s.is even)
-  part_at p at t = absurd t
-
-  pub end_says : (parts : List Part) → FitsEnd w parts → Says parts (drop (end - length_of parts) text) values (drop end text)
+  pub end_says : (parts : List Part) → fits_end w parts ≡ true → Says parts (drop (end - length_of parts) text) values (drop end text)
   end_says parts fits =
-      let begins : end - 16 + (16 - length_of parts) ≡ end - length_of parts = omega (arith, sixteen, fits.few) in
-      says_there (λ p place. (a : ℕ) × (place ≡ end - 16 + a) × TakesEnd w p a) text values (λ p place t. rw t.1 (part_at p t.0 t.2)) parts (end - length_of parts) end (omega (arith, sixteen, fits.few)) (rw begins at (shifted (TakesEnd w) (end - 16) parts (16 - length_of parts) fits.taken))
+      let b = both (nat_le (length_of parts) 16) (takes_all (takes_part (end_of w)) parts (16 - length_of parts)) fits in
+      let few = at_most (length_of parts) 16 b.0 in
+      let begins : end - 16 + (16 - length_of parts) ≡ end - length_of parts = omega (arith, sixteen, few) in
+      let ends : end - 16 + 16 ≡ end = omega (arith, sixteen) in
+      let says = parts_say (end_of w) (drop (end - 16) text) v2 v n (end_taken w text v2 (end - 16) h) (small_there text (end - 16) small) (end_lanes w v v2 same_two) paired values (omega (arith, length-drop (end - 16) text, sixteen, within)) even
+      (λ at is. absurd cc) end_number are.2 parts (16 - length_of parts) 16 (omega (arith, few)) b.1 in
+      rw (drop-drop (16 - length_of parts) (end - 16) text, drop-drop 16 (end - 16) text, begins, ends) at says

@@ -4,7 +4,8 @@ use Rattle.parsing_places.specs.declared.windows.Windows.{Windows}
 use Rattle.parsing_layout.specs.Layout.{piece_of, width}
 use Rattle.parsing_layout.specs.declared.parts.Field.{Field}
 use Rattle.parsing_layout.specs.declared.parts.Part.{Part}
-use Rattle.parsing_shapes.specs.Windows.{lets_at, spares_one, takes_one}
+use Rattle.parsing_places.specs.Windows.{lets_at, spares_one, takes_one}
+use Rattle.parsing_shapes.specs.Shape.{is_at}
 use Rattle.parsing_layout.specs.declared.parts.Field.TheVariants as field
 use Rattle.parsing_layout.specs.declared.parts.Names.TheVariants as names
 use Rattle.parsing_layout.specs.declared.parts.Part.TheVariants as part
@@ -20,10 +21,6 @@ is_beside b (Some field.Nanosecond) = is_some b.fraction
 is_beside b other = false
 
 -- whether a part stands where its number is read
-abbrev pub is_at : Option ℕ → ℕ → Bool
-is_at None at = false
-is_at (Some place) at = place == at
-
 abbrev pub is_fraction_at : Option (ℕ × ℕ) → ℕ → ℕ → Bool
 is_fraction_at None count at = false
 is_fraction_at (Some x) count at = (x.0 == at) && (x.1 == count)

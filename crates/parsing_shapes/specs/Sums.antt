@@ -1,7 +1,7 @@
 -- The numbers that lanes take of a text, in four sums.
 use Rattle.std.specs.Prelude.{◌≡◌, ◌≤◌, ◌<◌, ◌+◌, ◌*◌, ℕ, true, List, get_or}
 use Rattle.parsing_places.specs.Windows.{Taken}
-use Rattle.parsing_shapes.specs.Shape.{own}
+use Rattle.parsing_shapes.specs.Shape.{own, taker_of}
 use Rattle.parsing_shapes.specs.declared.shape.Shape.{Shape}
 
 -- numbers are no larger than the bounds of their lanes
@@ -20,7 +20,7 @@ pub record AreSums (s : Shape) (text : List ℕ) (days minutes offsets seconds :
   pub both : List ℕ
   pub n : List ℕ
   pub front_taken : Taken s.windows text front
-  pub own_lane : (j : ℕ) → j < 8 → own s.has_tail j ≡ true → (get_or both (2 * j) 0 ≡ get_or front (2 * j) 0) × (get_or both (2 * j + 1) 0 ≡ get_or front (2 * j + 1) 0)
+  pub own_lane : (j : ℕ) → j < 8 → own (taker_of s) j ≡ true → (get_or both (2 * j) 0 ≡ get_or front (2 * j) 0) × (get_or both (2 * j + 1) 0 ≡ get_or front (2 * j + 1) 0)
   pub paired : (j : ℕ) → j < 8 → get_or both (2 * j) 0 ≤ 9 → get_or both (2 * j + 1) 0 ≤ 9 → get_or n (2 * j) 0 ≡ get_or both (2 * j) 0 * 10 + get_or both (2 * j + 1) 0
   pub days_are : days ≡ get_or n 0 0 + 64 * get_or n 2 0
   pub minutes_are : minutes ≡ 60 * get_or n 4 0 + get_or n 6 0

@@ -1,12 +1,16 @@
 -- What may follow a date and a time of day: a fraction of a second, then an offset.
-use Rattle.std.specs.Prelude.{zero, suc, ◌≡◌, ◌≤◌, ◌<◌, ◌+◌, ◌-◌, ◌⊎◌, ℕ, List, [], ◌∷◌, get_or}
+use Rattle.std.specs.Prelude.{zero, suc, ◌≡◌, ◌≤◌, ◌<◌, ◌+◌, ◌-◌, ◌⊎◌, ◌==◌, ◌&&◌, ◌||◌, ℕ, Bool, true, not, nat_le, nat_lt, List, [], ◌∷◌, get_or, set, if◌then◌else◌}
+use Rattle.std.proofs.lemmas.Bool.{agree_below}
 use Rattle.base.specs.Bytes.{dot, colon, upper_z, lower_z}
-use Rattle.parsing_places.specs.Shape.{Takes}
-use Rattle.parsing_places.specs.Windows.{LetsIn}
+use Rattle.parsing_places.specs.Last.{with_moves}
+use Rattle.parsing_places.specs.Tail.{is_zulu}
+use Rattle.parsing_places.specs.Windows.{lets, spares, takes}
 use Rattle.parsing_places.specs.declared.ending.Ending.{Ending}
 use Rattle.parsing_places.specs.declared.ending.Ending.TheVariants.{Zulu, Colon, Plain}
+use Rattle.parsing_places.specs.declared.lanes.Moves.{Moves}
 use Rattle.parsing_places.specs.declared.shape.Window.{Window}
-use Rattle.parsing_layout.specs.Layout.{Fits, length_of}
+use Rattle.parsing_layout.specs.Layout.{length_of}
+use Rattle.parsing_shapes.specs.End.{fits_end, is_end_bounded, spares_clock}
 use Rattle.parsing_layout.specs.declared.parts.Field.{Field}
 use Rattle.parsing_layout.specs.declared.parts.Part.{Part}
 use Rattle.parsing_layout.specs.declared.parts.Field.TheVariants as field
@@ -27,46 +31,52 @@ zone_parts Plain = part.Sign ∷ part.Digits field.OffsetHour 2 ∷ part.Digits 
 abbrev pub small_parts : List Part
 small_parts = part.Byte lower_z ∷ []
 
--- ---- what a window over the end of a text takes
-
-abbrev pub TakesEndDigits : Window → Field → ℕ → ℕ → Type 0
-TakesEndDigits w field.OffsetHour n at = (n ≡ 2) × Takes w 8 at 1 × Takes w 9 (at + 1) 9
-TakesEndDigits w field.OffsetMinute n at = (n ≡ 2) × Takes w 10 at 5 × Takes w 11 (at + 1) 9
-TakesEndDigits w f n at = ⊥
-
-abbrev pub TakesEnd : Window → Part → ℕ → Type 0
-TakesEnd w (part.Byte c) at = (c < 256) × LetsIn w at c 0
-TakesEnd w (part.Digits f n) at = TakesEndDigits w f n at
-TakesEnd w part.Sign at = (128 ≤ get_or w.taken.lanes 12 0) × (get_or w.taken.lanes 13 0 ≡ at) × LetsIn w at 43 2
-TakesEnd w other at = ⊥
-
--- its last places were made for the parts
-pub record FitsEnd (w : Window) (parts : List Part) : Type 0 where
-  pub few : length_of parts ≤ 16
-  pub taken : Fits (TakesEnd w) parts (16 - length_of parts)
-
--- its lanes take no offset
-abbrev pub SparesOffset : Window → Type 0
-SparesOffset w = (k : ℕ) → 8 ≤ k → k < 14 → 128 ≤ get_or w.taken.lanes k 0
-
--- or one below twenty hours, with a sign
-pub record TakesOffset (w : Window) : Type 0 where
-  pub hour : ℕ
-  pub hour_next : ℕ
-  pub minute : ℕ
-  pub minute_next : ℕ
-  pub sign : ℕ
-  pub hour_tens : Takes w 8 hour 1
-  pub hour_ones : Takes w 9 hour_next 9
-  pub minute_tens : Takes w 10 minute 5
-  pub minute_ones : Takes w 11 minute_next 9
-  pub alone : 128 ≤ get_or w.taken.lanes 12 0
-  pub sign_is : get_or w.taken.lanes 13 0 ≡ sign
-  pub lets : LetsIn w sign 43 2
-
--- and nothing of a date and of a time of day
+-- a window takes an offset, or nothing of one, and nothing else
 pub record IsEnd (w : Window) : Type 0 where
-  pub no_clock : (k : ℕ) → k < 8 → 128 ≤ get_or w.taken.lanes k 0
-  pub no_tens : 128 ≤ get_or w.taken.lanes 14 0
-  pub no_ones : 128 ≤ get_or w.taken.lanes 15 0
-  pub offset : SparesOffset w ⊎ TakesOffset w
+  pub has_offset : Bool
+  pub clock : spares_clock w ≡ true
+  pub offset : is_end_bounded w has_offset ≡ true
+
+-- ---- the tails of a table
+
+-- where an offset begins, and which row of three it has
+abbrev pub offset_at : Ending → ℕ
+offset_at Zulu = 15
+offset_at Colon = 10
+offset_at Plain = 11
+
+abbrev pub tail_row : Ending → ℕ
+tail_row Zulu = 0
+tail_row Plain = 1
+tail_row Colon = 2
+
+-- a byte that ends no such offset: `0`, or else `Z`
+abbrev pub other_end : Ending → ℕ
+other_end e = if is_zulu e then 48 else 90
+
+-- whether a fraction can have so many bytes: none, or its point and one to nine digits
+abbrev pub is_fraction : ℕ → Bool
+is_fraction bytes = nat_le bytes 10 && not (bytes == 1)
+
+-- a lane takes one of so many digits that end at a place, or nothing
+abbrev pub takes_digit : Window → ℕ → ℕ → ℕ → Bool
+takes_digit w at count k = if nat_lt k count then takes w k (at - count + k) 9 else spares w k
+
+-- other lanes take a fraction of so many bytes, its point among them, that ends at a place
+abbrev pub takes_fraction : Window → Moves → ℕ → ℕ → Bool
+takes_fraction w digits at bytes = (nat_lt (bytes - 1) at && ((bytes == 0) || lets w (at - bytes) dot 0)) && agree_below (takes_digit (with_moves w digits) at (bytes - 1)) (λ _. true) 16
+
+-- and a window takes the zone after it, and nothing else
+abbrev pub is_tail : Window → Moves → ℕ → ℕ → List Part → Bool → Bool
+is_tail w digits at bytes zone is_utc = (fits_end w zone && (spares_clock w && is_end_bounded w (not is_utc))) && takes_fraction w digits at bytes
+
+-- the same bounds, with another byte at the end
+abbrev pub ending_in : ℕ → Window → Window
+ending_in last w = record { low = set w.low 15 last; high = w.high; taken = w.taken }
+
+-- what a row of the table is for so many bytes: where no fraction has as many, no text has it, and with a small `z` in the place of `Z` it is a tail too
+abbrev pub is_row : Window → Moves → Ending → ℕ → Bool
+is_row w digits e bytes =
+    if is_fraction bytes
+    then is_tail w digits (offset_at e) bytes (zone_parts e) (is_zulu e) && (not (is_zulu e) || is_tail (ending_in lower_z w) digits 15 bytes small_parts true)
+    else lets w 15 (other_end e) 0

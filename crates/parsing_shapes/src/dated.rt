@@ -8,11 +8,12 @@ ghost use Rattle.parsing_shapes.specs.Numbers.{AreOfSums, SaysNumbers, second_if
 ghost use Rattle.parsing_shapes.specs.Shape.{fits};
 ghost use Rattle.parsing_shapes.specs.Tail.{small_parts, zone_parts};
 
-use crate::moment::{long_fraction, tailed_sums_of, with_last};
+use crate::moment::{long_fraction, tailed_sums_of};
 use crate::numbers::Numbers;
 use crate::shape::Shape;
 use crate::sums::Sums;
-use parsing_places::{Ending, LANES, Window, ending_of, fraction_of, length_of, signed, tail_of};
+use crate::tails::{length_of, tail_of};
+use parsing_places::{Ending, LANES, ending_of, fraction_of, signed};
 use parsing_values::{Fraction, Year};
 
 // A second, if there is one, and else 0.
@@ -22,14 +23,6 @@ fn second_if(has_second: bool, second: u8) -> u8
     ensures bound { result ≤ second }
 {
     if has_second { second } else { 0 }
-}
-
-// Whether a fraction of so many bytes may follow: without a second none does.
-#[inline(always)]
-fn lets_fraction(has_second: bool, bytes: usize) -> bool
-    ensures { result ≡ true → has_second ≡ false → bytes ≡ 0 }
-{
-    has_second || bytes == 0
 }
 
 /// The numbers of sums, of the year at a place, and of a fraction, with the second or without.
@@ -85,12 +78,11 @@ pub fn read_numbers(
     }
     let ending = ending_of(text[text.len() - 1], has_colon);
     let tail = tail_of(ending, text.len().wrapping_sub(shape.length))?;
-    if !lets_fraction(has_second, tail.fraction) {
+    if !has_second && tail.fraction != 0 {
         return None;
     }
     let (sums, digits) = tailed_sums_of(shape, &tail.window, &tail.digits, text)?;
-    let numbers = numbers_of(text, shape.year, has_second, sums, fraction_of(digits))?;
-    Some(numbers)
+    numbers_of(text, shape.year, has_second, sums, fraction_of(digits))
 }
 
 /// The same with a second, and with a small `z` in the place of an offset.
@@ -108,13 +100,10 @@ pub(crate) fn read_small_numbers(shape: &Shape, text: &[u8]) -> Option<Numbers>
     if tail.fraction == 1 || tail.fraction > 10 {
         return None;
     }
-    let last = Window {
-        low: with_last(tail.window.low, b'z'),
-        ..tail.window
-    };
+    let mut last = tail.window;
+    last.low[LANES - 1] = b'z';
     let (sums, digits) = tailed_sums_of(shape, &last, &tail.digits, text)?;
-    let numbers = numbers_of(text, shape.year, true, sums, fraction_of(digits))?;
-    Some(numbers)
+    numbers_of(text, shape.year, true, sums, fraction_of(digits))
 }
 
 /// The same with a second and more than nine digits after the point, of which the first nine are the fraction.
@@ -137,6 +126,5 @@ pub fn read_long_numbers(shape: &Shape, has_colon: bool, text: &[u8]) -> Option<
     let tail = tail_of(ending, width)?;
     let fraction = long_fraction(text, shape.length + 1, text.len() - width)?;
     let (sums, _) = tailed_sums_of(shape, &tail.window, &tail.digits, text)?;
-    let numbers = numbers_of(text, shape.year, true, sums, fraction)?;
-    Some(numbers)
+    numbers_of(text, shape.year, true, sums, fraction)
 }

@@ -1,9 +1,9 @@
 //! Tests of windows: what they let stand at a place, and what they take.
 ghost use Rattle.std.specs.Prelude.{◌≡◌, ◌≤◌, ◌<◌, ◌+◌, true, IfSome};
-ghost use Rattle.parsing_shapes.specs.Shape.{most_of, own, pair_of, takes_digits, takes_pair_at, takes_part};
-ghost use Rattle.parsing_shapes.specs.Windows.{are_bounded, is_bounded, is_lane_bounded, is_offset_bounded, is_sign_bounded, lets, lets_at, lets_year, source, spares, spares_one, spares_two, takes, takes_one, takes_sign, takes_two};
+ghost use Rattle.parsing_places.specs.Windows.{are_bounded, is_bounded, is_lane_bounded, is_offset_bounded, is_sign_bounded, lets, lets_at, lets_year, source, spares, spares_from, spares_one, spares_two, takes, takes_one, takes_sign, takes_two};
+ghost use Rattle.parsing_shapes.specs.Shape.{is_at, most_of, own, pair_of, takes_digits, takes_pair_at, takes_part};
 
-use crate::shape::Shape;
+use crate::taker::Taker;
 use parsing_layout::{Field, Part};
 use parsing_places::{LANES, Window, Windows};
 
@@ -12,23 +12,23 @@ pub(crate) const FAR: usize = 1000;
 
 // ---- one window
 
-/// Whether a byte from the lowest on, and at most so far above it, alone can stand at a place.
-pub(crate) fn lets(window: &Window, place: usize, low: u8, most: u8) -> bool
+// Whether a byte from the lowest on, and at most so far above it, alone can stand at a place.
+fn lets(window: &Window, place: usize, low: u8, most: u8) -> bool
     ensures { result ≡ lets window.now place low most }
 {
     place < LANES && window.low[place] == low && window.high[place] <= most
 }
 
-/// Whether a lane takes nothing.
-pub(crate) fn spares(window: &Window, lane: usize) -> bool
+// Whether a lane takes nothing.
+fn spares(window: &Window, lane: usize) -> bool
     requires { lane < LANES }
     ensures { result ≡ spares window.now lane }
 {
     window.taken.lanes[lane] >= 128
 }
 
-/// Whether a lane takes a digit at a place, at most so large.
-pub(crate) fn takes(window: &Window, lane: usize, place: usize, most: u8) -> bool
+// Whether a lane takes a digit at a place, at most so large.
+fn takes(window: &Window, lane: usize, place: usize, most: u8) -> bool
     requires { lane < LANES }
     ensures { result ≡ takes window.now lane place most }
 {
@@ -140,13 +140,24 @@ fn is_bounded(windows: &Windows, lane: usize, most: u8) -> bool
     is_lane_bounded(windows, lane, most) && is_lane_bounded(windows, lane + 1, 9)
 }
 
-// Whether those of an offset take nothing, where it is left to a tail, or hours below 20 and minutes, with a sign, or nothing.
-fn is_offset_bounded(windows: &Windows, has_tail: bool) -> bool
+/// Whether so many lanes from one on take nothing.
+pub(crate) fn spares_from(windows: &Windows, lane: usize, count: usize) -> bool
+    requires { lane + count ≤ LANES }
+    ensures { result ≡ spares_from windows.now lane count }
+{
+    if count == 0 {
+        return true;
+    }
+    spares_one(windows, lane) && spares_from(windows, lane + 1, count - 1)
+}
+
+/// Whether those of an offset take nothing, where it is left to a tail, or hours below 20 and minutes, with a sign, or nothing.
+pub(crate) fn is_offset_bounded(windows: &Windows, has_tail: bool) -> bool
     requires { windows.now.back_at < FAR }
     ensures { result ≡ is_offset_bounded windows.now has_tail }
 {
     if has_tail {
-        return spares_two(windows, 8) && spares_two(windows, 10) && spares_two(windows, 12);
+        return spares_from(windows, 8, 6);
     }
     is_bounded(windows, 8, 1)
         && is_bounded(windows, 10, 5)
@@ -195,46 +206,60 @@ fn most_of(field: Field) -> u8
     }
 }
 
-// Whether two lanes are those of a shape, and not of a tail.
-fn owns(shape: &Shape, pair: usize) -> bool
-    ensures { result ≡ own shape.now.has_tail pair }
+// Whether two lanes are those of what takes parts.
+fn owns(taker: &Taker, pair: usize) -> bool
+    ensures { result ≡ own taker.now pair }
 {
-    !shape.has_tail || pair < 4 || pair == 7
+    if pair < 4 || pair == 7 {
+        taker.has_clock
+    } else {
+        taker.has_offset
+    }
+}
+
+/// Whether a place is one that may be known.
+pub(crate) fn is_at(place: Option<usize>, at: usize) -> bool
+    ensures { result ≡ is_at place at }
+{
+    match place {
+        Some(place) => place == at,
+        None => false,
+    }
 }
 
 // Whether the lanes of a field take a number of two digits.
-fn takes_pair(shape: &Shape, field: Field, count: usize, place: usize) -> bool
+fn takes_pair(taker: &Taker, field: Field, count: usize, place: usize) -> bool
     requires { place < FAR }
-    ensures { result ≡ takes_pair_at shape.now.windows shape.now.has_tail (pair_of field) (most_of field) count place }
+    ensures { result ≡ takes_pair_at taker.now (pair_of field) (most_of field) count place }
 {
     let Some(pair) = pair_of(field) else {
         return false;
     };
-    count == 2 && owns(shape, pair) && takes_two(&shape.windows, 2 * pair, place, most_of(field))
+    count == 2 && owns(taker, pair) && takes_two(&taker.windows, 2 * pair, place, most_of(field))
 }
 
 // Whether lanes take the digits of a field, or they are those of the year.
-fn takes_digits(shape: &Shape, field: Field, count: usize, place: usize) -> bool
+fn takes_digits(taker: &Taker, field: Field, count: usize, place: usize) -> bool
     requires { place < FAR }
-    ensures { result ≡ true → takes_digits shape.now field count place ≡ true }
+    ensures { result ≡ true → takes_digits taker.now field count place ≡ true }
 {
     match field {
-        Field::Year => count == 4 && place == shape.year,
+        Field::Year => count == 4 && is_at(taker.year, place),
         Field::Weekday | Field::OrdinalOnes => false,
-        _ => takes_pair(shape, field, count, place),
+        _ => takes_pair(taker, field, count, place),
     }
 }
 
 /// Whether lanes take a part at a place.
-pub(crate) fn takes_part(shape: &Shape, part: Part, place: usize) -> bool
+pub(crate) fn takes_part(taker: &Taker, part: Part, place: usize) -> bool
     requires { place < FAR }
-    ensures { result ≡ true → takes_part shape.now part place ≡ true }
+    ensures { result ≡ true → takes_part taker.now part place ≡ true }
 {
     match part {
-        Part::Byte(byte) => lets_at(&shape.windows, place, byte, 0) && place < shape.length,
-        Part::Any => place < shape.length,
-        Part::Digits(field, count) => takes_digits(shape, field, count, place),
-        Part::Sign => owns(shape, 6) && takes_sign(&shape.windows, place) && place < shape.length,
+        Part::Byte(byte) => lets_at(&taker.windows, place, byte, 0) && place < taker.length,
+        Part::Any => place < taker.length,
+        Part::Digits(field, count) => takes_digits(taker, field, count, place),
+        Part::Sign => owns(taker, 6) && takes_sign(&taker.windows, place) && place < taker.length,
         _ => false,
     }
 }

@@ -157,11 +157,7 @@ impl Made {
 
     /// The windows of the first sixteen bytes, and of the last.
     pub(crate) fn windows(&self) -> Option<Windows> {
-        let back_at = if self.length > LANES {
-            self.length - LANES
-        } else {
-            0
-        };
+        let back_at = self.length.saturating_sub(LANES);
         let mut first = self.moves(0, &NOTHING);
         first[SIGN] = 128;
         let last = self.moves(back_at, &first);

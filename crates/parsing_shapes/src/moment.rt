@@ -1,8 +1,7 @@
 //! The fields of a text, whose numbers are all read at once.
-ghost use Rattle.std.specs.Prelude.{◌≡◌, ◌≤◌, ◌<◌, ◌+◌, ◌-◌, ℕ, drop, get_or, length, false, true, IfSome, List};
+ghost use Rattle.std.specs.Prelude.{◌≡◌, ◌≤◌, ◌<◌, ◌+◌, ◌-◌, drop, length, true, IfSome, List};
 ghost use Rattle.parsing_values.specs.Written.{WriteFraction};
-ghost use Rattle.parsing_places.specs.Last.{HaveEnd};
-ghost use Rattle.parsing_places.specs.Shape.{with_moves};
+ghost use Rattle.parsing_places.specs.Last.{HaveEnd, with_moves};
 ghost use Rattle.parsing_places.specs.Tail.{is_written, is_zulu};
 ghost use Rattle.parsing_places.specs.declared.ending.Ending.{Ending};
 ghost use Rattle.parsing_layout.specs.declared.parts.Part.{Part};
@@ -31,30 +30,11 @@ pub(crate) fn tailed_sums_of(
     ensures fraction { IfSome result
         (λ x. HaveEnd (with_moves last.now fraction.now) text.now (length text.now) x.1) }
 {
-    let windows = &shape.windows;
-    let (fits, front, end, digits) = digits_of_whole(
-        &windows.prefix,
-        &windows.back,
-        windows.back_at,
-        last,
-        fraction,
-        text,
-    );
+    let (fits, front, end, digits) = digits_of_whole(&shape.windows, last, fraction, text);
     if !fits {
         return None;
     }
     Some((sums(paired(joined(front, end))), digits))
-}
-
-/// The lowest bytes of a window, with another one at its last place.
-#[inline(always)]
-pub(crate) fn with_last(low: [u8; LANES], last: u8) -> [u8; LANES]
-    ensures there { get_or result 15 0 ≡ last }
-    ensures others { (k : ℕ) → k < 15 → get_or result k 0 ≡ get_or low k 0 }
-{
-    let mut low = low;
-    low[LANES - 1] = last;
-    low
 }
 
 // How many digits a fraction keeps.
@@ -91,8 +71,7 @@ pub fn read_moment(shape: &Shape, has_colon: bool, text: &[u8]) -> Option<Fields
         × SaysTailed front (is_zulu e) (zone_parts e) text.now f) }
 {
     let numbers = read_numbers(shape, has_colon, true, text)?;
-    let fields = numbers.on_day(numbers.high, numbers.low)?;
-    Some(fields)
+    numbers.on_day(numbers.high, numbers.low)
 }
 
 /// The same with a small `z` in the place of an offset.
@@ -103,8 +82,7 @@ pub fn read_small_moment(shape: &Shape, text: &[u8]) -> Option<Fields>
         → IfSome result (SaysTailed front true small_parts text.now) }
 {
     let numbers = read_small_numbers(shape, text)?;
-    let fields = numbers.on_day(numbers.high, numbers.low)?;
-    Some(fields)
+    numbers.on_day(numbers.high, numbers.low)
 }
 
 /// The same as `read_moment`, with more than nine digits after the point.
@@ -116,6 +94,5 @@ pub fn read_long_moment(shape: &Shape, has_colon: bool, text: &[u8]) -> Option<F
         × SaysTailed front (is_zulu e) (zone_parts e) text.now f) }
 {
     let numbers = read_long_numbers(shape, has_colon, text)?;
-    let fields = numbers.on_day(numbers.high, numbers.low)?;
-    Some(fields)
+    numbers.on_day(numbers.high, numbers.low)
 }

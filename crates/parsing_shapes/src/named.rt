@@ -3,7 +3,7 @@ ghost use Rattle.std.specs.Prelude.{◌≡◌, ◌≤◌, drop, false, length, t
 ghost use Rattle.parsing_layout.specs.declared.parts.Part.{Part};
 ghost use Rattle.parsing_shapes.specs.Named.{SaysNamed};
 ghost use Rattle.parsing_shapes.specs.Shape.{fits};
-ghost use Rattle.parsing_shapes.specs.Windows.{spares_two};
+ghost use Rattle.parsing_places.specs.Windows.{spares_two};
 
 use crate::dated::numbers_of;
 use crate::shape::Shape;
@@ -25,6 +25,5 @@ pub fn read_named_moment(shape: &Shape, month: u8, text: &[u8]) -> Option<Fields
     let days = days + u32::from(month);
     let sums = (days, minute, offset, seconds);
     let numbers = numbers_of(text, shape.year, true, sums, Fraction::new(0))?;
-    let fields = numbers.on_day(numbers.high, numbers.low)?;
-    Some(fields)
+    numbers.on_day(numbers.high, numbers.low)
 }

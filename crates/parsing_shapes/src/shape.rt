@@ -1,6 +1,6 @@
 //! Where lanes take the parts of a layout.
 ghost use Rattle.std.specs.Prelude.{◌≡◌, ◌≤◌, ◌<◌, ◌+◌, true};
-ghost use Rattle.parsing_shapes.specs.Windows.{lets_year, are_bounded};
+ghost use Rattle.parsing_places.specs.Windows.{lets_year, are_bounded};
 
 use parsing_places::Windows;
 

@@ -1,7 +1,7 @@
 //! Layouts of fixed widths, and what is read by them.
 
 ghost use Rattle.std.specs.Prelude.{◌≡◌, true, false};
-ghost use Rattle.parsing_shapes.specs.Windows.{spares_two};
+ghost use Rattle.parsing_places.specs.Windows.{spares_two};
 
 use datetime_types::WallClock;
 use parsing_layout::{Field, Part, month_name_at, weekday_name_at};

@@ -1,28 +1,27 @@
 //! Fronts that are made for parts, and then checked.
 ghost use Rattle.std.specs.Prelude.{◌≡◌, ◌≤◌, ◌<◌, ◌+◌, true, IfSome, List};
-ghost use Rattle.parsing_shapes.specs.Beside.{has_digits, has_room, is_at, is_beside, is_fraction_at, is_ready, stands, takes_ones};
+ghost use Rattle.parsing_shapes.specs.Beside.{has_digits, has_room, is_beside, is_fraction_at, is_ready, stands, takes_ones};
 ghost use Rattle.parsing_shapes.specs.Front.{fits_beside, takes_beside};
 ghost use Rattle.parsing_layout.specs.Layout.{field_of, length_of};
-ghost use Rattle.parsing_shapes.specs.Shape.{takes_all};
+ghost use Rattle.parsing_shapes.specs.Shape.{taker_of, takes_all};
 
 use super::{Beside, Front};
-use crate::fits::{FAR, are_bounded, lets_at, lets_year, spares_one, takes_one, takes_part};
+use crate::fits::{FAR, are_bounded, is_at, lets_at, lets_year, spares_one, takes_one, takes_part};
 use crate::made::{Made, width};
 use crate::shape::Shape;
+use crate::taker::Taker;
 use parsing_layout::{Field, Names, Part, field_of};
 use parsing_places::LANES;
 
 impl Beside {
     // What of parts is read beside lanes, and where it stands.
-    fn of(parts: &[Part], has_offset: bool) -> Beside
-        ensures { result.has_offset ≡ has_offset }
-    {
+    fn of(parts: &[Part]) -> Beside {
         let mut beside = Beside {
             month: None,
             day: None,
             weekday: None,
             fraction: None,
-            has_offset,
+            has_offset: false,
         };
         let mut place: usize = 0;
         for part in parts {
@@ -33,9 +32,7 @@ impl Beside {
     }
 
     // Puts a part at a place.
-    fn put(&mut self, part: Part, place: usize)
-        ensures { self.new.has_offset ≡ self.old.has_offset }
-    {
+    fn put(&mut self, part: Part, place: usize) {
         match part {
             Part::Name(Names::ShortMonth, true) => self.month = Some(place),
             Part::Spaced(Field::Day) => self.day = Some(place),
@@ -79,15 +76,6 @@ impl Beside {
             && has_room(shape.length, self.weekday)
             && takes_ones(shape, self.day)
             && has_digits(shape.length, self.fraction)
-    }
-}
-
-fn is_at(place: Option<usize>, at: usize) -> bool
-    ensures { result ≡ is_at place at }
-{
-    match place {
-        Some(place) => place == at,
-        None => false,
     }
 }
 
@@ -161,37 +149,52 @@ impl Shape {
             year,
         })
     }
+
+    // What takes the parts.
+    fn taker(&self) -> Taker
+        ensures { result ≡ taker_of self.now }
+    {
+        Taker {
+            windows: self.windows,
+            has_clock: true,
+            has_offset: !self.has_tail,
+            length: self.length,
+            year: Some(self.year),
+        }
+    }
+}
+
+impl Beside {
+    // Whether lanes take a part, or it is read beside them.
+    #[tactic(auto, unfolding(crate::specs::Front::takes_beside))]
+    fn takes(&self, taker: &Taker, part: Part, place: usize) -> bool
+        requires { place < FAR }
+        ensures { result ≡ true → takes_beside taker.now self.now part place ≡ true }
+    {
+        if self.has(field_of(part)) {
+            return self.stands(part, place);
+        }
+        takes_part(taker, part, place)
+    }
+}
+
+// Whether all parts are taken or read that begin at a place, and end where the shape does.
+fn take_all(taker: &Taker, beside: &Beside, parts: &[Part], place: usize) -> bool
+    ensures all { result ≡ true
+        → takes_all (takes_beside taker.now beside.now) parts.now place ≡ true }
+    ensures end { result ≡ true → place + length_of parts.now ≡ taker.now.length }
+{
+    let [part, others @ ..] = parts else {
+        return place == taker.length;
+    };
+    let width = width(*part);
+    if place >= FAR || width >= FAR {
+        return false;
+    }
+    beside.takes(taker, *part, place) && take_all(taker, beside, others, place + width)
 }
 
 impl Front {
-    // Whether lanes take a part, or it is read beside them.
-    #[tactic(auto, unfolding(crate::specs::Front::takes_beside))]
-    fn takes(&self, part: Part, place: usize) -> bool
-        requires { place < FAR }
-        ensures { result ≡ true → takes_beside self.now.shape self.now.beside part place ≡ true }
-    {
-        if self.beside.has(field_of(part)) {
-            return self.beside.stands(part, place);
-        }
-        takes_part(&self.shape, part, place)
-    }
-
-    // Whether all parts are taken or read that begin at a place, and end where the shape does.
-    fn takes_all(&self, parts: &[Part], place: usize) -> bool
-        ensures all { result ≡ true
-            → takes_all (takes_beside self.now.shape self.now.beside) parts.now place ≡ true }
-        ensures end { result ≡ true → place + length_of parts.now ≡ self.now.shape.length }
-    {
-        let [part, others @ ..] = parts else {
-            return place == self.shape.length;
-        };
-        let width = width(*part);
-        if place >= FAR || width >= FAR {
-            return false;
-        }
-        self.takes(*part, place) && self.takes_all(others, place + width)
-    }
-
     /// The front for parts, before which nothing stands, and after which a window over the end of a text takes an offset, or none
     /// does: `None` where a part has no fixed width, or is not known.
     pub fn of_parts(parts: &[Part], has_tail: bool, has_offset: bool) -> Option<Front>
@@ -200,14 +203,14 @@ impl Front {
         ensures offset { IfSome result (λ front. front.beside.has_offset ≡ has_offset) }
     {
         let shape = Shape::made(parts, has_tail)?;
-        let beside = Beside::of(parts, has_offset);
+        let mut beside = Beside::of(parts);
+        beside.has_offset = has_offset;
         if !beside.is_ready(&shape) {
             return None;
         }
-        let front = Front { shape, beside };
-        if !front.takes_all(parts, 0) {
+        if !take_all(&shape.taker(), &beside, parts, 0) {
             return None;
         }
-        Some(front)
+        Some(Front { shape, beside })
     }
 }

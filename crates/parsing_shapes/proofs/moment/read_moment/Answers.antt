@@ -1,3 +1,4 @@
+use Rattle.std.proofs.lemmas.Option.{IfSome_then}
 use Rattle.parsing_places.specs.Tail.{is_zulu}
 use Rattle.parsing_shapes.specs.Tail.{zone_parts}
 use Rattle.parsing_shapes.proofs.NumberLemmas.{tailed}
@@ -6,4 +7,4 @@ use Rattle.parsing_shapes.proofs.moment.read_moment.Goals as goal
 pub returns : goal.returns
 returns c = λ front fits_front.
     let x = c.in_ok-numbers.ensures front fits_front in
-    (x.0, x.2, tailed front (zone_parts x.0) (is_zulu x.0) x.1 c.args.text.now c.in_ok-numbers.numbers c.in_ok-fields.fields x.4 c.in_ok-fields.ensures)
+    IfSome_then c.on_day.result c.on_day.ensures (λ f h. (x.0, x.2, tailed front (zone_parts x.0) (is_zulu x.0) x.1 c.args.text.now c.in_ok-numbers.numbers f x.4 h))

@@ -1,3 +1,4 @@
+use Rattle.std.proofs.lemmas.Option.{IfSome_then}
 use Rattle.std.proofs.Common.{arith}
 use Rattle.parsing_shapes.proofs.NamedLemmas.{in_range, named_said}
 use Rattle.parsing_shapes.proofs.named.read_named_moment.Goals as goal
@@ -16,5 +17,5 @@ numbers_of-requires c =
 pub returns : goal.returns
 returns c = λ parts fits_parts.
     let r = c.requires in
-    named_said c.args.shape.now c.args.text.now _ _ _ _ c.args.month c.in_ok-days.ensures r.whole r.spared (λ k. (omega (arith, c.type_inv.text k))) r.long r.month
-    c.in_ok-numbers.numbers c.in_ok-fields.fields (rw (c.from.ensures, c.new.ensures) at c.in_ok-numbers.ensures) c.in_ok-fields.ensures parts fits_parts
+    IfSome_then c.on_day.result c.on_day.ensures (λ f h. named_said c.args.shape.now c.args.text.now _ _ _ _ c.args.month c.in_ok-days.ensures r.whole r.spared (λ k. (omega (arith, c.type_inv.text k))) r.long r.month
+    c.in_ok-numbers.numbers f (rw (c.from.ensures, c.new.ensures) at c.in_ok-numbers.ensures) h parts fits_parts)

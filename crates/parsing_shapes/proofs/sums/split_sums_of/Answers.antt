@@ -13,7 +13,7 @@ returns-clause-sums c =
       both = c.joined.result;
       n = c.paired.result;
       front_taken = c.digits_of-lies.ensures c.if-not-lies.false;
-      end_taken = record { lies = last.lies; taken = last.taken; none = last.none; raw = last.raw };
+      end_taken = last.window;
       joined = c.joined.ensures;
       paired = c.paired.ensures;
       days_are = sums.first;

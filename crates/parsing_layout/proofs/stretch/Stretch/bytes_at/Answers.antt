@@ -1,6 +1,6 @@
-use Rattle.std.proofs.Common.{◌∙◌, sym, arith, inl, inr}
+use Rattle.std.proofs.Common.{◌∙◌, true, sym, arith, inl, inr}
 use Rattle.std.proofs.lemmas.Bool.{cases_lt, true≢false}
-use Rattle.parsing_layout.proofs.BoundsLemmas.{past_all}
+use Rattle.std.proofs.lemmas.List.{get_or_past}
 use Rattle.parsing_layout.proofs.stretch.Stretch.bytes_at.Goals as goal
 
 pub returns : goal.returns
@@ -14,7 +14,7 @@ returns c = λ byte e.
             | inr above ↦
                 elim (cases_lt byte 256) [
                   | inl few ↦ range.ensures.high byte (omega (arith, above, c.loop-byte-test.false, c.from-byte-end.ensures)) few
-                  | inr past ↦ absurd (true≢false (sym (past_all c.loop-byte.bytes byte (omega (arith, past, c.loop-byte.invariant.0))) ∙ e))
+                  | inr past ↦ absurd (true≢false (sym (get_or_past c.loop-byte.bytes byte true (omega (arith, past, c.loop-byte.invariant.0))) ∙ e))
                 ]
           ]
     ]

@@ -5,11 +5,4 @@ pub returns-clause-above : goal.returns-clause-above
 returns-clause-above c = λ k lt. rw (c.sixteen_from.ensures.bytes k lt) at (c.all_above-above.ensures.above k lt)
 
 pub returns-clause-taken : goal.returns-clause-taken
-returns-clause-taken c = λ fits. have_window _ _ _ c.all_above-above.result _ (record {
-  room = c.requires;
-  bytes = c.sixteen_from.ensures.small;
-  above_is = λ k lt. rw (c.sixteen_from.ensures.bytes k lt) at (c.all_above-above.ensures.above k lt);
-  fits = fits;
-  taken = c.taken_by.ensures.taken;
-  none = c.taken_by.ensures.none;
-})
+returns-clause-taken c = λ fits. have_window _ _ _ c.all_above-above.result _ (λ k lt. rw (c.sixteen_from.ensures.bytes k lt) at (c.all_above-above.ensures.above k lt)) fits c.taken_by.ensures.taken c.taken_by.ensures.none

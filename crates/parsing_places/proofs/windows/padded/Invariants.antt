@@ -1,6 +1,0 @@
-use Rattle.std.proofs.Common.{◌≡◌, ◌≤◌, ◌<◌, ℕ, get_or, length}
-use Rattle.parsing_places.proofs.windows.padded.Given as goal
-
--- the bytes so far, and zeros after them
-abbrev pub invariant-loop-place : goal.invariant-loop-place
-invariant-loop-place l = (length l.bytes ≡ 16) × ((k : ℕ) → k < l.place → get_or l.bytes k 0 ≡ get_or l.text k 0) × ((k : ℕ) → l.place ≤ k → get_or l.bytes k 0 ≡ 0)

@@ -1,5 +1,0 @@
-use Rattle.std.proofs.Common.{length}
-use Rattle.parsing_shapes.proofs.front.Front.+takes_all.Given as goal
-
-abbrev pub decreases-takes_all : goal.decreases-takes_all
-decreases-takes_all l = length l.parts.now
