@@ -1,5 +1,6 @@
 -- What steps say, one after the other.
 use Rattle.std.proofs.Common.{◌≡◌, ◌+◌, ◌∙◌, ◌&&◌, ◌||◌, ℕ, Bool, true, false, not, List, [], ◌∷◌, ◌++◌, length, map, take, drop, Option, Some, None, refl, sym, ap, arith, inl, inr}
+use Rattle.std.proofs.Math.Bool.{or_assoc}
 use Rattle.std.specs.Borrow.{Bor}
 use Rattle.std.specs.Prelude.{IfSome, nat_le}
 use Rattle.std.proofs.lemmas.Bool.Decides.{nat_tests}
@@ -26,7 +27,7 @@ use Rattle.parsing_strides.specs.declared.step.Step.{Step}
 use Rattle.parsing_strides.specs.declared.step.Step.TheVariants as step
 use Rattle.parsing_strides.specs.declared.stride.Stride.{Stride}
 use Rattle.parsing_strides.proofs.SameLemmas.{same_field, alone, optional}
-use Rattle.parsing_strides.proofs.StrideLemmas.{first_agrees}
+use Rattle.parsing_strides.proofs.StrideLemmas.{first_agrees, or_right}
 
 neither : (a b : Bool) → (a || b) ≡ false → (a ≡ false) × (b ≡ false)
 neither true b e = absurd cc
@@ -102,54 +103,20 @@ stride_found s is text o old new fits says kept =
     let b = both (are_certain is) (fits_stride s (all_certain is)) fits in
     found_at is text o old new b.0 (says (all_certain is) b.1) (kept (all_certain is) b.1)
 
--- parts that are copied
-pub one_copied : (is : List Item) (k : ℕ) (ps : List Part) (p : Part) (i : Item) → map item.Part (take k ps) ≡ take k is
-    → take (k + 1) is ≡ take k is ++ i ∷ [] → i ≡ item.Part p → (qs : List Part) → take (k + 1) qs ≡ take k ps ++ p ∷ [] → map item.Part (take (k + 1) qs) ≡ take (k + 1) is
-one_copied is k ps p i so_far more is_it qs set =
-    ap (map item.Part) set ∙ map-append item.Part (take k ps) (p ∷ []) ∙ ap (λ (xs : List Item). xs ++ item.Part p ∷ []) so_far
-    ∙ ap (λ (j : Item). take k is ++ j ∷ []) (sym is_it) ∙ sym more
-
-pub map_certain : (ps : List Part) → are_certain (map item.Part ps) ≡ true
-map_certain [] = refl
-map_certain (p ∷ ps) = map_certain ps
-
-pub map_all : (ps : List Part) → all_certain (map item.Part ps) ≡ ps
-map_all [] = refl
-map_all (p ∷ ps) = ap (λ (xs : List Part). p ∷ xs) (map_all ps)
-
 -- ---- two lists
 
-both_false : (a b : Bool) → a ≡ false → b ≡ false → (a || b) ≡ false
-both_false true b e f = absurd cc
-both_false false b e f = f
-
-right : (a b : Bool) → b ≡ true → (a || b) ≡ true
-right true b e = refl
-right false b e = e
+pub said_by_both : (ps qs : List Part) (f : Field) → fields_of (ps ++ qs) f ≡ (fields_of ps f || fields_of qs f)
+said_by_both [] qs f = refl
+said_by_both (p ∷ ps) qs f = rw (said_by_both ps qs f) (sym (or_assoc (is_of f (field_of p)) (fields_of ps f) (fields_of qs f)))
 
 in_first : (ps qs : List Part) (f : Field) → fields_of ps f ≡ true → fields_of (ps ++ qs) f ≡ true
-in_first [] qs f e = absurd cc
-in_first (p ∷ ps) qs f e = elim (one (is_of f (field_of p)) (fields_of ps f) e) [
-  | inl here ↦ rw here refl
-  | inr later ↦ right (is_of f (field_of p)) (fields_of (ps ++ qs) f) (in_first ps qs f later)
-]
+in_first ps qs f e = rw (said_by_both ps qs f, e) refl
 
 in_second : (ps qs : List Part) (f : Field) → fields_of qs f ≡ true → fields_of (ps ++ qs) f ≡ true
-in_second [] qs f e = e
-in_second (p ∷ ps) qs f e = right (is_of f (field_of p)) (fields_of (ps ++ qs) f) (in_second ps qs f e)
+in_second ps qs f e = rw (said_by_both ps qs f) (or_right (fields_of ps f) (fields_of qs f) e)
 
 in_neither : (ps qs : List Part) (f : Field) → fields_of (ps ++ qs) f ≡ false → (fields_of ps f ≡ false) × (fields_of qs f ≡ false)
-in_neither [] qs f e = (refl, e)
-in_neither (p ∷ ps) qs f e =
-    let n = neither (is_of f (field_of p)) (fields_of (ps ++ qs) f) e in
-    let m = in_neither ps qs f n.1 in
-    (both_false (is_of f (field_of p)) (fields_of ps f) n.0 m.0, m.1)
-
-neither_in : (ps qs : List Part) (f : Field) → fields_of ps f ≡ false → fields_of qs f ≡ false → fields_of (ps ++ qs) f ≡ false
-neither_in [] qs f first later = later
-neither_in (p ∷ ps) qs f first later =
-    let n = neither (is_of f (field_of p)) (fields_of ps f) first in
-    both_false (is_of f (field_of p)) (fields_of (ps ++ qs) f) n.0 (neither_in ps qs f n.1 later)
+in_neither ps qs f e = neither (fields_of ps f) (fields_of qs f) (sym (said_by_both ps qs f) ∙ e)
 
 not_in_first : (ps qs : List Part) (o : Option Field) → says_again (ps ++ qs) o ≡ false → says_again ps o ≡ false
 not_in_first ps qs None e = refl
@@ -196,7 +163,7 @@ both_found is js text mid rest old between new apart first later =
       kept = λ f absent. let n = in_neither first.way later.way f absent in later.kept f n.1 ∙ first.kept f n.0;
       within = λ f absent.
           let n = in_neither (all_possible is) (all_possible js) f (rw possible at absent) in
-          neither_in first.way later.way f (first.within f n.0) (later.within f n.1);
+          rw (said_by_both first.way later.way f, first.within f n.0, later.within f n.1) refl;
     }
 
 -- where the last of some steps was made for the last parts, the others for those before

@@ -20,7 +20,7 @@ use Rattle.parsing_strides.proofs.PlaceLemmas.{Lies, literal_there, any_there, o
 
 -- ---- the numbers of parts
 
-or_right : (a b : Bool) → b ≡ true → (a || b) ≡ true
+pub or_right : (a b : Bool) → b ≡ true → (a || b) ≡ true
 or_right true b e = refl
 or_right false b e = e
 

@@ -58,7 +58,7 @@ impl Step {
         match self {
             Step::Part(part) => is_alone(*part, items),
             Step::Optional(byte, part) => is_optional(*byte, *part, items),
-            Step::Stride(stride) => stride.fits_items(items),
+            Step::Stride(stride) => stride.fits(items),
         }
     }
 
