@@ -10,10 +10,9 @@ use Rattle.parsing_components.specs.declared.fields.Record.{Record}
 use Rattle.parsing_components.specs.Whole.{whole, starting, all_read}
 use Rattle.parsing_layout.specs.declared.stretch.Stretch.{Stretch}
 use Rattle.parsing_layout.specs.Stretch.{IsCut, stands}
-use Rattle.parsing_layout.specs.declared.stretch.Kind.TheVariants as kind
 use Rattle.parsing_item_layouts.specs.Fronts.{Leads}
 use Rattle.parsing_item_layouts.specs.FirstBounds.{IsWithin, AreBoundsOf}
-use Rattle.parsing_item_layouts.specs.FirstBytes.{AreOf, Fits, bytes_at, fits_at, rule_out}
+use Rattle.parsing_item_layouts.specs.FirstBytes.{AreOf, Fits, fits_at, rule_out}
 use Rattle.parsing_item_layouts.specs.declared.first_bounds.FirstBounds.{FirstBounds}
 use Rattle.parsing_item_layouts.specs.declared.first_bytes.FirstBytes.{FirstBytes}
 

@@ -1,26 +1,19 @@
 -- What a text says by items, from what has to be there and what may be.
-use Rattle.std.proofs.Common.{◌≡◌, ◌∙◌, ◌<◌, ◌||◌, ◌++◌, ℕ, Bool, true, false, List, [], ◌∷◌, refl, sym, ap, arith, inl, inr}
-use Rattle.std.proofs.Math.Bool.{or_assoc}
+use Rattle.std.proofs.Common.{◌≡◌, ◌∙◌, ◌<◌, ◌||◌, ℕ, Bool, true, false, List, [], ◌∷◌, refl, sym, arith, inl, inr}
 use Rattle.parsing_layout.specs.Items.{SaysItem, SaysItems, certain, possible, all_certain, all_possible}
-use Rattle.parsing_layout.specs.Layout.{Values, field_of}
+use Rattle.parsing_layout.specs.Layout.{Values}
 use Rattle.parsing_layout.specs.declared.parts.Field.{Field}
 use Rattle.parsing_layout.specs.Range.{most, IsAllInRange}
-use Rattle.parsing_layout.specs.Said.{Said, is_of, fields_of}
+use Rattle.parsing_layout.specs.Said.{Said, fields_of}
 use Rattle.parsing_layout.specs.declared.items.Item.{Item}
 use Rattle.parsing_layout.specs.declared.parts.Part.{Part}
 use Rattle.parsing_layout.specs.declared.items.Item.TheVariants as item
 use Rattle.parsing_layout.specs.declared.parts.Field.TheVariants as field
 use Rattle.parsing_strides.specs.Found.{values_in}
+use Rattle.parsing_strides.proofs.StepLemmas.{said_by_both}
 use Rattle.parsing_item_parts.specs.Listed.{IsWay, items_listed}
 use Rattle.parsing_item_parts.specs.Recorded.{said_or}
 use Rattle.parsing_item_parts.specs.declared.listed.Listed.{Listed}
-
--- ---- the fields of two lists
-
-said_by_both : (ps qs : List Part) (f : Field) → fields_of (ps ++ qs) f ≡ (fields_of ps f || fields_of qs f)
-said_by_both [] qs f = refl
-said_by_both (p ∷ ps) qs f =
-    ap (λ (b : Bool). is_of f (field_of p) || b) (said_by_both ps qs f) ∙ sym (or_assoc (is_of f (field_of p)) (fields_of ps f) (fields_of qs f))
 
 -- ---- what has to be there is, and what can't be is not
 

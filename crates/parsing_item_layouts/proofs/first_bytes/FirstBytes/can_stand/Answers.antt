@@ -1,4 +1,4 @@
-use Rattle.std.proofs.Common.{◌≡◌, ◌∙◌, sym, arith}
+use Rattle.std.proofs.Common.{◌∙◌, sym, arith}
 use Rattle.parsing_item_layouts.proofs.Ruled.{fails, found}
 use Rattle.parsing_item_layouts.proofs.first_bytes.FirstBytes.can_stand.Goals as goal
 
