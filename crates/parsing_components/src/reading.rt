@@ -41,8 +41,8 @@ fn offset_piece(component: Component, bytes: &[u8]) -> Option<(Read, &[u8])>
 {
     match component {
         Component::OffsetHour(m) => hour_of_offset(m.padding, m.sign_is_mandatory, bytes),
-        Component::OffsetMinute(m) => say(two(m.padding, 0, 59, bytes), |n| Read::OffsetMinute(n)),
-        Component::OffsetSecond(m) => say(two(m.padding, 0, 59, bytes), |n| Read::OffsetSecond(n)),
+        Component::OffsetMinute(m) => say(two(m.padding, 0, 59, bytes), Read::OffsetMinute),
+        Component::OffsetSecond(m) => say(two(m.padding, 0, 59, bytes), Read::OffsetSecond),
         Component::UnixTimestampSecond(m) => unix(m.sign_is_mandatory, 14, 1_000_000_000, bytes),
         Component::UnixTimestampMillisecond(m) => unix(m.sign_is_mandatory, 17, 1_000_000, bytes),
         Component::UnixTimestampMicrosecond(m) => unix(m.sign_is_mandatory, 20, 1_000, bytes),
@@ -60,15 +60,15 @@ fn time_piece(component: Component, bytes: &[u8]) -> Option<(Read, &[u8])>
     ensures range { IfSome result (λ x. IsInRange x.0) }
 {
     match component {
-        Component::Hour12(m) => say(two(m.padding, 1, 12, bytes), |n| Read::Hour12(n)),
-        Component::Hour24(m) => say(two(m.padding, 0, 23, bytes), |n| Read::Hour24(n)),
-        Component::Minute(m) => say(two(m.padding, 0, 59, bytes), |n| Read::Minute(n)),
+        Component::Hour12(m) => say(two(m.padding, 1, 12, bytes), Read::Hour12),
+        Component::Hour24(m) => say(two(m.padding, 0, 23, bytes), Read::Hour24),
+        Component::Minute(m) => say(two(m.padding, 0, 59, bytes), Read::Minute),
         Component::Period(m) => say(
             period(m.is_uppercase, m.case_sensitive, bytes),
-            |is_later| Read::Afternoon(is_later),
+            Read::Afternoon,
         ),
-        Component::Second(m) => say(two(m.padding, 0, 60, bytes), |n| Read::Second(n)),
-        Component::Subsecond(m) => say(subsecond(m.digits, bytes), |n| Read::Subsecond(n)),
+        Component::Second(m) => say(two(m.padding, 0, 60, bytes), Read::Second),
+        Component::Subsecond(m) => say(subsecond(m.digits, bytes), Read::Subsecond),
         other => offset_piece(other, bytes),
     }
 }
@@ -93,10 +93,7 @@ fn year_piece(component: Component, bytes: &[u8]) -> Option<(Read, &[u8])>
         Component::CalendarYearCenturyStandardRange(m) => {
             full_century(false, m.padding, m.sign_is_mandatory, false, bytes)
         }
-        Component::CalendarYearLastTwo(m) => say(
-            two(m.padding, 0, 99, bytes),
-            |n| Read::YearLastTwo(n),
-        ),
+        Component::CalendarYearLastTwo(m) => say(two(m.padding, 0, 99, bytes), Read::YearLastTwo),
         Component::IsoYearFullExtendedRange(m) => {
             full_year(true, m.padding, m.sign_is_mandatory, true, bytes)
         }
@@ -109,10 +106,7 @@ fn year_piece(component: Component, bytes: &[u8]) -> Option<(Read, &[u8])>
         Component::IsoYearCenturyStandardRange(m) => {
             full_century(true, m.padding, m.sign_is_mandatory, false, bytes)
         }
-        Component::IsoYearLastTwo(m) => say(
-            two(m.padding, 0, 99, bytes),
-            |n| Read::IsoYearLastTwo(n),
-        ),
+        Component::IsoYearLastTwo(m) => say(two(m.padding, 0, 99, bytes), Read::IsoYearLastTwo),
         other => time_piece(other, bytes),
     }
 }
@@ -126,45 +120,24 @@ pub fn read(component: Component, bytes: &[u8]) -> Option<(Read, &[u8])>
     ensures range { IfSome result (λ x. IsInRange x.0) }
 {
     match component {
-        Component::Day(m) => say(two(m.padding, 1, 31, bytes), |n| Read::Day(n)),
-        Component::MonthShort(m) => say(
-            short_month(m.case_sensitive, bytes),
-            |month| Read::Month(month),
-        ),
-        Component::MonthLong(m) => say(
-            long_month(m.case_sensitive, bytes),
-            |month| Read::Month(month),
-        ),
-        Component::MonthNumerical(m) => say(
-            month_number(m.padding, bytes),
-            |month| Read::Month(month),
-        ),
-        Component::Ordinal(m) => say(three(m.padding, 1, 366, bytes), |n| Read::Ordinal(n)),
-        Component::WeekdayShort(m) => say(
-            short_weekday(m.case_sensitive, bytes),
-            |day| Read::Weekday(day),
-        ),
-        Component::WeekdayLong(m) => say(
-            long_weekday(m.case_sensitive, bytes),
-            |day| Read::Weekday(day),
-        ),
+        Component::Day(m) => say(two(m.padding, 1, 31, bytes), Read::Day),
+        Component::MonthShort(m) => say(short_month(m.case_sensitive, bytes), Read::Month),
+        Component::MonthLong(m) => say(long_month(m.case_sensitive, bytes), Read::Month),
+        Component::MonthNumerical(m) => say(month_number(m.padding, bytes), Read::Month),
+        Component::Ordinal(m) => say(three(m.padding, 1, 366, bytes), Read::Ordinal),
+        Component::WeekdayShort(m) => say(short_weekday(m.case_sensitive, bytes), Read::Weekday),
+        Component::WeekdayLong(m) => say(long_weekday(m.case_sensitive, bytes), Read::Weekday),
         Component::WeekdaySunday(m) => say(
             weekday_number(true, m.one_indexed, bytes),
-            |day| Read::Weekday(day),
+            Read::Weekday,
         ),
         Component::WeekdayMonday(m) => say(
             weekday_number(false, m.one_indexed, bytes),
-            |day| Read::Weekday(day),
+            Read::Weekday,
         ),
-        Component::WeekNumberIso(m) => say(two(m.padding, 1, 53, bytes), |n| Read::IsoWeek(n)),
-        Component::WeekNumberSunday(m) => say(
-            two(m.padding, 0, 53, bytes),
-            |n| Read::SundayWeek(n),
-        ),
-        Component::WeekNumberMonday(m) => say(
-            two(m.padding, 0, 53, bytes),
-            |n| Read::MondayWeek(n),
-        ),
+        Component::WeekNumberIso(m) => say(two(m.padding, 1, 53, bytes), Read::IsoWeek),
+        Component::WeekNumberSunday(m) => say(two(m.padding, 0, 53, bytes), Read::SundayWeek),
+        Component::WeekNumberMonday(m) => say(two(m.padding, 0, 53, bytes), Read::MondayWeek),
         other => year_piece(other, bytes),
     }
 }
