@@ -32,28 +32,8 @@ fn say<T: Copy, F: FnOnce(T) -> Read>(
     Some((as_read(value), rest))
 }
 
-// What the parts of an offset, timestamps and passed bytes say.
-#[tactic(auto, unfolding(crate::specs::Component::offset_piece))]
-#[inline(always)]
-fn offset_piece(component: Component, bytes: &[u8]) -> Option<(Read, &[u8])>
-    ensures reads { cut_view result ≡ Components.offset_piece component bytes.now }
-    ensures range { IfSome result (λ x. IsInRange x.0) }
-{
-    match component {
-        Component::OffsetHour(m) => hour_of_offset(m.padding, m.sign_is_mandatory, bytes),
-        Component::OffsetMinute(m) => say(two(m.padding, 0, 59, bytes), Read::OffsetMinute),
-        Component::OffsetSecond(m) => say(two(m.padding, 0, 59, bytes), Read::OffsetSecond),
-        Component::UnixTimestampSecond(m) => unix(m.sign_is_mandatory, 14, 1_000_000_000, bytes),
-        Component::UnixTimestampMillisecond(m) => unix(m.sign_is_mandatory, 17, 1_000_000, bytes),
-        Component::UnixTimestampMicrosecond(m) => unix(m.sign_is_mandatory, 20, 1_000, bytes),
-        Component::UnixTimestampNanosecond(m) => unix(m.sign_is_mandatory, 23, 1, bytes),
-        Component::Ignore(m) => ignored(m.count, bytes).map(|rest| (Read::Nothing, rest)),
-        _ => None,
-    }
-}
-
-// What the parts of a time say.
-#[tactic(auto, unfolding(crate::specs::Component::time_piece))]
+// What the parts of a time and of an offset, timestamps and passed bytes say.
+#[tactic(auto, unfolding(crate::specs::Component::time_piece, crate::specs::Component::offset_piece))]
 #[inline(always)]
 fn time_piece(component: Component, bytes: &[u8]) -> Option<(Read, &[u8])>
     ensures reads { cut_view result ≡ Components.time_piece component bytes.now }
@@ -69,7 +49,15 @@ fn time_piece(component: Component, bytes: &[u8]) -> Option<(Read, &[u8])>
         ),
         Component::Second(m) => say(two(m.padding, 0, 60, bytes), Read::Second),
         Component::Subsecond(m) => say(subsecond(m.digits, bytes), Read::Subsecond),
-        other => offset_piece(other, bytes),
+        Component::OffsetHour(m) => hour_of_offset(m.padding, m.sign_is_mandatory, bytes),
+        Component::OffsetMinute(m) => say(two(m.padding, 0, 59, bytes), Read::OffsetMinute),
+        Component::OffsetSecond(m) => say(two(m.padding, 0, 59, bytes), Read::OffsetSecond),
+        Component::UnixTimestampSecond(m) => unix(m.sign_is_mandatory, 14, 1_000_000_000, bytes),
+        Component::UnixTimestampMillisecond(m) => unix(m.sign_is_mandatory, 17, 1_000_000, bytes),
+        Component::UnixTimestampMicrosecond(m) => unix(m.sign_is_mandatory, 20, 1_000, bytes),
+        Component::UnixTimestampNanosecond(m) => unix(m.sign_is_mandatory, 23, 1, bytes),
+        Component::Ignore(m) => ignored(m.count, bytes).map(|rest| (Read::Nothing, rest)),
+        _ => None,
     }
 }
 

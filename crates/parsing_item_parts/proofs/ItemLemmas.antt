@@ -1,8 +1,7 @@
 -- Items read what their parts say, one after the other.
-use Rattle.std.proofs.Common.{◌≡◌, ◌∙◌, ◌+◌, ◌≤◌, ℕ, Bool, true, false, List, [], ◌∷◌, ◌++◌, length, map, take, Option, Some, None, Ok, Err, refl, sym, ap, arith, append_assoc}
+use Rattle.std.proofs.Common.{◌≡◌, ◌∙◌, ◌≤◌, ℕ, Bool, true, false, List, [], ◌∷◌, ◌++◌, length, map, Option, Some, None, Ok, Err, refl, sym, ap, arith, append_assoc}
 use Rattle.std.specs.Prelude.{IfSome}
 use Rattle.std.specs.Option.{option_and_then}
-use Rattle.std.proofs.lemmas.List.{append-nil}
 use Rattle.parsing_combinator.specs.Fault.{Fault}
 use Rattle.description_items.specs.Tree.{Tree, listed}
 use Rattle.parsing_components.specs.Put.{put}
@@ -116,54 +115,23 @@ pub nothing_left : (language : Language) (r : Record) (rest : List ℕ) → read
 unfolding each_reads all_of
 nothing_left language r rest = refl
 
-abbrev ReadsThen : Language → List Tree → Tree → Type 0
-ReadsThen language ts t = (r at new : Record) (line mid rest : List ℕ) → reading_of_all language (listed ts) r line ≡ Ok (at, mid) → reading language t at mid ≡ Ok (new, rest)
-    → reading_of_all language (listed (ts ++ t ∷ [])) r line ≡ Ok (new, rest)
-
-then_at : (language : Language) (u : Tree) (ts : List Tree) (t : Tree) (o : Answer) (r at new : Record) (line mid rest : List ℕ) → ReadsThen language ts t
-    → reading language u r line ≡ o → reading_of_all language (listed (u ∷ ts)) r line ≡ Ok (at, mid) → reading language t at mid ≡ Ok (new, rest)
-    → reading_of_all language (listed (u ∷ (ts ++ t ∷ []))) r line ≡ Ok (new, rest)
-then_at language u ts t (Ok x) r at new line mid rest others is e last =
-    first_read language u (ts ++ t ∷ []) r x.0 line x.1 is
-    ∙ others x.0 at new x.1 mid rest (sym (first_read language u ts r x.0 line x.1 is) ∙ e) last
-then_at language u ts t (Err f) r at new line mid rest others is e last =
-    absurd (let never : Err f ≡ Ok (at, mid) = sym (refused language u ts r line f is) ∙ e in cc)
-
-read_then : (language : Language) (ts : List Tree) (t : Tree) → ReadsThen language ts t
-read_then language [] t r at new line mid rest e last =
-    let same : (r, line) ≡ (at, mid) = let both : Ok (r, line) ≡ Ok (at, mid) = sym (nothing_left language r line) ∙ e in cc in
-    let there : reading language t r line ≡ Ok (new, rest) = ap (λ (x : Record × List ℕ). reading language t x.0 x.1) same ∙ last in
-    first_read language t [] r new line rest there ∙ nothing_left language new rest
-read_then language (u ∷ ts) t r at new line mid rest e last =
-    then_at language u ts t (reading language u r line) r at new line mid rest (read_then language ts t) refl e last
-
-pub item_more : (language : Language) (ts : List Tree) (t : Tree) (xs ys : List Item) → AreItems (reading_of_all language (listed ts)) xs
-    → AreItems (reading language t) ys → AreItems (reading_of_all language (listed (ts ++ t ∷ []))) (xs ++ ys)
-item_more language ts t xs ys all one line v rest way r new says sets =
+pub items_first : (language : Language) (t : Tree) (ts : List Tree) (xs ys : List Item) → AreItems (reading language t) xs
+    → AreItems (reading_of_all language (listed ts)) ys → AreItems (reading_of_all language (listed (t ∷ ts))) (xs ++ ys)
+items_first language t ts xs ys one others line v rest way r new says sets =
     let s = says_split xs ys line v rest way says in
     let b = set_both s.first s.second v r new (rw s.both at sets) in
-    read_then language ts t r b.mid new line s.mid rest
-    (all line v s.mid s.first r b.mid s.by_first b.first) (one s.mid v rest s.second b.mid new s.by_second b.second)
+    first_read language t ts r b.mid line s.mid (one line v s.mid s.first r b.mid s.by_first b.first)
+    ∙ others s.mid v rest s.second b.mid new s.by_second b.second
 
 -- ---- lists that grow
 
-pub no_items : (is_all : Bool) → parts_of_items is_all [] ≡ []
-no_items true = refl
-no_items false = refl
+pub parts_more : (is_all : Bool) (i : Item) (is : List Item) → parts_of_items is_all (i ∷ is) ≡ parts_of_item is_all i ++ parts_of_items is_all is
+parts_more true i is = refl
+parts_more false i is = refl
 
-an_item : (is_all : Bool) (i : Item) (is : List Item) → parts_of_items is_all (i ∷ is) ≡ parts_of_item is_all i ++ parts_of_items is_all is
-an_item true i is = refl
-an_item false i is = refl
-
-item_after : (is_all : Bool) (is : List Item) (i : Item) → parts_of_items is_all (is ++ i ∷ []) ≡ parts_of_items is_all is ++ parts_of_item is_all i
-item_after is_all [] i = rw (an_item is_all i [], no_items is_all) (append-nil (parts_of_item is_all i))
-item_after is_all (j ∷ is) i =
-    rw (an_item is_all j (is ++ i ∷ []), an_item is_all j is, item_after is_all is i) (sym (append_assoc (parts_of_item is_all j) (parts_of_items is_all is) (parts_of_item is_all i)))
-
-pub grown : (is_all : Bool) (is : List Item) (k : ℕ) (i : Item) (old new : List Part) → take (k + 1) is ≡ take k is ++ i ∷ []
-    → old ≡ parts_of_items is_all (take k is) → new ≡ old ++ parts_of_item is_all i → new ≡ parts_of_items is_all (take (k + 1) is)
-grown is_all is k i old new cut so_far added =
-    rw cut (added ∙ ap (λ (xs : List Part). xs ++ parts_of_item is_all i) so_far ∙ sym (item_after is_all (take k is) i))
+pub no_more : (is_all : Bool) → parts_of_items is_all [] ≡ []
+no_more true = refl
+no_more false = refl
 
 few_certain : (is : List Item) → length (all_certain is) ≤ length is
 few_certain [] = omega arith
