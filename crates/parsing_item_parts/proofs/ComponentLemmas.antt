@@ -274,9 +274,6 @@ unfolding reads_component_v3
 same_v3 (component.Ignore m) ps line e = absurd cc
 same_v3 c ps line e = refl
 
-component_is_v3 : (c : Component) (ps : List Part) → parts_of c ≡ Some ps → IsItem (putting (reads_component_v3 c)) ps
-component_is_v3 c ps e line v rest r new says sets = rw (same_v3 c ps line e) (component_is c ps e line v rest r new says sets)
-
 -- ---- literals
 
 text_there : (text line rest : List ℕ) (v : Values) → Says (map part.Byte text) line v rest → line ≡ text ++ rest
@@ -306,4 +303,4 @@ component_read c ps e = component_is c ps e
 
 pub component_read_v3 : (c : Component) (ps : List Part) → parts_of c ≡ Some ps → IsItem (reading reads_component_v3 (tree.Part c)) ps
 unfolding reads
-component_read_v3 c ps e = component_is_v3 c ps e
+component_read_v3 c ps e line v rest r new says sets = rw (same_v3 c ps line e) (component_is c ps e line v rest r new says sets)

@@ -6,7 +6,7 @@ use Rattle.parsing_combinator.specs.Fault.{Fault}
 use Rattle.description_items.specs.Tree.{Tree, listed}
 use Rattle.parsing_components.specs.Put.{put}
 use Rattle.parsing_components.specs.declared.said.Read.{Read}
-use Rattle.parsing_components.specs.Meaning.{Meaning, Answer, Counted, then_counted, all_of}
+use Rattle.parsing_components.specs.Meaning.{Meaning, then_counted, all_of}
 use Rattle.parsing_components.specs.Reads.{Language, reading, reading_of_all, reads, each_reads}
 use Rattle.parsing_components.specs.declared.fields.Record.{Record}
 use Rattle.parsing_layout.specs.Layout.{Values, field_of}
@@ -28,10 +28,6 @@ pub chosen : (o : Option Read) (ps : List Part) (v : Values) (r new : Record) �
 chosen None ps v r new e = absurd cc
 chosen (Some x) ps v r new e = (x, refl, e)
 
-chosen_back : (o : Option Read) (x : Read) (ps : List Part) (v : Values) (r mid : Record) → o ≡ Some x → set_all ps v (put x r) ≡ Some mid
-    → option_and_then (λ y. set_all ps v (put y r)) o ≡ Some mid
-chosen_back o x ps v r mid is e = rw is e
-
 pub record SetsBoth (ps qs : List Part) (v : Values) (r new : Record) : Type 0 where
   pub mid : Record
   pub first : set_all ps v r ≡ Some mid
@@ -42,19 +38,14 @@ set_both [] qs v r new e = record { mid = r; first = refl; second = e }
 set_both (p ∷ ps) qs v r new e =
     let c = chosen (said_by (field_of p) v) (ps ++ qs) v r new e in
     let b = set_both ps qs v (put c.0 r) new c.2 in
-    record { mid = b.mid; first = chosen_back (said_by (field_of p) v) c.0 ps v r b.mid c.1 b.first; second = b.second }
+    record { mid = b.mid; first = ap (option_and_then (λ y. set_all ps v (put y r))) c.1 ∙ b.first; second = b.second }
 
 -- ---- items, one after the other
-
-counted_read : (x : Answer) (n : ℕ) (next : Counted) (new : Record) (rest : List ℕ) → x ≡ Ok (new, rest)
-    → (then_counted x n next).0 ≡ (next new rest).0
-counted_read x n next new rest e = rw e refl
 
 pub first_read : (language : Language) (t : Tree) (ts : List Tree) (r new : Record) (line rest : List ℕ) → reading language t r line ≡ Ok (new, rest)
     → reading_of_all language (listed (t ∷ ts)) r line ≡ reading_of_all language (listed ts) new rest
 unfolding each_reads all_of
-first_read language t ts r new line rest e =
-    counted_read (reads language t r line).0 (reads language t r line).1 (all_of (each_reads language (listed ts))) new rest e
+first_read language t ts r new line rest e = ap (λ a. (then_counted a (reads language t r line).1 (all_of (each_reads language (listed ts)))).0) e
 
 pub no_parts : (language : Language) → IsItem (reading_of_all language (listed [])) []
 unfolding each_reads all_of
@@ -97,19 +88,12 @@ pub items_of_parts : (m : Meaning) (ps : List Part) → IsItem m ps → AreItems
 items_of_parts m ps is line v rest way r new says sets =
     let there = certain_said ps line v rest way says in is line v rest r new there.1 (rw there.0 at sets)
 
-parts_alone : (m : Meaning) (ps : List Part) → AreItems m (map item.Part ps) → IsItem m ps
-parts_alone m ps are line v rest r new says sets = are line v rest ps r new (said_certain ps line v rest says) sets
-
 -- ---- an item more
-
-counted_refused : (x : Answer) (n : ℕ) (next : Counted) (f : Fault) → x ≡ Err f → (then_counted x n next).0 ≡ Err f
-counted_refused x n next f e = rw e refl
 
 pub refused : (language : Language) (t : Tree) (ts : List Tree) (r : Record) (line : List ℕ) (f : Fault) → reading language t r line ≡ Err f
     → reading_of_all language (listed (t ∷ ts)) r line ≡ Err f
 unfolding each_reads all_of
-refused language t ts r line f e =
-    counted_refused (reads language t r line).0 (reads language t r line).1 (all_of (each_reads language (listed ts))) f e
+refused language t ts r line f e = ap (λ a. (then_counted a (reads language t r line).1 (all_of (each_reads language (listed ts)))).0) e
 
 pub nothing_left : (language : Language) (r : Record) (rest : List ℕ) → reading_of_all language (listed []) r rest ≡ Ok (r, rest)
 unfolding each_reads all_of
@@ -152,4 +136,4 @@ node_added language t more old (Some new) are h = record { more = more; read = a
 pub alone_read : (m : Meaning) (is : List Item) (o : Option Parts) → AreItems m is → IfSome o (λ l. map item.Part (parts_kept l) ≡ is)
     → IfSome o (λ l. IsItem m (parts_kept l))
 alone_read m is None are same = tt
-alone_read m is (Some l) are same = parts_alone m (parts_kept l) (rw same are)
+alone_read m is (Some l) are same = λ line v rest r new says sets. (let kept : AreItems m (map item.Part (parts_kept l)) = rw same are in kept) line v rest (parts_kept l) r new (said_certain (parts_kept l) line v rest says) sets

@@ -69,11 +69,12 @@ pub record SayDay (has : Said) : Type 0 where
   pub unix : has field.Unix ≡ false
   pub finer : has field.Second ≡ false → has field.Nanosecond ≡ false
 
-no_finer : (l : Listed) (has : Said) (v : Values) (b : Bool) → l.kind.is_unix ≡ false → IsWay l has v → IsAllInRange v → l.kind.has_second ≡ b
-    → has field.Second ≡ false → has field.Nanosecond ≡ false
-no_finer l has v true dated way range is none =
+-- a second that is not said is one that can't be
+no_second : (l : Listed) (has : Said) (v : Values) (b : Bool) → l.kind.is_unix ≡ false → IsWay l has v → IsAllInRange v → l.kind.has_second ≡ b
+    → has field.Second ≡ false → l.kind.has_second ≡ false
+no_second l has v true dated way range is none =
     absurd (let there = is_read l has v field.Second way range ((l.out_of_range dated).second is) in let never : true ≡ false = sym there ∙ none in cc)
-no_finer l has v false dated way range is none = way.possible field.Nanosecond ((l.dated dated).fraction is)
+no_second l has v false dated way range is none = is
 
 pub day_said : (l : Listed) (has : Said) (v : Values) → l.kind.is_unix ≡ false → IsWay l has v → IsAllInRange v → SayDay has
 day_said l has v dated way range =
@@ -85,7 +86,7 @@ day_said l has v dated way range =
       day = is_read l has v field.Day way range out.day;
       minute = is_read l has v field.Minute way range out.minute;
       unix = way.possible field.Unix s.unix;
-      finer = no_finer l has v l.kind.has_second dated way range refl;
+      finer = λ none. way.possible field.Nanosecond (s.fraction (no_second l has v l.kind.has_second dated way range refl none));
     }
 
 -- ---- of the hour and the offset
@@ -126,16 +127,11 @@ zero_or : (b : Bool) (has : Said) (v : Values) (f : Field) → has f ≡ b → (
 zero_or true has v f is none = rw is refl
 zero_or false has v f is none = rw is (none refl)
 
-second_zero : (l : Listed) (has : Said) (v : Values) (b : Bool) → l.kind.is_unix ≡ false → IsWay l has v → IsAllInRange v
-    → l.kind.has_second ≡ b → has field.Second ≡ false → v field.Second ≡ 0
-second_zero l has v true dated way range is none =
-    absurd (let there = is_read l has v field.Second way range ((l.out_of_range dated).second is) in let never : true ≡ false = sym there ∙ none in cc)
-second_zero l has v false dated way range is none = way.unread field.Second none ∙ (l.out_of_range dated).no_second is
-
 pub second_said : (l : Listed) (has : Said) (v : Values) → l.kind.is_unix ≡ false → IsWay l has v → IsAllInRange v
     → v field.Second ≡ said_or has v field.Second 0
 second_said l has v dated way range =
-    zero_or (has field.Second) has v field.Second refl (second_zero l has v l.kind.has_second dated way range refl)
+    zero_or (has field.Second) has v field.Second refl
+    (λ none. way.unread field.Second none ∙ (l.out_of_range dated).no_second (no_second l has v l.kind.has_second dated way range refl none))
 
 pub no_fraction : (l : Listed) (has : Said) (v : Values) → IsWay l has v → has field.Nanosecond ≡ false → v field.Nanosecond ≡ 0
 no_fraction l has v way none = way.unread field.Nanosecond none ∙ l.no_fraction

@@ -17,15 +17,13 @@ use Rattle.parsing_strides.specs.declared.strides.Strides.{Strides}
 
 -- ---- what a stride takes
 
--- for the number of a lane two digits, or one
-abbrev pub takes_two : Stride → ℕ → ℕ → Bool
-takes_two s lane at = lets s.low s.most at 48 9 && (lets s.low s.most (at + 1) 48 9 && ((get_or s.tens.lanes lane 0 == at) && (get_or s.ones.lanes lane 0 == at + 1)))
-
+-- for a lane the byte at a place alone
 abbrev pub takes_one : Stride → ℕ → ℕ → Bool
-takes_one s lane at = lets s.low s.most at 48 9 && (nat_le 128 (get_or s.tens.lanes lane 0) && (get_or s.ones.lanes lane 0 == at))
+takes_one s lane at = nat_le 128 (get_or s.tens.lanes lane 0) && (get_or s.ones.lanes lane 0 == at)
 
+-- for the number of a lane two digits, or one
 abbrev pub takes_lane : Stride → ℕ → ℕ → ℕ → Bool
-takes_lane s lane n at = nat_lt lane 14 && (((n == 2) && takes_two s lane at) || ((n == 1) && takes_one s lane at))
+takes_lane s lane n at = nat_lt lane 14 && (lets s.low s.most at 48 9 && (((n == 2) && (lets s.low s.most (at + 1) 48 9 && ((get_or s.tens.lanes lane 0 == at) && (get_or s.ones.lanes lane 0 == at + 1)))) || ((n == 1) && takes_one s lane at)))
 
 abbrev pub takes_digits : Stride → Field → ℕ → ℕ → Bool
 takes_digits s field.Year n at = (n == 4) && (at == s.year)
@@ -36,7 +34,7 @@ abbrev pub takes_part : Stride → Part → ℕ → Bool
 takes_part s (part.Byte c) at = nat_lt c 256 && lets s.low s.most at c 0
 takes_part s part.Any at = true
 takes_part s (part.Digits f n) at = takes_digits s f n at
-takes_part s part.Sign at = (get_or s.low at 0 == 0) && (nat_le 128 (get_or s.tens.lanes 8 0) && (get_or s.ones.lanes 8 0 == at))
+takes_part s part.Sign at = (get_or s.low at 0 == 0) && takes_one s 8 at
 takes_part s other at = false
 
 -- parts one after the other, and no byte after them

@@ -106,41 +106,30 @@ impl Stride {
     ghost use Rattle.parsing_layout.specs.declared.parts.Part.{Part};
     ghost use Rattle.parsing_places.specs.Lanes.{above};
     ghost use Rattle.parsing_strides.specs.Found.{KeepOthers, SaysAsFound};
-    ghost use Rattle.parsing_strides.specs.Strides.{fits_stride, keep_others, keeps, takes_all, takes_digits, takes_lane, takes_one, takes_part, takes_two};
+    ghost use Rattle.parsing_strides.specs.Strides.{fits_stride, keep_others, keeps, takes_all, takes_digits, takes_lane, takes_one, takes_part};
 
-    // Whether the lane at a place takes two digits.
-    fn takes_two(&self, lane: usize, at: usize) -> bool
-        requires lane { lane < LANES }
-        requires at { at < LANES }
-        ensures { result ≡ takes_two self.now lane at }
-    {
-        lets(&self.low, &self.most, at, b'0', 9)
-            && lets(&self.low, &self.most, at + 1, b'0', 9)
-            && usize::from(self.tens.lanes[lane]) == at
-            && usize::from(self.ones.lanes[lane]) == at + 1
-    }
-
-    // Whether it takes one digit.
+    // Whether a lane takes the byte at a place alone.
     fn takes_one(&self, lane: usize, at: usize) -> bool
-        requires lane { lane < LANES }
-        requires at { at < LANES }
+        requires { lane < LANES }
         ensures { result ≡ takes_one self.now lane at }
     {
-        lets(&self.low, &self.most, at, b'0', 9)
-            && self.tens.lanes[lane] >= 128
-            && usize::from(self.ones.lanes[lane]) == at
+        self.tens.lanes[lane] >= 128 && usize::from(self.ones.lanes[lane]) == at
     }
 
-    // Whether it takes so many digits.
+    // Whether a lane takes so many digits.
     fn takes_lane(&self, lane: usize, count: usize, at: usize) -> bool
         requires { at < LANES }
         ensures { result ≡ takes_lane self.now lane count at }
     {
-        if lane >= LANES - 2 {
+        if lane >= LANES - 2 || !lets(&self.low, &self.most, at, b'0', 9) {
             return false;
         }
         match count {
-            2 => self.takes_two(lane, at),
+            2 => {
+                lets(&self.low, &self.most, at + 1, b'0', 9)
+                    && usize::from(self.tens.lanes[lane]) == at
+                    && usize::from(self.ones.lanes[lane]) == at + 1
+            }
             1 => self.takes_one(lane, at),
             _ => false,
         }
@@ -166,12 +155,7 @@ impl Stride {
             Part::Byte(byte) => lets(&self.low, &self.most, at, byte, 0),
             Part::Any => true,
             Part::Digits(field, count) => self.takes_digits(field, count, at),
-            Part::Sign => {
-                let lane = place_of(Field::Sign);
-                self.low[at] == 0
-                    && self.tens.lanes[lane] >= 128
-                    && usize::from(self.ones.lanes[lane]) == at
-            }
+            Part::Sign => self.low[at] == 0 && self.takes_one(place_of(Field::Sign), at),
             _ => false,
         }
     }
