@@ -64,8 +64,7 @@ impl Parsed {
         ensures always { result ≡ Some tt }
         ensures set { self.new ≡ record self.old { hour_12_is_pm = Some value } }
     {
-        self.fields.hour_12_is_pm = Some(value);
-        Some(())
+        set(&mut self.fields.hour_12_is_pm, true, value)
     }
 
     /// The record with whether it is the later half of the day. Never `None`.

@@ -19,8 +19,7 @@ impl Parsed {
         ensures always { result ≡ Some tt }
         ensures set { self.new ≡ record self.old { month = Some value } }
     {
-        self.fields.month = Some(value);
-        Some(())
+        set(&mut self.fields.month, true, value)
     }
 
     /// The record with the month. Never `None`.
@@ -118,8 +117,7 @@ impl Parsed {
         ensures always { result ≡ Some tt }
         ensures set { self.new ≡ record self.old { weekday = Some value } }
     {
-        self.fields.weekday = Some(value);
-        Some(())
+        set(&mut self.fields.weekday, true, value)
     }
 
     /// The record with the weekday. Never `None`.

@@ -65,10 +65,8 @@ impl Parsed {
               year_century_is_negative = century_sign value is_negative;
             }) }
     {
-        if value < -GREATEST_CENTURY || value > GREATEST_CENTURY {
-            return None;
-        }
-        self.fields.year_century = Some(value);
+        let is_allowed = value >= -GREATEST_CENTURY && value <= GREATEST_CENTURY;
+        set(&mut self.fields.year_century, is_allowed, value)?;
         self.fields.year_century_is_negative = if value == 0 { is_negative } else { value < 0 };
         Some(())
     }
@@ -166,10 +164,8 @@ impl Parsed {
               iso_year_century_is_negative = century_sign value is_negative;
             }) }
     {
-        if value < -GREATEST_CENTURY || value > GREATEST_CENTURY {
-            return None;
-        }
-        self.fields.iso_year_century = Some(value);
+        let is_allowed = value >= -GREATEST_CENTURY && value <= GREATEST_CENTURY;
+        set(&mut self.fields.iso_year_century, is_allowed, value)?;
         self.fields.iso_year_century_is_negative = if value == 0 { is_negative } else { value < 0 };
         Some(())
     }
