@@ -1,5 +1,5 @@
 -- The offset of a record that holds hours and minutes under one sign, or an assumed offset.
-use Rattle.std.proofs.Common.{◌≡◌, ◌≤◌, ℕ, zero, suc, Bool, true, false, Option, Some, None, Ok, refl, arith, pos, negsuc, ℤ}
+use Rattle.std.proofs.Common.{◌≡◌, ◌≤◌, ℕ, zero, suc, Bool, true, false, Some, None, Ok, refl, arith, pos, negsuc, ℤ}
 use Rattle.std.specs.Prelude.{unsigned_abs, nat_lt, int_div, int_rem, ◌*ℤ◌, ◌+ℤ◌, ◌<ℤ◌, ◌≤ℤ◌}
 use Rattle.std.proofs.lemmas.Bool.Decides.{nat_tests}
 use Rattle.std.proofs.lemmas.Int.{ints}
@@ -14,14 +14,10 @@ use Rattle.parsing_values.specs.Resolution.{signed_offset_of}
 
 -- ---- written
 
-pub sign_named : (b : Bool) (hours minutes : ℕ) (second : Option ℤ) (offset : ℤ) → second ≡ None → signed_offset_of b hours minutes ≡ Ok offset → named_offset (record { hour = Some (under b hours); minute = under_sign b (Some (pos minutes)); second = under_sign b second }) ≡ Ok offset
+pub sign_named : (b : Bool) (hours minutes : ℕ) (offset : ℤ) → signed_offset_of b hours minutes ≡ Ok offset → named_offset (record { hour = Some (under b hours); minute = under_sign b (Some (pos minutes)); second = under_sign b None }) ≡ Ok offset
 unfolding named_offset seconds_after signed_offset_of
-sign_named true hours minutes second offset none e = rw (none, e) refl
-sign_named false hours minutes second offset none e = rw (none, e) refl
-
-pub no_second : (assumed : Option ℤ) → (beginning assumed).offset_second ≡ None
-no_second None = refl
-no_second (Some offset) = refl
+sign_named true hours minutes offset e = rw e refl
+sign_named false hours minutes offset e = rw e refl
 
 -- ---- assumed
 

@@ -1,5 +1,5 @@
 -- What a reading begins with where an offset is assumed, and what it names of a prefix of a line.
-use Rattle.std.specs.Prelude.{◌≡◌, ℕ, List, Option, Some, None, Ok, ℤ, pos, int_div, int_rem}
+use Rattle.std.specs.Prelude.{◌≡◌, ℕ, List, Option, Ok, ℤ, pos, int_div, int_rem, option_map}
 use Rattle.datetime_wall.specs.Wall.{Shown}
 use Rattle.parsing_components.specs.Meaning.{Meaning}
 use Rattle.parsing_components.specs.declared.fields.Record.{Record}
@@ -8,8 +8,7 @@ use Rattle.parsing_components.specs.Whole.{moment_named}
 
 -- the record that a reading begins with where an offset is assumed: its hour and its minute
 abbrev pub beginning : Option ℤ → Record
-beginning None = empty
-beginning (Some offset) = record empty { offset_hour = Some (int_div offset (pos 3600)); offset_minute = Some (int_rem (int_div offset (pos 60)) (pos 60)) }
+beginning assumed = record empty { offset_hour = option_map (λ o. int_div o (pos 3600)) assumed; offset_minute = option_map (λ o. int_rem (int_div o (pos 60)) (pos 60)) assumed }
 
 -- the items read a prefix of the line from a record, leave this rest, and the record that they set names this moment
 pub record NamesPrefix (m : Meaning) (r : Record) (line rest : List ℕ) (moment : Shown) : Type 0 where

@@ -1,5 +1,5 @@
 -- What a component sets in a record.
-use Rattle.std.specs.Prelude.{◌≡◌, ℕ, List, pos, Option, Some, Result, Ok, Err, option_map}
+use Rattle.std.specs.Prelude.{◌≡◌, ℕ, List, pos, Some, Result, Ok, Err}
 use Rattle.std.specs.Borrow.{Bor}
 use Rattle.parsing_combinator.specs.Fault.{Fault}
 use Rattle.parsing_combinator.specs.FaultOf.{reading_fault}
@@ -47,10 +47,6 @@ put (read.IsoYear y) r = record r { iso_year = Some y }
 put (read.IsoYearCentury c is_negative) r = record r { iso_year_century = Some c; iso_year_century_is_negative = is_negative }
 put (read.IsoYearLastTwo n) r = record r { iso_year_last_two = Some n }
 put other r = put_date other r
-
--- a record with what a piece says in it, and the rest
-abbrev pub set_by : Option (Read × List ℕ) → Record → Option (Record × List ℕ)
-set_by said r = option_map (λ x. (put x.0 r, x.1)) said
 
 -- bytes that are passed over say nothing
 abbrev pub passed : Bor (List ℕ) → Read × List ℕ

@@ -3,8 +3,9 @@ use Rattle.std.specs.Prelude.{◌≡◌, ℕ, ℤ, false, List, Option, Some, No
 use Rattle.std.specs.Borrow.{Bor}
 use Rattle.datetime_wall.specs.Wall.{Shown}
 use Rattle.parsing_combinator.specs.Fault.{Fault, trailing}
-use Rattle.parsing_combinator.specs.FaultOf.{fault_of}
+use Rattle.parsing_combinator.specs.FaultOf.{Gives, fault_of, resolution_fault}
 use Rattle.parsing_combinator.specs.declared.fault.Parse.{Parse}
+use Rattle.parsing_combinator.specs.declared.fault.TryFromParsed.{TryFromParsed}
 use Rattle.parsing_values.specs.NamedDate.{named_date}
 use Rattle.parsing_values.specs.NamedTime.{named_time, named_offset}
 use Rattle.parsing_values.specs.NamedMoment.{named_wall, named_moment, named_utc, named_timestamp}
@@ -67,3 +68,7 @@ utc_named r = named_utc (moment_parts r) (offset_parts r)
 
 abbrev pub timestamp_named : Record → Result ℤ Fault
 timestamp_named r = named_timestamp (moment_parts r) (offset_parts r)
+
+-- what is given is such a value of a record, or why it names none
+abbrev pub Names : {A : Type 0} → (Record → Result A Fault) → Record → Result A TryFromParsed → Type 0
+Names value r given = Gives (λ v. v) resolution_fault given (value r)

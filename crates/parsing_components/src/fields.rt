@@ -5,7 +5,7 @@ use crate::said::Read;
 use calendar_count::{Month, Weekday};
 
 /// The components that were read, each at most once.
-#[derive(Clone, Copy, Debug)]
+#[derive(Clone, Copy, Debug, Default)]
 pub struct Record {
     pub year: Option<i32>,
     pub year_century: Option<i16>,

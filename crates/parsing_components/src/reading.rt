@@ -1,5 +1,6 @@
 //! What each component reads.
-ghost use Rattle.std.specs.Prelude.{◌≡◌, ◌≤◌, IfSome};
+ghost use Rattle.std.specs.Prelude.{◌≡◌, ◌≤◌, None, IfSome};
+ghost use Rattle.std.specs.Option.{MatchOption, IsSomeAnd};
 ghost use Rattle.parsing_combinator.specs.FaultOf.{Gives, reading_fault};
 ghost use Rattle.parsing_combinator.specs.Pieces.{cut_view};
 ghost use Rattle.parsing_components.specs.Put.{Reads, passed, putting};
@@ -17,60 +18,46 @@ use parsing_combinator::{
     ParseFromDescription, long_month, long_weekday, period, short_month, short_weekday,
 };
 
-// What the parts of an offset, timestamps and passed bytes say.
-#[tactic(auto, unfolding(crate::specs::Component::offset_piece))]
+// What is said where a value was read.
 #[inline(always)]
-fn offset_piece(component: Component, bytes: &[u8]) -> Option<(Read, &[u8])>
-    ensures reads { cut_view result ≡ Components.offset_piece component bytes.now }
-    ensures range { IfSome result (λ x. IsInRange x.0) }
+fn say<T: Copy, F: FnOnce(T) -> Read>(
+    found: Option<(T, &[u8])>,
+    as_read: F,
+) -> Option<(Read, &[u8])>
+    requires { F.IsAlwaysCallable as_read }
+    ensures { MatchOption found.entry (result ≡ None)
+        (λ x. IsSomeAnd result (λ y. F.post as_read x.0 y.0 × (y.1 ≡ x.1))) }
 {
-    match component {
-        Component::OffsetHour(m) => hour_of_offset(m.padding, m.sign_is_mandatory, bytes),
-        Component::OffsetMinute(m) => {
-            two(m.padding, 0, 59, bytes).map(|(n, rest)| (Read::OffsetMinute(n), rest))
-        }
-        Component::OffsetSecond(m) => {
-            two(m.padding, 0, 59, bytes).map(|(n, rest)| (Read::OffsetSecond(n), rest))
-        }
-        Component::UnixTimestampSecond(m) => unix(m.sign_is_mandatory, 14, 1_000_000_000, bytes),
-        Component::UnixTimestampMillisecond(m) => unix(m.sign_is_mandatory, 17, 1_000_000, bytes),
-        Component::UnixTimestampMicrosecond(m) => unix(m.sign_is_mandatory, 20, 1_000, bytes),
-        Component::UnixTimestampNanosecond(m) => unix(m.sign_is_mandatory, 23, 1, bytes),
-        Component::Ignore(m) => ignored(m.count, bytes).map(|rest| (Read::Nothing, rest)),
-        _ => None,
-    }
+    let (value, rest) = found?;
+    Some((as_read(value), rest))
 }
 
-// What the parts of a time say.
-#[tactic(auto, unfolding(crate::specs::Component::time_piece))]
+// What the parts of a time and of an offset, timestamps and passed bytes say.
+#[tactic(auto, unfolding(crate::specs::Component::time_piece, crate::specs::Component::offset_piece))]
 #[inline(always)]
 fn time_piece(component: Component, bytes: &[u8]) -> Option<(Read, &[u8])>
     ensures reads { cut_view result ≡ Components.time_piece component bytes.now }
     ensures range { IfSome result (λ x. IsInRange x.0) }
 {
     match component {
-        Component::Hour12(m) => {
-            two(m.padding, 1, 12, bytes).map(|(n, rest)| (Read::Hour12(n), rest))
-        }
-        Component::Hour24(m) => {
-            two(m.padding, 0, 23, bytes).map(|(n, rest)| (Read::Hour24(n), rest))
-        }
-        Component::Minute(m) => {
-            two(m.padding, 0, 59, bytes).map(|(n, rest)| (Read::Minute(n), rest))
-        }
-        Component::Period(m) => {
-            period(m.is_uppercase, m.case_sensitive, bytes).map(|(is_later, rest)| (
-                Read::Afternoon(is_later),
-                rest,
-            ))
-        }
-        Component::Second(m) => {
-            two(m.padding, 0, 60, bytes).map(|(n, rest)| (Read::Second(n), rest))
-        }
-        Component::Subsecond(m) => {
-            subsecond(m.digits, bytes).map(|(n, rest)| (Read::Subsecond(n), rest))
-        }
-        other => offset_piece(other, bytes),
+        Component::Hour12(m) => say(two(m.padding, 1, 12, bytes), Read::Hour12),
+        Component::Hour24(m) => say(two(m.padding, 0, 23, bytes), Read::Hour24),
+        Component::Minute(m) => say(two(m.padding, 0, 59, bytes), Read::Minute),
+        Component::Period(m) => say(
+            period(m.is_uppercase, m.case_sensitive, bytes),
+            Read::Afternoon,
+        ),
+        Component::Second(m) => say(two(m.padding, 0, 60, bytes), Read::Second),
+        Component::Subsecond(m) => say(subsecond(m.digits, bytes), Read::Subsecond),
+        Component::OffsetHour(m) => hour_of_offset(m.padding, m.sign_is_mandatory, bytes),
+        Component::OffsetMinute(m) => say(two(m.padding, 0, 59, bytes), Read::OffsetMinute),
+        Component::OffsetSecond(m) => say(two(m.padding, 0, 59, bytes), Read::OffsetSecond),
+        Component::UnixTimestampSecond(m) => unix(m.sign_is_mandatory, 14, 1_000_000_000, bytes),
+        Component::UnixTimestampMillisecond(m) => unix(m.sign_is_mandatory, 17, 1_000_000, bytes),
+        Component::UnixTimestampMicrosecond(m) => unix(m.sign_is_mandatory, 20, 1_000, bytes),
+        Component::UnixTimestampNanosecond(m) => unix(m.sign_is_mandatory, 23, 1, bytes),
+        Component::Ignore(m) => ignored(m.count, bytes).map(|rest| (Read::Nothing, rest)),
+        _ => None,
     }
 }
 
@@ -94,9 +81,7 @@ fn year_piece(component: Component, bytes: &[u8]) -> Option<(Read, &[u8])>
         Component::CalendarYearCenturyStandardRange(m) => {
             full_century(false, m.padding, m.sign_is_mandatory, false, bytes)
         }
-        Component::CalendarYearLastTwo(m) => {
-            two(m.padding, 0, 99, bytes).map(|(n, rest)| (Read::YearLastTwo(n), rest))
-        }
+        Component::CalendarYearLastTwo(m) => say(two(m.padding, 0, 99, bytes), Read::YearLastTwo),
         Component::IsoYearFullExtendedRange(m) => {
             full_year(true, m.padding, m.sign_is_mandatory, true, bytes)
         }
@@ -109,9 +94,7 @@ fn year_piece(component: Component, bytes: &[u8]) -> Option<(Read, &[u8])>
         Component::IsoYearCenturyStandardRange(m) => {
             full_century(true, m.padding, m.sign_is_mandatory, false, bytes)
         }
-        Component::IsoYearLastTwo(m) => {
-            two(m.padding, 0, 99, bytes).map(|(n, rest)| (Read::IsoYearLastTwo(n), rest))
-        }
+        Component::IsoYearLastTwo(m) => say(two(m.padding, 0, 99, bytes), Read::IsoYearLastTwo),
         other => time_piece(other, bytes),
     }
 }
@@ -125,43 +108,24 @@ pub fn read(component: Component, bytes: &[u8]) -> Option<(Read, &[u8])>
     ensures range { IfSome result (λ x. IsInRange x.0) }
 {
     match component {
-        Component::Day(m) => two(m.padding, 1, 31, bytes).map(|(n, rest)| (Read::Day(n), rest)),
-        Component::MonthShort(m) => {
-            short_month(m.case_sensitive, bytes).map(|(month, rest)| (Read::Month(month), rest))
-        }
-        Component::MonthLong(m) => {
-            long_month(m.case_sensitive, bytes).map(|(month, rest)| (Read::Month(month), rest))
-        }
-        Component::MonthNumerical(m) => {
-            month_number(m.padding, bytes).map(|(month, rest)| (Read::Month(month), rest))
-        }
-        Component::Ordinal(m) => {
-            three(m.padding, 1, 366, bytes).map(|(n, rest)| (Read::Ordinal(n), rest))
-        }
-        Component::WeekdayShort(m) => {
-            short_weekday(m.case_sensitive, bytes).map(|(day, rest)| (Read::Weekday(day), rest))
-        }
-        Component::WeekdayLong(m) => {
-            long_weekday(m.case_sensitive, bytes).map(|(day, rest)| (Read::Weekday(day), rest))
-        }
-        Component::WeekdaySunday(m) => {
-            weekday_number(true, m.one_indexed, bytes).map(|(day, rest)| (Read::Weekday(day), rest))
-        }
-        Component::WeekdayMonday(m) => {
-            weekday_number(false, m.one_indexed, bytes).map(|(day, rest)| (
-                Read::Weekday(day),
-                rest,
-            ))
-        }
-        Component::WeekNumberIso(m) => {
-            two(m.padding, 1, 53, bytes).map(|(n, rest)| (Read::IsoWeek(n), rest))
-        }
-        Component::WeekNumberSunday(m) => {
-            two(m.padding, 0, 53, bytes).map(|(n, rest)| (Read::SundayWeek(n), rest))
-        }
-        Component::WeekNumberMonday(m) => {
-            two(m.padding, 0, 53, bytes).map(|(n, rest)| (Read::MondayWeek(n), rest))
-        }
+        Component::Day(m) => say(two(m.padding, 1, 31, bytes), Read::Day),
+        Component::MonthShort(m) => say(short_month(m.case_sensitive, bytes), Read::Month),
+        Component::MonthLong(m) => say(long_month(m.case_sensitive, bytes), Read::Month),
+        Component::MonthNumerical(m) => say(month_number(m.padding, bytes), Read::Month),
+        Component::Ordinal(m) => say(three(m.padding, 1, 366, bytes), Read::Ordinal),
+        Component::WeekdayShort(m) => say(short_weekday(m.case_sensitive, bytes), Read::Weekday),
+        Component::WeekdayLong(m) => say(long_weekday(m.case_sensitive, bytes), Read::Weekday),
+        Component::WeekdaySunday(m) => say(
+            weekday_number(true, m.one_indexed, bytes),
+            Read::Weekday,
+        ),
+        Component::WeekdayMonday(m) => say(
+            weekday_number(false, m.one_indexed, bytes),
+            Read::Weekday,
+        ),
+        Component::WeekNumberIso(m) => say(two(m.padding, 1, 53, bytes), Read::IsoWeek),
+        Component::WeekNumberSunday(m) => say(two(m.padding, 0, 53, bytes), Read::SundayWeek),
+        Component::WeekNumberMonday(m) => say(two(m.padding, 0, 53, bytes), Read::MondayWeek),
         other => year_piece(other, bytes),
     }
 }

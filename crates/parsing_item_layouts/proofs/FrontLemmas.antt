@@ -1,7 +1,7 @@
 -- What no line can begin with is refused.
 use Rattle.std.proofs.Common.{◌≡◌, ◌<◌, ◌≤◌, ◌+◌, ◌-◌, ◌∙◌, ◌==◌, ◌&&◌, ℕ, zero, suc, Bool, true, false, not, List, [], ◌∷◌, length, get_or, replicate, None, Ok, Err, refl, sym, ap, arith}
 use Rattle.parsing_layout.proofs.BoundsLemmas.{set_each}
-use Rattle.std.specs.Prelude.{set, IfOk}
+use Rattle.std.specs.Prelude.{set, nat_lt, IfOk}
 use Rattle.std.specs.Result.{result_ok}
 use Rattle.std.proofs.lemmas.Bool.Decides.{nat_tests}
 use Rattle.std.proofs.lemmas.List.{get_or-drop}
@@ -10,10 +10,9 @@ use Rattle.parsing_components.specs.declared.fields.Record.{Record}
 use Rattle.parsing_components.specs.Whole.{whole, starting, all_read}
 use Rattle.parsing_layout.specs.declared.stretch.Stretch.{Stretch}
 use Rattle.parsing_layout.specs.Stretch.{IsCut, stands}
-use Rattle.parsing_layout.specs.declared.stretch.Kind.TheVariants as kind
 use Rattle.parsing_item_layouts.specs.Fronts.{Leads}
 use Rattle.parsing_item_layouts.specs.FirstBounds.{IsWithin, AreBoundsOf}
-use Rattle.parsing_item_layouts.specs.FirstBytes.{AreOf, Fits, bytes_at, fits_at, rule_out}
+use Rattle.parsing_item_layouts.specs.FirstBytes.{AreOf, Fits, fits_at, rule_out}
 use Rattle.parsing_item_layouts.specs.declared.first_bounds.FirstBounds.{FirstBounds}
 use Rattle.parsing_item_layouts.specs.declared.first_bytes.FirstBytes.{FirstBytes}
 
@@ -51,12 +50,13 @@ fitting f line h e = all_fit (fits_at f line 0) (fits_at f line 1) (fits_at f li
 pub bytes_of : (m : Meaning) (end f : FirstBytes) → Leads (λ all g line. Fits g line) m end f → ((line : List ℕ) → Fits end line) → AreOf m f
 bytes_of m end f leads any line out r = none_fits (λ rest. Fits end rest → Fits f line) (m r line) (leads false r line) (λ rest k. fitting f line (k (any rest)) out)
 
-pub fits_four : (f : FirstBytes) (line : List ℕ) → get_or f.first (get_or line 0 0) true ≡ true → get_or f.second (get_or line 1 0) true ≡ true → get_or f.third (get_or line 2 0) true ≡ true → get_or f.fourth (get_or line 3 0) true ≡ true → Fits f line
-fits_four f line h0 h1 h2 h3 zero = h0
-fits_four f line h0 h1 h2 h3 (suc zero) = h1
-fits_four f line h0 h1 h2 h3 (suc (suc zero)) = h2
-fits_four f line h0 h1 h2 h3 (suc (suc (suc zero))) = h3
-fits_four f line h0 h1 h2 h3 (suc (suc (suc (suc place)))) = refl
+pub fits_four : (a b c d : List Bool) (line : List ℕ) → get_or a (get_or line 0 0) true ≡ true → get_or b (get_or line 1 0) true ≡ true
+    → get_or c (get_or line 2 0) true ≡ true → get_or d (get_or line 3 0) true ≡ true → Fits (record { places = a ∷ b ∷ c ∷ d ∷ [] }) line
+fits_four a b c d line h0 h1 h2 h3 zero = h0
+fits_four a b c d line h0 h1 h2 h3 (suc zero) = h1
+fits_four a b c d line h0 h1 h2 h3 (suc (suc zero)) = h2
+fits_four a b c d line h0 h1 h2 h3 (suc (suc (suc zero))) = h3
+fits_four a b c d line h0 h1 h2 h3 (suc (suc (suc (suc place)))) = let far : nat_lt (suc (suc (suc (suc place)))) 4 ≡ false = grind (arith, nat_tests) in rw far refl
 
 pub all_true : (n b : ℕ) → get_or (replicate n true) b true ≡ true
 all_true zero b = refl
@@ -76,8 +76,10 @@ stands_there s bytes line rest place h lt cut = go (get_or bytes (get_or line pl
     go false k = absurd (let never : true ≡ false = sym (cut.0 place lt) ∙ k refl in cc)
 
 -- what stands after a stretch, at its places
-pub after_stretch : (f : FirstBytes) (s : Stretch) (line rest : List ℕ) (place : ℕ) → s.least ≤ place → s.is_whole ≡ true → IsCut s line rest → Fits f rest → get_or (bytes_at f (place - s.least)) (get_or line place 0) true ≡ true
-after_stretch f s line rest place le whole cut h =
+pub after_stretch : (f : FirstBytes) (s : Stretch) (line rest : List ℕ) (place : ℕ) → s.least ≤ place → s.is_whole ≡ true → place - s.least < 4 → IsCut s line rest → Fits f rest
+    → get_or (get_or f.places (place - s.least) []) (get_or line place 0) true ≡ true
+after_stretch f s line rest place le whole few cut h =
     let at : s.least + (place - s.least) ≡ place = omega (arith, le) in
     let same : get_or rest (place - s.least) 0 ≡ get_or line place 0 = ap (λ (r : List ℕ). get_or r (place - s.least) 0) (cut.1 whole) ∙ get_or-drop s.least line (place - s.least) 0 ∙ ap (λ k. get_or line k 0) at in
-    rw same at (h (place - s.least))
+    let here : nat_lt (place - s.least) 4 ≡ true = grind (arith, nat_tests) in
+    rw (same, here) at (h (place - s.least))

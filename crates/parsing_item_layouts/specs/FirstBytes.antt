@@ -1,5 +1,5 @@
 -- Lines that begin otherwise than all that is read.
-use Rattle.std.specs.Prelude.{◌≡◌, ◌&&◌, ℕ, zero, suc, Bool, true, not, List, [], None, get_or}
+use Rattle.std.specs.Prelude.{◌≡◌, ◌&&◌, ℕ, Bool, true, not, List, [], None, get_or, nat_lt, if◌then◌else◌}
 use Rattle.std.specs.Result.{result_ok}
 use Rattle.parsing_components.specs.Meaning.{Meaning}
 use Rattle.parsing_components.specs.declared.fields.Record.{Record}
@@ -7,11 +7,7 @@ use Rattle.parsing_item_layouts.specs.declared.first_bytes.FirstBytes.{FirstByte
 
 -- the bytes that can stand at a place of a line that is read; after the fourth place none is left out
 abbrev pub bytes_at : FirstBytes → ℕ → List Bool
-bytes_at f zero = f.first
-bytes_at f (suc zero) = f.second
-bytes_at f (suc (suc zero)) = f.third
-bytes_at f (suc (suc (suc zero))) = f.fourth
-bytes_at f (suc (suc (suc (suc place)))) = []
+bytes_at f place = if nat_lt place 4 then get_or f.places place [] else []
 
 -- whether a byte can stand at a place
 abbrev pub can_stand : FirstBytes → ℕ → ℕ → Bool

@@ -5,7 +5,7 @@ ghost use Rattle.description_tree.specs.Description.{v3_tree};
 ghost use Rattle.parsing_components.specs.Component.{reads_component, reads_component_v3};
 ghost use Rattle.parsing_components.specs.Meaning.{Meaning};
 ghost use Rattle.parsing_components.specs.Reads.{reading, reading_of_all};
-ghost use Rattle.parsing_item_layouts.specs.FirstBounds.{AreBoundsOf, IsOutside, IsOutsideWhole, IsWithin, ReadsNoneWhole};
+ghost use Rattle.parsing_item_layouts.specs.FirstBounds.{AreBoundsOf, IsOutside, IsWithin, ReadsNoneWhole};
 
 use crate::front::Front;
 use crate::walk::{put_node, put_nodes};
@@ -52,21 +52,13 @@ impl FirstBounds {
         self.usual.rule_out(line) && self.signed.rule_out(line)
     }
 
-    // Whether that shows, or the length of a line, that the line is not read as a whole.
-    #[inline(always)]
-    fn is_outside_whole(&self, line: &[u8]) -> bool
-        ensures { result ≡ true → IsOutsideWhole self.now line.now }
-    {
-        self.usual.rule_out_whole(line) && self.signed.rule_out_whole(line)
-    }
-
     /// Whether that shows, or the length of a line, that the line is not read as a whole: `false` says nothing of it.
     #[inline(always)]
     pub fn rule_out_whole(&self, line: &[u8]) -> bool
         ensures { result ≡ true → (m : Meaning) → AreBoundsOf m self.now
             → ReadsNoneWhole m line.now }
     {
-        self.is_outside_whole(line)
+        self.usual.rule_out_whole(line) && self.signed.rule_out_whole(line)
     }
 }
 

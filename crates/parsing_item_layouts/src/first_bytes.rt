@@ -5,7 +5,7 @@ ghost use Rattle.description_tree.specs.Description.{v3_tree};
 ghost use Rattle.parsing_components.specs.Component.{reads_component, reads_component_v3};
 ghost use Rattle.parsing_layout.specs.Stretch.{IsCut};
 ghost use Rattle.parsing_components.specs.Reads.{reading, reading_of_all};
-ghost use Rattle.parsing_item_layouts.specs.FirstBytes.{AreOf, Fits, bytes_at, can_stand, rule_out};
+ghost use Rattle.parsing_item_layouts.specs.FirstBytes.{AreOf, Fits, can_stand, rule_out};
 
 use crate::front::Front;
 use crate::walk::{put_node, put_nodes};
@@ -16,10 +16,7 @@ use parsing_layout::Stretch;
 /// For each of the first four places of a line, the bytes that can stand there.
 #[derive(Clone, Copy)]
 pub struct FirstBytes {
-    first: [bool; 256],
-    second: [bool; 256],
-    third: [bool; 256],
-    fourth: [bool; 256],
+    places: [[bool; 256]; 4],
 }
 
 // The bytes that are in one set or in the other.
@@ -53,20 +50,6 @@ impl FirstBytes {
         bytes
     }
 
-    // The bytes of a place; any can stand after the first four.
-    fn bytes_at(&self, place: usize) -> [bool; 256]
-        ensures { (byte : ℕ) → get_or (bytes_at self.now place) byte true ≡ true
-            → get_or result byte true ≡ true }
-    {
-        match place {
-            0 => self.first,
-            1 => self.second,
-            2 => self.third,
-            3 => self.fourth,
-            _ => [true; 256],
-        }
-    }
-
     // The bytes of a place, where a stretch stands before the lines that these are the bytes of.
     #[tactic(auto, using(crate::proofs::FrontLemmas::stands_there, crate::proofs::FrontLemmas::after_stretch))]
     fn bytes_after(&self, stretch: Stretch, place: usize) -> [bool; 256]
@@ -76,10 +59,10 @@ impl FirstBytes {
         if place < stretch.least {
             return stretch.bytes_at(place);
         }
-        if !stretch.is_whole {
+        if !stretch.is_whole || place - stretch.least >= 4 {
             return [true; 256];
         }
-        self.bytes_at(place - stretch.least)
+        self.places[place - stretch.least]
     }
 
     /// Whether one of the first four bytes of a line can't stand at its place, so that the line is not read. A line
@@ -92,16 +75,16 @@ impl FirstBytes {
         match line {
             [first, second, third, fourth, ..] => {
                 // (each byte by itself: LLVM would test a chain of `&&` again at each of its ends)
-                if !self.first[usize::from(*first)] {
+                if !self.places[0][usize::from(*first)] {
                     return true;
                 }
-                if !self.second[usize::from(*second)] {
+                if !self.places[1][usize::from(*second)] {
                     return true;
                 }
-                if !self.third[usize::from(*third)] {
+                if !self.places[2][usize::from(*third)] {
                     return true;
                 }
-                !self.fourth[usize::from(*fourth)]
+                !self.places[3][usize::from(*fourth)]
             }
             _ => self.rule_out_short(line),
         }
@@ -113,10 +96,10 @@ impl FirstBytes {
     fn rule_out_short(&self, line: &[u8]) -> bool
         ensures { result ≡ rule_out self.now line.now }
     {
-        !(self.first[byte_at(line, 0)]
-            && self.second[byte_at(line, 1)]
-            && self.third[byte_at(line, 2)]
-            && self.fourth[byte_at(line, 3)])
+        !(self.can_stand(0, byte_at(line, 0))
+            && self.can_stand(1, byte_at(line, 1))
+            && self.can_stand(2, byte_at(line, 2))
+            && self.can_stand(3, byte_at(line, 3)))
     }
 
     /// Whether a byte can stand at a place of a line that is read; any can after the first four. A line that is shorter
@@ -126,14 +109,11 @@ impl FirstBytes {
         ensures ruled_out { result ≡ false
             → (line : List ℕ) → get_or line place 0 ≡ byte → rule_out self.now line ≡ true }
     {
-        let code = usize::from(byte);
-        match place {
-            0 => self.first[code],
-            1 => self.second[code],
-            2 => self.third[code],
-            3 => self.fourth[code],
-            _ => true,
+        if place >= 4 {
+            return true;
         }
+        let bytes = &self.places[place];
+        bytes[usize::from(byte)]
     }
 }
 
@@ -141,39 +121,35 @@ impl Front for FirstBytes {
     ghost fits = { λ whole f line. Fits f line };
 
     fn end() -> FirstBytes {
+        let all = [true; 256];
         FirstBytes {
-            first: [true; 256],
-            second: [true; 256],
-            third: [true; 256],
-            fourth: [true; 256],
+            places: [all, all, all, all],
         }
     }
 
     fn none() -> FirstBytes {
+        let none = [false; 256];
         FirstBytes {
-            first: [false; 256],
-            second: [false; 256],
-            third: [false; 256],
-            fourth: [false; 256],
+            places: [none, none, none, none],
         }
     }
 
     fn put(&mut self, stretch: Stretch) {
-        *self = FirstBytes {
-            first: self.bytes_after(stretch, 0),
-            second: self.bytes_after(stretch, 1),
-            third: self.bytes_after(stretch, 2),
-            fourth: self.bytes_after(stretch, 3),
-        };
+        self.places = [
+            self.bytes_after(stretch, 0),
+            self.bytes_after(stretch, 1),
+            self.bytes_after(stretch, 2),
+            self.bytes_after(stretch, 3),
+        ];
     }
 
     fn join(&mut self, other: &FirstBytes) {
-        *self = FirstBytes {
-            first: joined(&self.first, &other.first),
-            second: joined(&self.second, &other.second),
-            third: joined(&self.third, &other.third),
-            fourth: joined(&self.fourth, &other.fourth),
-        };
+        self.places = [
+            joined(&self.places[0], &other.places[0]),
+            joined(&self.places[1], &other.places[1]),
+            joined(&self.places[2], &other.places[2]),
+            joined(&self.places[3], &other.places[3]),
+        ];
     }
 
     fn join_signed(&mut self, other: &FirstBytes) {
@@ -182,8 +158,8 @@ impl Front for FirstBytes {
 }
 
 // The byte at a place of a line, or NUL after it.
-fn byte_at(line: &[u8], place: usize) -> usize
+fn byte_at(line: &[u8], place: usize) -> u8
     ensures { result ≡ get_or line.now place 0 }
 {
-    usize::from(line.get(place).copied().unwrap_or(0))
+    line.get(place).copied().unwrap_or(0)
 }

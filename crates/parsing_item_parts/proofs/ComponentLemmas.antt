@@ -64,20 +64,24 @@ part_item reading p h line v rest r new says sets =
     let same : put c.0 r ≡ new = inside (put c.0 r) new c.2 in
     rw (h line rest v c.0 there c.1, same) refl
 
+-- a component reads what its parts say
+abbrev Reads : Component → Type 0
+Reads c = (ps : List Part) → parts_of c ≡ Some ps → IsItem (putting (reads_component c)) ps
+
 -- ---- numbers of two digits
 
 padded_as : (p : Padding) (f : Field) (v : Values) → (field_of (padded_part p f) ≡ Some f) × (value_of (padded_part p f) v ≡ v f)
 padded_as padding.Zero f v = (refl, refl)
 padded_as p f v = (refl, refl)
 
-padded_item : (reading : Reading Read) (fault : Fault) (says_it : ℕ → Option Read) (p : Padding) (f : Field)
-    → ((line : List ℕ) → reading line ≡ piece_or fault (kept says_it (taken (padded p 2 2) line))) → ((v : Values) → said f v ≡ says_it (v f))
-    → IsItem (putting reading) (padded_part p f ∷ [])
-padded_item reading fault says_it p f is same = part_item reading (padded_part p f) (λ line rest v x e k.
+two_item : (c : Component) (fault : Fault) (p : Padding) (f : Field) → parts_of c ≡ Some (padded_part p f ∷ [])
+    → ((line : List ℕ) → reads_component c line ≡ piece_or fault (kept (λ n. said f (λ _. n)) (taken (padded p 2 2) line)))
+    → ((v : Values) → said f v ≡ said f (λ _. v f)) → Reads c
+two_item c fault p f parts is same ps e = rw (← inside _ ps (sym parts ∙ e)) (part_item (reads_component c) (padded_part p f) (λ line rest v x s k.
     let part_is = padded_as p f v in
-    let there : piece_of (padded_part p f) line ≡ Some (v f, rest) = rw part_is.1 at e in
+    let there : piece_of (padded_part p f) line ≡ Some (v f, rest) = rw part_is.1 at s in
     let said_it : said_by (Some f) v ≡ Some x = rw part_is.0 at k in
-    rw (is line, sym (padded_is p f line) ∙ there, sym (same v) ∙ said_it) refl)
+    rw (is line, sym (padded_is p f line) ∙ there, sym (same v) ∙ said_it) refl))
 
 -- ---- names
 
@@ -220,73 +224,55 @@ no_parts : (mandatory : Bool) (signed bare : Stretch) (ps : List Part)
 no_parts true signed bare ps e = absurd cc
 no_parts false signed bare ps e = absurd cc
 
-component_item : (c : Component) (ps : List Part) → parts_of c ≡ Some ps → IsItem (putting (reads_component c)) ps
+component_is : (c : Component) → Reads c
 unfolding period reads_component reads_modern date_piece year_piece time_piece offset_piece
-component_item (component.Day m) ps e =
-    rw (← inside _ ps e) (padded_item (reads_component (component.Day m)) _ (between 1 31 read.Day) m.padding field.Day (λ line. refl) (λ v. refl))
-component_item (component.MonthNumerical m) ps e =
-    rw (← inside _ ps e) (padded_item (reads_component (component.MonthNumerical m)) _ month_said m.padding field.Month (λ line. refl) (λ v. refl))
-component_item (component.MonthShort m) ps e =
+component_is (component.Day m) ps e = two_item (component.Day m) _ m.padding field.Day refl (λ line. refl) (λ v. refl) ps e
+component_is (component.MonthNumerical m) ps e = two_item (component.MonthNumerical m) _ m.padding field.Month refl (λ line. refl) (λ v. refl) ps e
+component_is (component.MonthShort m) ps e =
     rw (← inside _ ps e)
     (part_item (reads_component (component.MonthShort m)) (part.Name names.ShortMonth m.case_sensitive) (λ line rest v x s k. name_read _ month_number read.Month month_said month_back (taken (named m.case_sensitive short_months) line) (v field.Month) rest x s k))
-component_item (component.MonthLong m) ps e =
+component_is (component.MonthLong m) ps e =
     rw (← inside _ ps e)
     (part_item (reads_component (component.MonthLong m)) (part.Name names.LongMonth m.case_sensitive) (λ line rest v x s k. name_read _ month_number read.Month month_said month_back (taken (named m.case_sensitive long_months) line) (v field.Month) rest x s k))
-component_item (component.WeekdayShort m) ps e =
+component_is (component.WeekdayShort m) ps e =
     rw (← inside _ ps e)
     (part_item (reads_component (component.WeekdayShort m)) (part.Name names.ShortWeekday m.case_sensitive) (λ line rest v x s k. name_read _ weekday_number read.Weekday weekday_said weekday_back (taken (named m.case_sensitive short_weekdays) line) (v field.Weekday) rest x s k))
-component_item (component.WeekdayLong m) ps e =
+component_is (component.WeekdayLong m) ps e =
     rw (← inside _ ps e)
     (part_item (reads_component (component.WeekdayLong m)) (part.Name names.LongWeekday m.case_sensitive) (λ line rest v x s k. name_read _ weekday_number read.Weekday weekday_said weekday_back (taken (named m.case_sensitive long_weekdays) line) (v field.Weekday) rest x s k))
-component_item (component.WeekNumberIso m) ps e =
-    rw (← inside _ ps e)
-    (padded_item (reads_component (component.WeekNumberIso m)) _ (between 1 53 read.IsoWeek) m.padding field.IsoWeek (λ line. refl) (λ v. refl))
-component_item (component.Hour24 m) ps e =
-    rw (← inside _ ps e)
-    (padded_item (reads_component (component.Hour24 m)) _ (between 0 23 read.Hour24) m.padding field.Hour (λ line. refl) (λ v. refl))
-component_item (component.Hour12 m) ps e =
-    rw (← inside _ ps e)
-    (padded_item (reads_component (component.Hour12 m)) _ (between 1 12 read.Hour12) m.padding field.HourOfHalf (λ line. refl) (λ v. refl))
-component_item (component.Minute m) ps e =
-    rw (← inside _ ps e)
-    (padded_item (reads_component (component.Minute m)) _ (between 0 59 read.Minute) m.padding field.Minute (λ line. refl) (λ v. refl))
-component_item (component.Second m) ps e =
-    rw (← inside _ ps e)
-    (padded_item (reads_component (component.Second m)) _ (between 0 60 read.Second) m.padding field.Second (λ line. refl) (λ v. refl))
-component_item (component.Period m) ps e =
+component_is (component.WeekNumberIso m) ps e = two_item (component.WeekNumberIso m) _ m.padding field.IsoWeek refl (λ line. refl) (λ v. refl) ps e
+component_is (component.Hour24 m) ps e = two_item (component.Hour24 m) _ m.padding field.Hour refl (λ line. refl) (λ v. refl) ps e
+component_is (component.Hour12 m) ps e = two_item (component.Hour12 m) _ m.padding field.HourOfHalf refl (λ line. refl) (λ v. refl) ps e
+component_is (component.Minute m) ps e = two_item (component.Minute m) _ m.padding field.Minute refl (λ line. refl) (λ v. refl) ps e
+component_is (component.Second m) ps e = two_item (component.Second m) _ m.padding field.Second refl (λ line. refl) (λ v. refl) ps e
+component_is (component.Period m) ps e =
     rw (← inside _ ps e)
     (part_item (reads_component (component.Period m)) (part.Name names.HalfOfDay (m.is_uppercase && m.case_sensitive)) (λ line rest v x s k. name_read _ half_number read.Afternoon (λ n. Some (read.Afternoon (n == 1))) half_back (taken (named (m.is_uppercase && m.case_sensitive) periods) line) (v field.Half) rest x s k))
-component_item (component.Subsecond m) ps e = rw (← inside _ ps e) (fraction_item (reads_component (component.Subsecond m)) _ m.digits (λ line. refl))
-component_item (component.CalendarYearFullExtendedRange m) ps e =
+component_is (component.Subsecond m) ps e = rw (← inside _ ps e) (fraction_item (reads_component (component.Subsecond m)) _ m.digits (λ line. refl))
+component_is (component.CalendarYearFullExtendedRange m) ps e =
     year_item (reads_component (component.CalendarYearFullExtendedRange m)) _ true m.padding m.sign_is_mandatory ps (λ line. refl) e
-component_item (component.CalendarYearFullStandardRange m) ps e =
+component_is (component.CalendarYearFullStandardRange m) ps e =
     year_item (reads_component (component.CalendarYearFullStandardRange m)) _ false m.padding m.sign_is_mandatory ps (λ line. refl) e
-component_item (component.IsoYearFullExtendedRange m) ps e = absurd (no_parts m.sign_is_mandatory _ _ ps e)
-component_item (component.IsoYearFullStandardRange m) ps e = absurd (no_parts m.sign_is_mandatory _ _ ps e)
-component_item (component.CalendarYearCenturyExtendedRange m) ps e = absurd (no_parts m.sign_is_mandatory _ _ ps e)
-component_item (component.CalendarYearCenturyStandardRange m) ps e = absurd (no_parts m.sign_is_mandatory _ _ ps e)
-component_item (component.IsoYearCenturyExtendedRange m) ps e = absurd (no_parts m.sign_is_mandatory _ _ ps e)
-component_item (component.IsoYearCenturyStandardRange m) ps e = absurd (no_parts m.sign_is_mandatory _ _ ps e)
-component_item (component.OffsetHour m) ps e =
-    hour_item (reads_component (component.OffsetHour m)) _ m.padding m.sign_is_mandatory ps (λ line. refl) e
-component_item (component.OffsetMinute m) ps e =
-    rw (← inside _ ps e)
-    (padded_item (reads_component (component.OffsetMinute m)) _ (between 0 59 read.OffsetMinute) m.padding field.OffsetMinute (λ line. refl) (λ v. refl))
-component_item (component.UnixTimestampSecond m) ps e =
+component_is (component.IsoYearFullExtendedRange m) ps e = absurd (no_parts m.sign_is_mandatory _ _ ps e)
+component_is (component.IsoYearFullStandardRange m) ps e = absurd (no_parts m.sign_is_mandatory _ _ ps e)
+component_is (component.CalendarYearCenturyExtendedRange m) ps e = absurd (no_parts m.sign_is_mandatory _ _ ps e)
+component_is (component.CalendarYearCenturyStandardRange m) ps e = absurd (no_parts m.sign_is_mandatory _ _ ps e)
+component_is (component.IsoYearCenturyExtendedRange m) ps e = absurd (no_parts m.sign_is_mandatory _ _ ps e)
+component_is (component.IsoYearCenturyStandardRange m) ps e = absurd (no_parts m.sign_is_mandatory _ _ ps e)
+component_is (component.OffsetHour m) ps e = hour_item (reads_component (component.OffsetHour m)) _ m.padding m.sign_is_mandatory ps (λ line. refl) e
+component_is (component.OffsetMinute m) ps e = two_item (component.OffsetMinute m) _ m.padding field.OffsetMinute refl (λ line. refl) (λ v. refl) ps e
+component_is (component.UnixTimestampSecond m) ps e =
     unix_item (reads_component (component.UnixTimestampSecond m)) _ m.sign_is_mandatory ps (λ line. refl) e
-component_item (component.UnixTimestampMillisecond m) ps e = absurd (no_parts m.sign_is_mandatory _ _ ps e)
-component_item (component.UnixTimestampMicrosecond m) ps e = absurd (no_parts m.sign_is_mandatory _ _ ps e)
-component_item (component.UnixTimestampNanosecond m) ps e = absurd (no_parts m.sign_is_mandatory _ _ ps e)
-component_item c ps e = absurd cc
+component_is (component.UnixTimestampMillisecond m) ps e = absurd (no_parts m.sign_is_mandatory _ _ ps e)
+component_is (component.UnixTimestampMicrosecond m) ps e = absurd (no_parts m.sign_is_mandatory _ _ ps e)
+component_is (component.UnixTimestampNanosecond m) ps e = absurd (no_parts m.sign_is_mandatory _ _ ps e)
+component_is c ps e = absurd cc
 
 -- version 3 reads these components alike
 same_v3 : (c : Component) (ps : List Part) (line : List ℕ) → parts_of c ≡ Some ps → reads_component_v3 c line ≡ reads_component c line
 unfolding reads_component_v3
 same_v3 (component.Ignore m) ps line e = absurd cc
 same_v3 c ps line e = refl
-
-component_item_v3 : (c : Component) (ps : List Part) → parts_of c ≡ Some ps → IsItem (putting (reads_component_v3 c)) ps
-component_item_v3 c ps e line v rest r new says sets = rw (same_v3 c ps line e) (component_item c ps e line v rest r new says sets)
 
 -- ---- literals
 
@@ -313,8 +299,8 @@ literal_item language text line v rest r new says sets =
 
 pub component_read : (c : Component) (ps : List Part) → parts_of c ≡ Some ps → IsItem (reading reads_component (tree.Part c)) ps
 unfolding reads
-component_read c ps e = component_item c ps e
+component_read c ps e = component_is c ps e
 
 pub component_read_v3 : (c : Component) (ps : List Part) → parts_of c ≡ Some ps → IsItem (reading reads_component_v3 (tree.Part c)) ps
 unfolding reads
-component_read_v3 c ps e = component_item_v3 c ps e
+component_read_v3 c ps e line v rest r new says sets = rw (same_v3 c ps line e) (component_is c ps e line v rest r new says sets)

@@ -1,13 +1,12 @@
 -- Items read what their parts say, one after the other.
-use Rattle.std.proofs.Common.{◌≡◌, ◌∙◌, ◌+◌, ◌≤◌, ℕ, Bool, true, false, List, [], ◌∷◌, ◌++◌, length, map, take, Option, Some, None, Ok, Err, refl, sym, ap, arith, append_assoc}
+use Rattle.std.proofs.Common.{◌≡◌, ◌∙◌, ◌≤◌, ℕ, Bool, true, false, List, [], ◌∷◌, ◌++◌, length, map, Option, Some, None, Ok, Err, refl, sym, ap, arith, append_assoc}
 use Rattle.std.specs.Prelude.{IfSome}
 use Rattle.std.specs.Option.{option_and_then}
-use Rattle.std.proofs.lemmas.List.{append-nil}
 use Rattle.parsing_combinator.specs.Fault.{Fault}
 use Rattle.description_items.specs.Tree.{Tree, listed}
 use Rattle.parsing_components.specs.Put.{put}
 use Rattle.parsing_components.specs.declared.said.Read.{Read}
-use Rattle.parsing_components.specs.Meaning.{Meaning, Answer, Counted, then_counted, all_of}
+use Rattle.parsing_components.specs.Meaning.{Meaning, then_counted, all_of}
 use Rattle.parsing_components.specs.Reads.{Language, reading, reading_of_all, reads, each_reads}
 use Rattle.parsing_components.specs.declared.fields.Record.{Record}
 use Rattle.parsing_layout.specs.Layout.{Values, field_of}
@@ -29,10 +28,6 @@ pub chosen : (o : Option Read) (ps : List Part) (v : Values) (r new : Record) �
 chosen None ps v r new e = absurd cc
 chosen (Some x) ps v r new e = (x, refl, e)
 
-chosen_back : (o : Option Read) (x : Read) (ps : List Part) (v : Values) (r mid : Record) → o ≡ Some x → set_all ps v (put x r) ≡ Some mid
-    → option_and_then (λ y. set_all ps v (put y r)) o ≡ Some mid
-chosen_back o x ps v r mid is e = rw is e
-
 pub record SetsBoth (ps qs : List Part) (v : Values) (r new : Record) : Type 0 where
   pub mid : Record
   pub first : set_all ps v r ≡ Some mid
@@ -43,19 +38,14 @@ set_both [] qs v r new e = record { mid = r; first = refl; second = e }
 set_both (p ∷ ps) qs v r new e =
     let c = chosen (said_by (field_of p) v) (ps ++ qs) v r new e in
     let b = set_both ps qs v (put c.0 r) new c.2 in
-    record { mid = b.mid; first = chosen_back (said_by (field_of p) v) c.0 ps v r b.mid c.1 b.first; second = b.second }
+    record { mid = b.mid; first = ap (option_and_then (λ y. set_all ps v (put y r))) c.1 ∙ b.first; second = b.second }
 
 -- ---- items, one after the other
-
-counted_read : (x : Answer) (n : ℕ) (next : Counted) (new : Record) (rest : List ℕ) → x ≡ Ok (new, rest)
-    → (then_counted x n next).0 ≡ (next new rest).0
-counted_read x n next new rest e = rw e refl
 
 pub first_read : (language : Language) (t : Tree) (ts : List Tree) (r new : Record) (line rest : List ℕ) → reading language t r line ≡ Ok (new, rest)
     → reading_of_all language (listed (t ∷ ts)) r line ≡ reading_of_all language (listed ts) new rest
 unfolding each_reads all_of
-first_read language t ts r new line rest e =
-    counted_read (reads language t r line).0 (reads language t r line).1 (all_of (each_reads language (listed ts))) new rest e
+first_read language t ts r new line rest e = ap (λ a. (then_counted a (reads language t r line).1 (all_of (each_reads language (listed ts)))).0) e
 
 pub no_parts : (language : Language) → IsItem (reading_of_all language (listed [])) []
 unfolding each_reads all_of
@@ -98,72 +88,34 @@ pub items_of_parts : (m : Meaning) (ps : List Part) → IsItem m ps → AreItems
 items_of_parts m ps is line v rest way r new says sets =
     let there = certain_said ps line v rest way says in is line v rest r new there.1 (rw there.0 at sets)
 
-parts_alone : (m : Meaning) (ps : List Part) → AreItems m (map item.Part ps) → IsItem m ps
-parts_alone m ps are line v rest r new says sets = are line v rest ps r new (said_certain ps line v rest says) sets
-
 -- ---- an item more
-
-counted_refused : (x : Answer) (n : ℕ) (next : Counted) (f : Fault) → x ≡ Err f → (then_counted x n next).0 ≡ Err f
-counted_refused x n next f e = rw e refl
 
 pub refused : (language : Language) (t : Tree) (ts : List Tree) (r : Record) (line : List ℕ) (f : Fault) → reading language t r line ≡ Err f
     → reading_of_all language (listed (t ∷ ts)) r line ≡ Err f
 unfolding each_reads all_of
-refused language t ts r line f e =
-    counted_refused (reads language t r line).0 (reads language t r line).1 (all_of (each_reads language (listed ts))) f e
+refused language t ts r line f e = ap (λ a. (then_counted a (reads language t r line).1 (all_of (each_reads language (listed ts)))).0) e
 
 pub nothing_left : (language : Language) (r : Record) (rest : List ℕ) → reading_of_all language (listed []) r rest ≡ Ok (r, rest)
 unfolding each_reads all_of
 nothing_left language r rest = refl
 
-abbrev ReadsThen : Language → List Tree → Tree → Type 0
-ReadsThen language ts t = (r at new : Record) (line mid rest : List ℕ) → reading_of_all language (listed ts) r line ≡ Ok (at, mid) → reading language t at mid ≡ Ok (new, rest)
-    → reading_of_all language (listed (ts ++ t ∷ [])) r line ≡ Ok (new, rest)
-
-then_at : (language : Language) (u : Tree) (ts : List Tree) (t : Tree) (o : Answer) (r at new : Record) (line mid rest : List ℕ) → ReadsThen language ts t
-    → reading language u r line ≡ o → reading_of_all language (listed (u ∷ ts)) r line ≡ Ok (at, mid) → reading language t at mid ≡ Ok (new, rest)
-    → reading_of_all language (listed (u ∷ (ts ++ t ∷ []))) r line ≡ Ok (new, rest)
-then_at language u ts t (Ok x) r at new line mid rest others is e last =
-    first_read language u (ts ++ t ∷ []) r x.0 line x.1 is
-    ∙ others x.0 at new x.1 mid rest (sym (first_read language u ts r x.0 line x.1 is) ∙ e) last
-then_at language u ts t (Err f) r at new line mid rest others is e last =
-    absurd (let never : Err f ≡ Ok (at, mid) = sym (refused language u ts r line f is) ∙ e in cc)
-
-read_then : (language : Language) (ts : List Tree) (t : Tree) → ReadsThen language ts t
-read_then language [] t r at new line mid rest e last =
-    let same : (r, line) ≡ (at, mid) = let both : Ok (r, line) ≡ Ok (at, mid) = sym (nothing_left language r line) ∙ e in cc in
-    let there : reading language t r line ≡ Ok (new, rest) = ap (λ (x : Record × List ℕ). reading language t x.0 x.1) same ∙ last in
-    first_read language t [] r new line rest there ∙ nothing_left language new rest
-read_then language (u ∷ ts) t r at new line mid rest e last =
-    then_at language u ts t (reading language u r line) r at new line mid rest (read_then language ts t) refl e last
-
-pub item_more : (language : Language) (ts : List Tree) (t : Tree) (xs ys : List Item) → AreItems (reading_of_all language (listed ts)) xs
-    → AreItems (reading language t) ys → AreItems (reading_of_all language (listed (ts ++ t ∷ []))) (xs ++ ys)
-item_more language ts t xs ys all one line v rest way r new says sets =
+pub items_first : (language : Language) (t : Tree) (ts : List Tree) (xs ys : List Item) → AreItems (reading language t) xs
+    → AreItems (reading_of_all language (listed ts)) ys → AreItems (reading_of_all language (listed (t ∷ ts))) (xs ++ ys)
+items_first language t ts xs ys one others line v rest way r new says sets =
     let s = says_split xs ys line v rest way says in
     let b = set_both s.first s.second v r new (rw s.both at sets) in
-    read_then language ts t r b.mid new line s.mid rest
-    (all line v s.mid s.first r b.mid s.by_first b.first) (one s.mid v rest s.second b.mid new s.by_second b.second)
+    first_read language t ts r b.mid line s.mid (one line v s.mid s.first r b.mid s.by_first b.first)
+    ∙ others s.mid v rest s.second b.mid new s.by_second b.second
 
 -- ---- lists that grow
 
-pub no_items : (is_all : Bool) → parts_of_items is_all [] ≡ []
-no_items true = refl
-no_items false = refl
+pub parts_more : (is_all : Bool) (i : Item) (is : List Item) → parts_of_items is_all (i ∷ is) ≡ parts_of_item is_all i ++ parts_of_items is_all is
+parts_more true i is = refl
+parts_more false i is = refl
 
-an_item : (is_all : Bool) (i : Item) (is : List Item) → parts_of_items is_all (i ∷ is) ≡ parts_of_item is_all i ++ parts_of_items is_all is
-an_item true i is = refl
-an_item false i is = refl
-
-item_after : (is_all : Bool) (is : List Item) (i : Item) → parts_of_items is_all (is ++ i ∷ []) ≡ parts_of_items is_all is ++ parts_of_item is_all i
-item_after is_all [] i = rw (an_item is_all i [], no_items is_all) (append-nil (parts_of_item is_all i))
-item_after is_all (j ∷ is) i =
-    rw (an_item is_all j (is ++ i ∷ []), an_item is_all j is, item_after is_all is i) (sym (append_assoc (parts_of_item is_all j) (parts_of_items is_all is) (parts_of_item is_all i)))
-
-pub grown : (is_all : Bool) (is : List Item) (k : ℕ) (i : Item) (old new : List Part) → take (k + 1) is ≡ take k is ++ i ∷ []
-    → old ≡ parts_of_items is_all (take k is) → new ≡ old ++ parts_of_item is_all i → new ≡ parts_of_items is_all (take (k + 1) is)
-grown is_all is k i old new cut so_far added =
-    rw cut (added ∙ ap (λ (xs : List Part). xs ++ parts_of_item is_all i) so_far ∙ sym (item_after is_all (take k is) i))
+pub no_more : (is_all : Bool) → parts_of_items is_all [] ≡ []
+no_more true = refl
+no_more false = refl
 
 few_certain : (is : List Item) → length (all_certain is) ≤ length is
 few_certain [] = omega arith
@@ -184,4 +136,4 @@ node_added language t more old (Some new) are h = record { more = more; read = a
 pub alone_read : (m : Meaning) (is : List Item) (o : Option Parts) → AreItems m is → IfSome o (λ l. map item.Part (parts_kept l) ≡ is)
     → IfSome o (λ l. IsItem m (parts_kept l))
 alone_read m is None are same = tt
-alone_read m is (Some l) are same = parts_alone m (parts_kept l) (rw same are)
+alone_read m is (Some l) are same = λ line v rest r new says sets. (let kept : AreItems m (map item.Part (parts_kept l)) = rw same are in kept) line v rest (parts_kept l) r new (said_certain (parts_kept l) line v rest says) sets

@@ -25,7 +25,7 @@ use Rattle.parsing_components.specs.Ranged.{counted, months}
 use Rattle.parsing_components.specs.Parts.{time_parts}
 use Rattle.parsing_components.specs.Prefix.{beginning}
 use Rattle.parsing_components.specs.Whole.{moment_named, offset_named}
-use Rattle.parsing_components.proofs.AssumedOffsets.{sign_named, no_second}
+use Rattle.parsing_components.proofs.AssumedOffsets.{sign_named}
 use Rattle.parsing_layout.specs.Layout.{Values}
 use Rattle.parsing_layout.specs.declared.parts.Field.TheVariants as field
 use Rattle.parsing_layout.specs.Range.{AreInRange}
@@ -44,8 +44,7 @@ hour_said assumed has v hour = rw hour refl
 half_said : (assumed : Option ℤ) (has : Said) (v : Values) → has field.Hour ≡ false → has field.HourOfHalf ≡ true → has field.Half ≡ true
     → hour_of (time_parts (recorded has v (beginning assumed))) ≡ Some (v field.HourOfHalf % 12 + (if v field.Half == 1 then 12 else 0))
 unfolding hour_of half_day_hour
-half_said None has v none hour half = rw (none, hour, half) refl
-half_said (Some offset) has v none hour half = rw (none, hour, half) refl
+half_said assumed has v none hour half = rw (none, hour, half) refl
 
 pub half_late : (assumed : Option ℤ) (has : Said) (v : Values) → SayHalf has → v field.Half ≡ 1
     → hour_of (time_parts (recorded has v (beginning assumed))) ≡ Some (v field.HourOfHalf % 12 + 12)
@@ -66,7 +65,7 @@ pub offset_said : (assumed : Option ℤ) (has : Said) (v : Values) (offset : ℤ
     → offset_named (recorded has v (beginning assumed)) ≡ Ok offset
 offset_said assumed has v offset hour minute is =
     rw (hour, minute)
-    (sign_named (v field.Sign == hyphen) (v field.OffsetHour) (v field.OffsetMinute) (beginning assumed).offset_second offset (no_second assumed) is)
+    (sign_named (v field.Sign == hyphen) (v field.OffsetHour) (v field.OffsetMinute) offset is)
 
 pub offset_assumed : (assumed : Option ℤ) (has : Said) (v : Values) (offset : ℤ) → has field.OffsetHour ≡ false → has field.OffsetMinute ≡ false
     → offset_named (beginning assumed) ≡ Ok offset → offset_named (recorded has v (beginning assumed)) ≡ Ok offset
@@ -97,10 +96,7 @@ dated : (assumed : Option ℤ) (has : Said) (v : Values) (s : SayDay has) → (h
     → offset_named (recorded has v (beginning assumed)) ≡ Ok offset
     → moment_named (recorded has v (beginning assumed)) ≡ Ok (record { wall = wall_clock day time; offset = offset })
 unfolding named_moment dated_moment named_wall named_date by_ordinal by_day year_of named_time permitted_time_of leap_checked
-dated None has v s hour day time name offset h m in_day in_time in_offset =
-    rw
-    (s.unix, in_offset, h, s.year, s.month, m, s.day, s.minute, finer_said (has field.Second) (has field.Nanosecond) (v field.Minute) (v field.Second) (v field.Nanosecond) s.finer, in_day, in_time) refl
-dated (Some assumed) has v s hour day time name offset h m in_day in_time in_offset =
+dated assumed has v s hour day time name offset h m in_day in_time in_offset =
     rw
     (s.unix, in_offset, h, s.year, s.month, m, s.day, s.minute, finer_said (has field.Second) (has field.Nanosecond) (v field.Minute) (v field.Second) (v field.Nanosecond) s.finer, in_day, in_time) refl
 
@@ -152,8 +148,7 @@ unix_at : (assumed : Option ℤ) (has : Said) (v : Values) (instant : ℤ) → h
     → unix_subsecond (pos (v field.Unix * 1_000_000_000)) (if has field.Nanosecond then Some (v field.Nanosecond) else None) ≡ Ok instant
     → moment_named (recorded has v (beginning assumed)) ≡ Ok (record { wall = instant; offset = pos 0 })
 unfolding named_moment
-unix_at None has v instant there e = rw (there, e) refl
-unix_at (Some offset) has v instant there e = rw (there, e) refl
+unix_at assumed has v instant there e = rw (there, e) refl
 
 pub unix_said : (assumed : Option ℤ) (has : Said) (v : Values) (o : Option fields.Fields) → has field.Unix ≡ true → v field.Unix ≤ 9_999_999_999
     → v field.Nanosecond < 1_000_000_000 → (has field.Nanosecond ≡ false → v field.Nanosecond ≡ 0)

@@ -3,9 +3,9 @@ use Rattle.std.proofs.Common.{◌≡◌, ◌∙◌, ◌==◌, ℕ, Bool, true, f
 use Rattle.std.proofs.lemmas.List.{append-nil}
 use Rattle.std.specs.Prelude.{IfSome, bytes_eq}
 use Rattle.description_items.specs.Tree.{Tree, Literal, Compound, Optional, listed}
-use Rattle.parsing_combinator.specs.Fault.{Fault, literal}
+use Rattle.parsing_combinator.specs.Fault.{literal}
 use Rattle.parsing_combinator.specs.Pieces.{byte, skip_of}
-use Rattle.parsing_components.specs.Meaning.{literally, optionally}
+use Rattle.parsing_components.specs.Meaning.{literally, or_unchanged, optionally}
 use Rattle.parsing_components.specs.Reads.{Language, reading, reading_of_all, reads, each_reads}
 use Rattle.parsing_components.specs.declared.fields.Record.{Record}
 use Rattle.parsing_layout.specs.Items.{SaysItem}
@@ -16,24 +16,8 @@ use Rattle.parsing_layout.specs.declared.parts.Part.TheVariants as part
 use Rattle.parsing_layout.proofs.PieceLemmas.{inside}
 use Rattle.parsing_item_parts.specs.Items.{set_all, IsItem, AreItems, AddsItem, literal_items}
 use Rattle.parsing_item_parts.specs.declared.list.Items.{Items}
-use Rattle.parsing_layout.specs.declared.items.Item.{Item}
 use Rattle.parsing_item_parts.proofs.ComponentLemmas.{literal_item}
 use Rattle.parsing_item_parts.proofs.ItemLemmas.{refused, item_and_items, items_of_parts, no_parts}
-
-compound_is : (language : Language) (ts : List Tree) (r : Record) (line : List ℕ)
-    → reading language (Compound (listed ts)) r line ≡ reading_of_all language (listed ts) r line
-unfolding reads each_reads
-compound_is language ts r line = refl
-
-optional_read : (language : Language) (t : Tree) (r : Record) (line : List ℕ) (x : Record × List ℕ) → reading language t r line ≡ Ok x
-    → reading language (Optional true t) r line ≡ Ok x
-unfolding reads optionally
-optional_read language t r line x e = rw e refl
-
-optional_left : (language : Language) (t : Tree) (r : Record) (line : List ℕ) (f : Fault) → reading language t r line ≡ Err f
-    → reading language (Optional true t) r line ≡ Ok (r, line)
-unfolding reads optionally
-optional_left language t r line f e = rw e refl
 
 pub any_format : (language : Language) (format : Bool) (t : Tree) (o : Option Items) (old : Items)
     → IfSome o (AddsItem language (Optional true t) old) → IfSome o (AddsItem language (Optional format t) old)
@@ -54,19 +38,15 @@ no_literal language c (x ∷ xs) r e = rw (other_byte (x == c) c x xs refl e) re
 pair_at : (language : Language) (b : ℕ) (t : Tree) (p : Part) → IsItem (reading language t) (p ∷ []) → (line rest : List ℕ) (v : Values)
     (way : List Part) (r new : Record) → SaysItem (item.Optional b p) line v rest way → set_all way v r ≡ Some new
     → reading language (Optional true (Compound (listed (Literal (b ∷ []) ∷ t ∷ [])))) r line ≡ Ok (new, rest)
+unfolding reads each_reads optionally
 pair_at language b t p is line rest v way r new (inl there) sets =
-    let items = Literal (b ∷ []) ∷ t ∷ [] in
     let after : IsItem (reading_of_all language (listed (t ∷ []))) (p ∷ []) = item_and_items language t [] (p ∷ []) [] is (no_parts language) in
-    let both : IsItem (reading_of_all language (listed items)) (part.Byte b ∷ p ∷ []) =
+    let both : IsItem (reading_of_all language (listed (Literal (b ∷ []) ∷ t ∷ []))) (part.Byte b ∷ p ∷ []) =
     item_and_items language (Literal (b ∷ [])) (t ∷ []) (part.Byte b ∷ []) (p ∷ []) (literal_item language (b ∷ [])) after in
-    optional_read language (Compound (listed items)) r line (new, rest)
-    (compound_is language items r line ∙ both line v rest r new there.1 (rw there.0 at sets))
+    ap (λ a. or_unchanged a r line) (both line v rest r new there.1 (rw there.0 at sets))
 pair_at language b t p is line rest v way r new (inr missing) sets =
-    let items = Literal (b ∷ []) ∷ t ∷ [] in
     let same : r ≡ new = inside r new (rw missing.none at sets) in
-    let none : reading language (Compound (listed items)) r line ≡ Err literal =
-    compound_is language items r line ∙ refused language (Literal (b ∷ [])) (t ∷ []) r line literal (no_literal language b line r missing.other) in
-    optional_left language (Compound (listed items)) r line literal none
+    ap (λ a. or_unchanged a r line) (refused language (Literal (b ∷ [])) (t ∷ []) r line literal (no_literal language b line r missing.other))
     ∙ ap (λ (x : Record). Ok (x, line)) same ∙ ap (λ (xs : List ℕ). Ok (new, xs)) missing.same
 
 pub pair_item : (language : Language) (b : ℕ) (t : Tree) (p : Part) → IsItem (reading language t) (p ∷ [])
@@ -77,10 +57,5 @@ pair_item language b t p is line v rest way r new says sets =
 
 -- ---- a literal
 
-literal_same : (text : List ℕ) → literal_items text ≡ map item.Part (map part.Byte text)
-literal_same [] = refl
-literal_same (c ∷ cs) = ap (λ (xs : List Item). item.Part (part.Byte c) ∷ xs) (literal_same cs)
-
 pub literal_read : (language : Language) (text : List ℕ) → AreItems (reading language (Literal text)) (literal_items text)
-literal_read language text =
-    rw (literal_same text) (items_of_parts (reading language (Literal text)) (map part.Byte text) (literal_item language text))
+literal_read language text = items_of_parts (reading language (Literal text)) (map part.Byte text) (literal_item language text)

@@ -1,26 +1,19 @@
 -- What a text says by items, from what has to be there and what may be.
-use Rattle.std.proofs.Common.{◌≡◌, ◌∙◌, ◌<◌, ◌||◌, ◌++◌, ℕ, Bool, true, false, List, [], ◌∷◌, refl, sym, ap, arith, inl, inr}
-use Rattle.std.proofs.Math.Bool.{or_assoc}
+use Rattle.std.proofs.Common.{◌≡◌, ◌∙◌, ◌<◌, ◌||◌, ℕ, Bool, true, false, List, [], ◌∷◌, refl, sym, arith, inl, inr}
 use Rattle.parsing_layout.specs.Items.{SaysItem, SaysItems, certain, possible, all_certain, all_possible}
-use Rattle.parsing_layout.specs.Layout.{Values, field_of}
+use Rattle.parsing_layout.specs.Layout.{Values}
 use Rattle.parsing_layout.specs.declared.parts.Field.{Field}
 use Rattle.parsing_layout.specs.Range.{most, IsAllInRange}
-use Rattle.parsing_layout.specs.Said.{Said, is_of, fields_of}
+use Rattle.parsing_layout.specs.Said.{Said, fields_of}
 use Rattle.parsing_layout.specs.declared.items.Item.{Item}
 use Rattle.parsing_layout.specs.declared.parts.Part.{Part}
 use Rattle.parsing_layout.specs.declared.items.Item.TheVariants as item
 use Rattle.parsing_layout.specs.declared.parts.Field.TheVariants as field
 use Rattle.parsing_strides.specs.Found.{values_in}
+use Rattle.parsing_strides.proofs.StepLemmas.{said_by_both}
 use Rattle.parsing_item_parts.specs.Listed.{IsWay, items_listed}
 use Rattle.parsing_item_parts.specs.Recorded.{said_or}
 use Rattle.parsing_item_parts.specs.declared.listed.Listed.{Listed}
-
--- ---- the fields of two lists
-
-said_by_both : (ps qs : List Part) (f : Field) → fields_of (ps ++ qs) f ≡ (fields_of ps f || fields_of qs f)
-said_by_both [] qs f = refl
-said_by_both (p ∷ ps) qs f =
-    ap (λ (b : Bool). is_of f (field_of p) || b) (said_by_both ps qs f) ∙ sym (or_assoc (is_of f (field_of p)) (fields_of ps f) (fields_of qs f))
 
 -- ---- what has to be there is, and what can't be is not
 
@@ -76,11 +69,12 @@ pub record SayDay (has : Said) : Type 0 where
   pub unix : has field.Unix ≡ false
   pub finer : has field.Second ≡ false → has field.Nanosecond ≡ false
 
-no_finer : (l : Listed) (has : Said) (v : Values) (b : Bool) → l.kind.is_unix ≡ false → IsWay l has v → IsAllInRange v → l.kind.has_second ≡ b
-    → has field.Second ≡ false → has field.Nanosecond ≡ false
-no_finer l has v true dated way range is none =
+-- a second that is not said is one that can't be
+no_second : (l : Listed) (has : Said) (v : Values) (b : Bool) → l.kind.is_unix ≡ false → IsWay l has v → IsAllInRange v → l.kind.has_second ≡ b
+    → has field.Second ≡ false → l.kind.has_second ≡ false
+no_second l has v true dated way range is none =
     absurd (let there = is_read l has v field.Second way range ((l.out_of_range dated).second is) in let never : true ≡ false = sym there ∙ none in cc)
-no_finer l has v false dated way range is none = way.possible field.Nanosecond ((l.dated dated).fraction is)
+no_second l has v false dated way range is none = is
 
 pub day_said : (l : Listed) (has : Said) (v : Values) → l.kind.is_unix ≡ false → IsWay l has v → IsAllInRange v → SayDay has
 day_said l has v dated way range =
@@ -92,7 +86,7 @@ day_said l has v dated way range =
       day = is_read l has v field.Day way range out.day;
       minute = is_read l has v field.Minute way range out.minute;
       unix = way.possible field.Unix s.unix;
-      finer = no_finer l has v l.kind.has_second dated way range refl;
+      finer = λ none. way.possible field.Nanosecond (s.fraction (no_second l has v l.kind.has_second dated way range refl none));
     }
 
 -- ---- of the hour and the offset
@@ -133,16 +127,11 @@ zero_or : (b : Bool) (has : Said) (v : Values) (f : Field) → has f ≡ b → (
 zero_or true has v f is none = rw is refl
 zero_or false has v f is none = rw is (none refl)
 
-second_zero : (l : Listed) (has : Said) (v : Values) (b : Bool) → l.kind.is_unix ≡ false → IsWay l has v → IsAllInRange v
-    → l.kind.has_second ≡ b → has field.Second ≡ false → v field.Second ≡ 0
-second_zero l has v true dated way range is none =
-    absurd (let there = is_read l has v field.Second way range ((l.out_of_range dated).second is) in let never : true ≡ false = sym there ∙ none in cc)
-second_zero l has v false dated way range is none = way.unread field.Second none ∙ (l.out_of_range dated).no_second is
-
 pub second_said : (l : Listed) (has : Said) (v : Values) → l.kind.is_unix ≡ false → IsWay l has v → IsAllInRange v
     → v field.Second ≡ said_or has v field.Second 0
 second_said l has v dated way range =
-    zero_or (has field.Second) has v field.Second refl (second_zero l has v l.kind.has_second dated way range refl)
+    zero_or (has field.Second) has v field.Second refl
+    (λ none. way.unread field.Second none ∙ (l.out_of_range dated).no_second (no_second l has v l.kind.has_second dated way range refl none))
 
 pub no_fraction : (l : Listed) (has : Said) (v : Values) → IsWay l has v → has field.Nanosecond ≡ false → v field.Nanosecond ≡ 0
 no_fraction l has v way none = way.unread field.Nanosecond none ∙ l.no_fraction

@@ -87,7 +87,7 @@ parts_of c = parts_in (form_of c)
 
 -- the parts of a literal
 abbrev pub literal_items : List ℕ → List Item
-literal_items text = map (λ b. item.Part (part.Byte b)) text
+literal_items text = map item.Part (map part.Byte text)
 
 -- an item of a description reads what a text that has these items sets
 abbrev pub AreItems : Meaning → List Item → Type 0

@@ -5,7 +5,8 @@ ghost use Rattle.parsing_layout.specs.Range.{AreUnread};
 ghost use Rattle.parsing_layout.specs.Said.{are_apart, fields_of};
 ghost use Rattle.parsing_layout.specs.declared.parts.Field.TheVariants as field;
 ghost use Rattle.parsing_strides.specs.Found.{values_in};
-ghost use Rattle.parsing_strides.specs.Strides.{made};
+ghost use Rattle.parsing_strides.specs.Strides.{IsMade};
+ghost use Rattle.parsing_strides.proofs.StepLemmas.{made_once};
 ghost use Rattle.parsing_item_parts.specs.Items.{items_kept};
 ghost use Rattle.parsing_item_parts.specs.Kind.{SayDate};
 
@@ -33,7 +34,7 @@ pub struct Listed {
     pub(crate) kind: Kind,
     /// What stands for each number before it is read.
     pub(crate) unread: Found,
-    ghost made: { made strides (items_kept items) ≡ true },
+    ghost made: { IsMade strides (items_kept items) } by { made_once _ _ },
     ghost apart: { are_apart (all_possible (items_kept items)) ≡ true },
     ghost dated: { kind.is_unix ≡ false → SayDate kind (fields_of (all_certain (items_kept items)))
         (fields_of (all_possible (items_kept items))) },

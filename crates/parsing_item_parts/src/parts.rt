@@ -21,17 +21,8 @@ pub fn part_of(component: &Component) -> Option<(bool, Part)>
     ensures { IfSome result (λ x. parts_of component.now ≡ Some (sign_and x.0 x.1)) }
 {
     match form_of(component) {
-        Form::Bare(piece) => {
-            let part = part_in(piece)?;
-            Some((false, part))
-        }
-        Form::Signed(piece) => {
-            let part = part_in(piece)?;
-            Some((true, part))
-        }
-        Form::Either { signed: _, bare } => {
-            let part = part_in(bare)?;
-            Some((false, part))
-        }
+        Form::Bare(piece) => part_in(piece).map(|part| (false, part)),
+        Form::Signed(piece) => part_in(piece).map(|part| (true, part)),
+        Form::Either { signed: _, bare } => part_in(bare).map(|part| (false, part)),
     }
 }

@@ -26,8 +26,7 @@ impl Parsed {
     pub fn with_hour_24(mut self, value: u8) -> Option<Self>
         ensures { result ≡ with_if (is_in_range 0 23 value) (record self { hour_24 = Some value }) }
     {
-        self.set_hour_24(value)?;
-        Some(self)
+        self.set_hour_24(value).and(Some(self))
     }
 
     /// The hour of a half day, 1 to 12: it counts only together with its half.
@@ -50,8 +49,7 @@ impl Parsed {
     pub fn with_hour_12(mut self, value: u8) -> Option<Self>
         ensures { result ≡ with_if (is_in_range 1 12 value) (record self { hour_12 = Some value }) }
     {
-        self.set_hour_12(value)?;
-        Some(self)
+        self.set_hour_12(value).and(Some(self))
     }
 
     /// Whether it is the later half of the day, from noon on.
@@ -66,16 +64,14 @@ impl Parsed {
         ensures always { result ≡ Some tt }
         ensures set { self.new ≡ record self.old { hour_12_is_pm = Some value } }
     {
-        self.fields.hour_12_is_pm = Some(value);
-        Some(())
+        set(&mut self.fields.hour_12_is_pm, true, value)
     }
 
     /// The record with whether it is the later half of the day. Never `None`.
     pub fn with_hour_12_is_pm(mut self, value: bool) -> Option<Self>
         ensures { result ≡ Some (record self { hour_12_is_pm = Some value }) }
     {
-        self.set_hour_12_is_pm(value)?;
-        Some(self)
+        self.set_hour_12_is_pm(value).and(Some(self))
     }
 
     /// The minute, 0 to 59.
@@ -98,8 +94,7 @@ impl Parsed {
     pub fn with_minute(mut self, value: u8) -> Option<Self>
         ensures { result ≡ with_if (is_in_range 0 59 value) (record self { minute = Some value }) }
     {
-        self.set_minute(value)?;
-        Some(self)
+        self.set_minute(value).and(Some(self))
     }
 
     /// The second, 0 to 60. Of 60 a moment is made only where a leap second is permitted, and a time of day never.
@@ -122,8 +117,7 @@ impl Parsed {
     pub fn with_second(mut self, value: u8) -> Option<Self>
         ensures { result ≡ with_if (is_in_range 0 60 value) (record self { second = Some value }) }
     {
-        self.set_second(value)?;
-        Some(self)
+        self.set_second(value).and(Some(self))
     }
 
     /// The fraction of the second, in nanoseconds, 0 to 999999999.
@@ -149,7 +143,6 @@ impl Parsed {
         ensures { result
             ≡ with_if (is_in_range 0 999_999_999 value) (record self { subsecond = Some value }) }
     {
-        self.set_subsecond(value)?;
-        Some(self)
+        self.set_subsecond(value).and(Some(self))
     }
 }

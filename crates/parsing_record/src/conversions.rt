@@ -1,10 +1,7 @@
 //! The values that a record names.
-ghost use Rattle.parsing_combinator.specs.FaultOf.{Gives, resolution_fault};
-ghost use Rattle.parsing_values.specs.NamedDate.{named_date};
-ghost use Rattle.parsing_values.specs.NamedTime.{named_time, named_offset};
-ghost use Rattle.parsing_values.specs.NamedMoment.{named_wall, named_moment, named_utc, named_timestamp};
+ghost use Rattle.std.specs.Prelude.{◌≡◌};
 ghost use Rattle.parsing_components.specs.Parts.{date_parts, time_parts, offset_parts, moment_parts};
-ghost use Rattle.std.specs.Prelude.{◌≡◌, false};
+ghost use Rattle.parsing_components.specs.Whole.{Names, date_named, time_named, offset_named, wall_named, moment_named, utc_named, timestamp_named};
 
 use crate::parsed::Parsed;
 use calendar::{Date, Time, UtcOffset};
@@ -92,8 +89,7 @@ impl Parsed {
     /// date, a time or an offset that is not there or out of range, and a leap second that can be none.
     #[inline(always)]
     pub fn offset_date_time(&self) -> Result<OffsetDateTime, TryFromParsed>
-        ensures { Gives (λ value. value) resolution_fault result
-            (named_moment (moment_parts self.now) (offset_parts self.now)) }
+        ensures { Names moment_named self.now result }
     {
         match self.usual_moment() {
             Some(moment) => Ok(moment),
@@ -105,8 +101,7 @@ impl Parsed {
 impl TryFrom<Parsed> for Date {
     type Error = TryFromParsed;
 
-    ghost try_from_gives = { λ parsed result. Gives (λ value. value) resolution_fault result
-        (named_date (date_parts parsed)) };
+    ghost try_from_gives = { Names date_named };
 
     #[inline(always)]
     fn try_from(parsed: Parsed) -> Result<Date, TryFromParsed> {
@@ -117,8 +112,7 @@ impl TryFrom<Parsed> for Date {
 impl TryFrom<Parsed> for Time {
     type Error = TryFromParsed;
 
-    ghost try_from_gives = { λ parsed result. Gives (λ value. value) resolution_fault result
-        (named_time false (time_parts parsed)) };
+    ghost try_from_gives = { Names time_named };
 
     #[inline(always)]
     fn try_from(parsed: Parsed) -> Result<Time, TryFromParsed> {
@@ -129,8 +123,7 @@ impl TryFrom<Parsed> for Time {
 impl TryFrom<Parsed> for UtcOffset {
     type Error = TryFromParsed;
 
-    ghost try_from_gives = { λ parsed result. Gives (λ value. value) resolution_fault result
-        (named_offset (offset_parts parsed)) };
+    ghost try_from_gives = { Names offset_named };
 
     #[inline(always)]
     fn try_from(parsed: Parsed) -> Result<UtcOffset, TryFromParsed> {
@@ -141,8 +134,7 @@ impl TryFrom<Parsed> for UtcOffset {
 impl TryFrom<Parsed> for PlainDateTime {
     type Error = TryFromParsed;
 
-    ghost try_from_gives = { λ parsed result. Gives (λ value. value) resolution_fault result
-        (named_wall false (date_parts parsed) (time_parts parsed)) };
+    ghost try_from_gives = { Names wall_named };
 
     #[inline(always)]
     fn try_from(parsed: Parsed) -> Result<PlainDateTime, TryFromParsed> {
@@ -153,8 +145,7 @@ impl TryFrom<Parsed> for PlainDateTime {
 impl TryFrom<Parsed> for OffsetDateTime {
     type Error = TryFromParsed;
 
-    ghost try_from_gives = { λ parsed result. Gives (λ value. value) resolution_fault result
-        (named_moment (moment_parts parsed) (offset_parts parsed)) };
+    ghost try_from_gives = { Names moment_named };
 
     #[inline(always)]
     fn try_from(parsed: Parsed) -> Result<OffsetDateTime, TryFromParsed> {
@@ -165,8 +156,7 @@ impl TryFrom<Parsed> for OffsetDateTime {
 impl TryFrom<Parsed> for UtcDateTime {
     type Error = TryFromParsed;
 
-    ghost try_from_gives = { λ parsed result. Gives (λ value. value) resolution_fault result
-        (named_utc (moment_parts parsed) (offset_parts parsed)) };
+    ghost try_from_gives = { Names utc_named };
 
     #[inline(always)]
     fn try_from(parsed: Parsed) -> Result<UtcDateTime, TryFromParsed> {
@@ -177,8 +167,7 @@ impl TryFrom<Parsed> for UtcDateTime {
 impl TryFrom<Parsed> for Timestamp {
     type Error = TryFromParsed;
 
-    ghost try_from_gives = { λ parsed result. Gives (λ value. value) resolution_fault result
-        (named_timestamp (moment_parts parsed) (offset_parts parsed)) };
+    ghost try_from_gives = { Names timestamp_named };
 
     #[inline(always)]
     fn try_from(parsed: Parsed) -> Result<Timestamp, TryFromParsed> {

@@ -19,16 +19,14 @@ impl Parsed {
         ensures always { result ≡ Some tt }
         ensures set { self.new ≡ record self.old { month = Some value } }
     {
-        self.fields.month = Some(value);
-        Some(())
+        set(&mut self.fields.month, true, value)
     }
 
     /// The record with the month. Never `None`.
     pub fn with_month(mut self, value: Month) -> Option<Self>
         ensures { result ≡ Some (record self { month = Some value }) }
     {
-        self.set_month(value)?;
-        Some(self)
+        self.set_month(value).and(Some(self))
     }
 
     /// The week, counted from the year's first Sunday, 0 to 53. The days before that Sunday are in week 0.
@@ -53,8 +51,7 @@ impl Parsed {
         ensures { result
             ≡ with_if (is_in_range 0 53 value) (record self { sunday_week_number = Some value }) }
     {
-        self.set_sunday_week_number(value)?;
-        Some(self)
+        self.set_sunday_week_number(value).and(Some(self))
     }
 
     /// The week, counted from the year's first Monday, 0 to 53. The days before that Monday are in week 0.
@@ -79,8 +76,7 @@ impl Parsed {
         ensures { result
             ≡ with_if (is_in_range 0 53 value) (record self { monday_week_number = Some value }) }
     {
-        self.set_monday_week_number(value)?;
-        Some(self)
+        self.set_monday_week_number(value).and(Some(self))
     }
 
     /// The week of ISO 8601, 1 to 53, in the year that `iso_year` has.
@@ -106,8 +102,7 @@ impl Parsed {
         ensures { result
             ≡ with_if (is_in_range 1 53 value) (record self { iso_week_number = Some value }) }
     {
-        self.set_iso_week_number(value)?;
-        Some(self)
+        self.set_iso_week_number(value).and(Some(self))
     }
 
     /// The weekday.
@@ -122,16 +117,14 @@ impl Parsed {
         ensures always { result ≡ Some tt }
         ensures set { self.new ≡ record self.old { weekday = Some value } }
     {
-        self.fields.weekday = Some(value);
-        Some(())
+        set(&mut self.fields.weekday, true, value)
     }
 
     /// The record with the weekday. Never `None`.
     pub fn with_weekday(mut self, value: Weekday) -> Option<Self>
         ensures { result ≡ Some (record self { weekday = Some value }) }
     {
-        self.set_weekday(value)?;
-        Some(self)
+        self.set_weekday(value).and(Some(self))
     }
 
     /// The day of the year, 1 to 366.
@@ -155,8 +148,7 @@ impl Parsed {
         ensures { result
             ≡ with_if (is_in_range 1 366 value) (record self { ordinal = Some value }) }
     {
-        self.set_ordinal(value)?;
-        Some(self)
+        self.set_ordinal(value).and(Some(self))
     }
 
     /// The day of the month, 1 to 31.
@@ -179,7 +171,6 @@ impl Parsed {
     pub fn with_day(mut self, value: u8) -> Option<Self>
         ensures { result ≡ with_if (is_in_range 1 31 value) (record self { day = Some value }) }
     {
-        self.set_day(value)?;
-        Some(self)
+        self.set_day(value).and(Some(self))
     }
 }

@@ -37,8 +37,7 @@ impl Parsed {
     pub fn with_offset_hour(mut self, value: i8) -> Option<Self>
         ensures { result ≡ with_if (is_up_to 25 value) (record self { offset_hour = Some value }) }
     {
-        self.set_offset_hour(value)?;
-        Some(self)
+        self.set_offset_hour(value).and(Some(self))
     }
 
     /// The minutes of the offset, 0 to 59, whatever their sign.
@@ -55,12 +54,8 @@ impl Parsed {
         ensures value { result ≡ under_sign self.now.offset_is_negative self.now.offset_minute }
         ensures bound { Reaches 59 result }
     {
-        let value = self.fields.offset_minute?;
-        Some(if self.fields.offset_is_negative {
-            -value
-        } else {
-            value
-        })
+        let (value, is_negative) = (self.fields.offset_minute?, self.fields.offset_is_negative);
+        Some(if is_negative { -value } else { value })
     }
 
     /// Sets the minutes of the offset as they stand. `None` where they are not 0 to 59, and then nothing changes.
@@ -69,11 +64,7 @@ impl Parsed {
             ≡ set_if (is_in_range 0 59 value) self.old
             (record self.old { offset_minute = Some (pos value) }) }
     {
-        if value > 59 {
-            return None;
-        }
-        self.fields.offset_minute = Some(value as i8);
-        Some(())
+        self.set_offset_minute_signed(i8::try_from(value).ok()?)
     }
 
     /// The record with the minutes of the offset as they stand. `None` where they are not 0 to 59.
@@ -81,8 +72,7 @@ impl Parsed {
         ensures { result
             ≡ with_if (is_in_range 0 59 value) (record self { offset_minute = Some (pos value) }) }
     {
-        self.set_offset_minute(value)?;
-        Some(self)
+        self.set_offset_minute(value).and(Some(self))
     }
 
     /// Sets the minutes of the offset as they stand. `None` where they are not -59 to 59, and then nothing changes.
@@ -99,8 +89,7 @@ impl Parsed {
         ensures { result
             ≡ with_if (is_up_to 59 value) (record self { offset_minute = Some value }) }
     {
-        self.set_offset_minute_signed(value)?;
-        Some(self)
+        self.set_offset_minute_signed(value).and(Some(self))
     }
 
     /// The seconds of the offset, 0 to 59, whatever their sign.
@@ -117,12 +106,8 @@ impl Parsed {
         ensures value { result ≡ under_sign self.now.offset_is_negative self.now.offset_second }
         ensures bound { Reaches 59 result }
     {
-        let value = self.fields.offset_second?;
-        Some(if self.fields.offset_is_negative {
-            -value
-        } else {
-            value
-        })
+        let (value, is_negative) = (self.fields.offset_second?, self.fields.offset_is_negative);
+        Some(if is_negative { -value } else { value })
     }
 
     /// Sets the seconds of the offset as they stand. `None` where they are not 0 to 59, and then nothing changes.
@@ -131,11 +116,7 @@ impl Parsed {
             ≡ set_if (is_in_range 0 59 value) self.old
             (record self.old { offset_second = Some (pos value) }) }
     {
-        if value > 59 {
-            return None;
-        }
-        self.fields.offset_second = Some(value as i8);
-        Some(())
+        self.set_offset_second_signed(i8::try_from(value).ok()?)
     }
 
     /// The record with the seconds of the offset as they stand. `None` where they are not 0 to 59.
@@ -143,8 +124,7 @@ impl Parsed {
         ensures { result
             ≡ with_if (is_in_range 0 59 value) (record self { offset_second = Some (pos value) }) }
     {
-        self.set_offset_second(value)?;
-        Some(self)
+        self.set_offset_second(value).and(Some(self))
     }
 
     /// Sets the seconds of the offset as they stand. `None` where they are not -59 to 59, and then nothing changes.
@@ -161,8 +141,7 @@ impl Parsed {
         ensures { result
             ≡ with_if (is_up_to 59 value) (record self { offset_second = Some value }) }
     {
-        self.set_offset_second_signed(value)?;
-        Some(self)
+        self.set_offset_second_signed(value).and(Some(self))
     }
 
     /// The nanoseconds since 1970 began in UTC, negative before. Moments are made of them alone, whatever else is
@@ -195,7 +174,6 @@ impl Parsed {
             (is_between (neg_ℤ (pos nanoseconds_before_epoch)) (pos nanoseconds_after_epoch) value)
             (record self { unix_timestamp_nanos = Some value }) }
     {
-        self.set_unix_timestamp_nanos(value)?;
-        Some(self)
+        self.set_unix_timestamp_nanos(value).and(Some(self))
     }
 }

@@ -37,35 +37,7 @@ impl Parsed {
         ensures { result ≡ empty }
     {
         Parsed {
-            fields: Record {
-                year: None,
-                year_century: None,
-                year_century_is_negative: false,
-                year_last_two: None,
-                iso_year: None,
-                iso_year_century: None,
-                iso_year_century_is_negative: false,
-                iso_year_last_two: None,
-                month: None,
-                sunday_week_number: None,
-                monday_week_number: None,
-                iso_week_number: None,
-                weekday: None,
-                ordinal: None,
-                day: None,
-                hour_24: None,
-                hour_12: None,
-                hour_12_is_pm: None,
-                minute: None,
-                second: None,
-                subsecond: None,
-                offset_hour: None,
-                offset_minute: None,
-                offset_second: None,
-                unix_timestamp_nanos: None,
-                offset_is_negative: false,
-                leap_second_is_permitted: false,
-            },
+            fields: Record::default(),
         }
     }
 

@@ -34,8 +34,7 @@ impl Parsed {
         ensures { result
             ≡ with_if (is_up_to greatest_year value) (record self { year = Some value }) }
     {
-        self.set_year(value)?;
-        Some(self)
+        self.set_year(value).and(Some(self))
     }
 
     /// The century, -9999 to 9999: the year without its last two digits. It counts only together with these, and only
@@ -66,10 +65,8 @@ impl Parsed {
               year_century_is_negative = century_sign value is_negative;
             }) }
     {
-        if value < -GREATEST_CENTURY || value > GREATEST_CENTURY {
-            return None;
-        }
-        self.fields.year_century = Some(value);
+        let is_allowed = value >= -GREATEST_CENTURY && value <= GREATEST_CENTURY;
+        set(&mut self.fields.year_century, is_allowed, value)?;
         self.fields.year_century_is_negative = if value == 0 { is_negative } else { value < 0 };
         Some(())
     }
@@ -84,8 +81,7 @@ impl Parsed {
               year_century_is_negative = century_sign value is_negative;
             }) }
     {
-        self.set_year_century(value, is_negative)?;
-        Some(self)
+        self.set_year_century(value, is_negative).and(Some(self))
     }
 
     /// The last two digits of the year, 0 to 99.
@@ -110,8 +106,7 @@ impl Parsed {
         ensures { result
             ≡ with_if (is_in_range 0 99 value) (record self { year_last_two = Some value }) }
     {
-        self.set_year_last_two(value)?;
-        Some(self)
+        self.set_year_last_two(value).and(Some(self))
     }
 
     /// The year of ISO 8601, to which its weeks belong, -999999 to 999999.
@@ -138,8 +133,7 @@ impl Parsed {
         ensures { result
             ≡ with_if (is_up_to greatest_year value) (record self { iso_year = Some value }) }
     {
-        self.set_iso_year(value)?;
-        Some(self)
+        self.set_iso_year(value).and(Some(self))
     }
 
     /// The century of that year, -9999 to 9999. It counts only together with the last two digits, and only where
@@ -170,10 +164,8 @@ impl Parsed {
               iso_year_century_is_negative = century_sign value is_negative;
             }) }
     {
-        if value < -GREATEST_CENTURY || value > GREATEST_CENTURY {
-            return None;
-        }
-        self.fields.iso_year_century = Some(value);
+        let is_allowed = value >= -GREATEST_CENTURY && value <= GREATEST_CENTURY;
+        set(&mut self.fields.iso_year_century, is_allowed, value)?;
         self.fields.iso_year_century_is_negative = if value == 0 { is_negative } else { value < 0 };
         Some(())
     }
@@ -188,8 +180,8 @@ impl Parsed {
               iso_year_century_is_negative = century_sign value is_negative;
             }) }
     {
-        self.set_iso_year_century(value, is_negative)?;
-        Some(self)
+        self.set_iso_year_century(value, is_negative)
+            .and(Some(self))
     }
 
     /// The last two digits of that year, 0 to 99.
@@ -214,7 +206,6 @@ impl Parsed {
         ensures { result
             ≡ with_if (is_in_range 0 99 value) (record self { iso_year_last_two = Some value }) }
     {
-        self.set_iso_year_last_two(value)?;
-        Some(self)
+        self.set_iso_year_last_two(value).and(Some(self))
     }
 }

@@ -1,17 +1,13 @@
 -- Lanes of vectors.
-use Rattle.std.proofs.Common.{◌≡◌, ◌≤◌, ◌<◌, ◌+◌, ◌-◌, ◌*◌, ◌^◌, ◌/◌, ◌%◌, ◌∙◌, ℕ, zero, suc, Bool, true, false, cond, List, [], ◌∷◌, length, get_or, refl, sym, ap, arith, w8, inl, inr}
+use Rattle.std.proofs.Common.{◌≡◌, ◌≤◌, ◌<◌, ◌+◌, ◌-◌, ◌*◌, ◌%◌, ◌∙◌, ℕ, Bool, true, false, cond, List, [], ◌∷◌, length, get_or, refl, sym, ap, arith, w8, inl, inr}
 use Rattle.std.specs.Prelude.{nat_le, nat_eq, replicate}
 use Rattle.std.proofs.lemmas.Bool.{cases_lt, agree_below_at}
 use Rattle.std.proofs.lemmas.Bool.Decides.{nat_tests}
-use Rattle.std.proofs.lemmas.Simd.{get_or-zip2, length-zip2, mask_l-mod, get_or-replicate, length-replicate, tops_compared, get_or-sel_l, swz_l, get_or-swz_l}
+use Rattle.std.proofs.lemmas.Simd.{get_or-zip2, length-zip2, get_or-replicate, length-replicate, tops_compared, get_or-sel_l, swz_l}
 use Rattle.parsing_places.specs.Lanes.{are_moves}
 use Rattle.parsing_places.proofs.LaneLemmas.{moves_all, taken_lane}
-use lib.Dec.{T, ltb}
-use lib.Lanes.{Each1, zip2, mask_l, top, sel_l}
-use mathlib.Core.Bool.{◌&&◌, ◌||◌}
+use lib.Lanes.{zip2, top, sel_l}
 use mathlib.Core.List.{map}
-use mir.Val.{zeroes}
-use mir.ValLaws.{and_both}
 
 -- ---- numbers of two digits
 

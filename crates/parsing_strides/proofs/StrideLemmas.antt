@@ -1,5 +1,5 @@
 -- What a stride took of a text, the text says.
-use Rattle.std.proofs.Common.{◌≡◌, ◌≤◌, ◌<◌, ◌+◌, ◌-◌, ◌*◌, ◌∙◌, ◌||◌, ◌==◌, ℕ, zero, suc, Bool, true, false, List, [], ◌∷◌, get_or, length, drop, Option, Some, None, refl, ap, arith, lit<, inl, inr}
+use Rattle.std.proofs.Common.{◌≡◌, ◌≤◌, ◌<◌, ◌+◌, ◌-◌, ◌*◌, ◌∙◌, ◌||◌, ◌&&◌, ◌==◌, ℕ, zero, suc, Bool, true, false, List, [], ◌∷◌, get_or, length, drop, Option, Some, None, refl, ap, arith, lit<, inl, inr}
 use Rattle.std.proofs.lemmas.Bool.Decides.{nat_tests}
 use Rattle.parsing_combinator.specs.Pieces.{digits}
 use Rattle.parsing_combinator.specs.Shape.{is_sign}
@@ -13,14 +13,15 @@ use Rattle.parsing_layout.specs.declared.parts.Part.TheVariants as part
 use Rattle.parsing_layout.proofs.TestLemmas.{both, one, less, at_most, same}
 use Rattle.parsing_places.specs.Lanes.{above}
 use Rattle.parsing_strides.specs.Found.{values_in, SaysAsFound, KeepOthers}
-use Rattle.parsing_strides.specs.Strides.{takes_two, takes_one, takes_lane, takes_digits, takes_part, takes_all, keeps, keep_others, read_fields, fits_stride}
+use Rattle.parsing_strides.specs.Strides.{takes_one, takes_lane, takes_digits, takes_part, takes_all, keeps, keep_others, read_fields, fits_stride}
+use Rattle.parsing_strides.specs.Places.{lets}
 use Rattle.parsing_strides.specs.declared.found.Found.{Found}
 use Rattle.parsing_strides.specs.declared.stride.Stride.{Stride}
 use Rattle.parsing_strides.proofs.PlaceLemmas.{Lies, literal_there, any_there, one_there, mark_there, byte_at, digit_at, pair_at}
 
 -- ---- the numbers of parts
 
-or_right : (a b : Bool) → b ≡ true → (a || b) ≡ true
+pub or_right : (a b : Bool) → b ≡ true → (a || b) ≡ true
 or_right true b e = refl
 or_right false b e = e
 
@@ -105,22 +106,21 @@ module _ (s : Stride) (text bytes a t o n : List ℕ) (old new : Found) (few : s
 module _ {s : Stride} {text : List ℕ} {old new : Found} (h : Took s text old new) where
   -- ---- parts at their places
 
-  two_at : (lane at : ℕ) → lane < 16 → at + 2 ≤ s.length → takes_two s lane at ≡ true → digits 2 (drop at text) ≡ Some (get_or new.lanes lane 0, drop (at + 2) text)
-  two_at lane at lt room e =
-      let a = both _ _ e in
-      let b = both _ _ a.1 in
+  two_at : (lane at : ℕ) → lane < 16 → at + 2 ≤ s.length → lets s.low s.most at 48 9 ≡ true
+      → (lets s.low s.most (at + 1) 48 9 && ((get_or s.tens.lanes lane 0 == at) && (get_or s.ones.lanes lane 0 == at + 1))) ≡ true → digits 2 (drop at text) ≡ Some (get_or new.lanes lane 0, drop (at + 2) text)
+  two_at lane at lt room ten e =
+      let b = both _ _ e in
       let c = both _ _ b.1 in
-      let first = digit_at h.lies at (omega (arith, room)) a.0 in
+      let first = digit_at h.lies at (omega (arith, room)) ten in
       let second = digit_at h.lies (at + 1) (omega (arith, room)) b.0 in
       let number = h.two lane at lt (omega (arith, room)) (same _ _ c.0) (same _ _ c.1) (omega (arith, first.few, second.few)) in
       let is : (get_or text at 0 - 48) * 10 + (get_or text (at + 1) 0 - 48) ≡ get_or new.lanes lane 0 = omega (arith, number, first.is, second.is) in
-      rw is at (two_there text at (pair_at h.lies at (omega (arith, room)) a.0 b.0))
+      rw is at (two_there text at (pair_at h.lies at (omega (arith, room)) ten b.0))
 
-  one_at : (lane at : ℕ) → lane < 16 → at + 1 ≤ s.length → takes_one s lane at ≡ true → digits 1 (drop at text) ≡ Some (get_or new.lanes lane 0, drop (at + 1) text)
-  one_at lane at lt room e =
-      let a = both _ _ e in
-      let b = both _ _ a.1 in
-      let digit = digit_at h.lies at (omega (arith, room)) a.0 in
+  one_at : (lane at : ℕ) → lane < 16 → at + 1 ≤ s.length → lets s.low s.most at 48 9 ≡ true → takes_one s lane at ≡ true → digits 1 (drop at text) ≡ Some (get_or new.lanes lane 0, drop (at + 1) text)
+  one_at lane at lt room one e =
+      let b = both _ _ e in
+      let digit = digit_at h.lies at (omega (arith, room)) one in
       let number = h.one lane at lt (omega (arith, room)) (at_most _ _ b.0) (same _ _ b.1) in
       let is : get_or text at 0 - 48 ≡ get_or new.lanes lane 0 = omega (arith, number, digit.is) in
       rw is at (one_there text at (omega (arith, room, h.lies.room)) digit.digit)
@@ -129,13 +129,14 @@ module _ {s : Stride} {text : List ℕ} {old new : Found} (h : Took s text old n
   lane_at lane n at room e =
       let a = both _ _ e in
       let lt : lane < 16 = omega (arith, less lane 14 a.0) in
-      elim (one _ _ a.1) [
+      let first = both _ _ a.1 in
+      elim (one _ _ first.1) [
         | inl two ↦
             let b = both _ _ two in
-            let is : n ≡ 2 = same _ _ b.0 in rw is (two_at lane at lt (omega (arith, room, is)) b.1)
+            let is : n ≡ 2 = same _ _ b.0 in rw is (two_at lane at lt (omega (arith, room, is)) first.0 b.1)
         | inr alone ↦
             let b = both _ _ alone in
-            let is : n ≡ 1 = same _ _ b.0 in rw is (one_at lane at lt (omega (arith, room, is)) b.1)
+            let is : n ≡ 1 = same _ _ b.0 in rw is (one_at lane at lt (omega (arith, room, is)) first.0 b.1)
       ]
 
   digits_at : (f : Field) (n at : ℕ) → at + n ≤ s.length → s.length ≤ 16 → takes_digits s f n at ≡ true → digits n (drop at text) ≡ Some (values_in new f, drop (at + n) text)

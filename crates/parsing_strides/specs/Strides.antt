@@ -1,5 +1,5 @@
 -- Whether strides were made for the parts of a layout.
-use Rattle.std.specs.Prelude.{◌&&◌, ◌||◌, ◌==◌, ◌+◌, ◌-◌, ℕ, Bool, true, false, nat_lt, nat_le, List, [], ◌∷◌, get_or, length, take, drop}
+use Rattle.std.specs.Prelude.{◌≡◌, ◌≤◌, ◌&&◌, ◌||◌, ◌==◌, ◌+◌, ◌-◌, ℕ, Bool, true, false, nat_lt, nat_le, List, [], ◌∷◌, get_or, length, take, drop}
 use Rattle.parsing_layout.specs.Layout.{width}
 use Rattle.parsing_layout.specs.declared.parts.Field.{Field}
 use Rattle.parsing_layout.specs.declared.parts.Part.{Part}
@@ -7,7 +7,6 @@ use Rattle.parsing_layout.specs.Items.{all_certain, are_certain}
 use Rattle.parsing_layout.specs.Said.{place_of, fields_of}
 use Rattle.parsing_layout.specs.declared.items.Item.{Item}
 use Rattle.parsing_layout.specs.declared.items.Item.TheVariants as item
-use Rattle.parsing_layout.specs.contracts.parts.PartPartialEq.TheImpl as part_equality
 use Rattle.parsing_layout.specs.declared.parts.Field.TheVariants as field
 use Rattle.parsing_layout.specs.declared.parts.Part.TheVariants as part
 use Rattle.parsing_strides.specs.Places.{lets}
@@ -18,15 +17,13 @@ use Rattle.parsing_strides.specs.declared.strides.Strides.{Strides}
 
 -- ---- what a stride takes
 
--- for the number of a lane two digits, or one
-abbrev pub takes_two : Stride → ℕ → ℕ → Bool
-takes_two s lane at = lets s.low s.most at 48 9 && (lets s.low s.most (at + 1) 48 9 && ((get_or s.tens.lanes lane 0 == at) && (get_or s.ones.lanes lane 0 == at + 1)))
-
+-- for a lane the byte at a place alone
 abbrev pub takes_one : Stride → ℕ → ℕ → Bool
-takes_one s lane at = lets s.low s.most at 48 9 && (nat_le 128 (get_or s.tens.lanes lane 0) && (get_or s.ones.lanes lane 0 == at))
+takes_one s lane at = nat_le 128 (get_or s.tens.lanes lane 0) && (get_or s.ones.lanes lane 0 == at)
 
+-- for the number of a lane two digits, or one
 abbrev pub takes_lane : Stride → ℕ → ℕ → ℕ → Bool
-takes_lane s lane n at = nat_lt lane 14 && (((n == 2) && takes_two s lane at) || ((n == 1) && takes_one s lane at))
+takes_lane s lane n at = nat_lt lane 14 && (lets s.low s.most at 48 9 && (((n == 2) && (lets s.low s.most (at + 1) 48 9 && ((get_or s.tens.lanes lane 0 == at) && (get_or s.ones.lanes lane 0 == at + 1)))) || ((n == 1) && takes_one s lane at)))
 
 abbrev pub takes_digits : Stride → Field → ℕ → ℕ → Bool
 takes_digits s field.Year n at = (n == 4) && (at == s.year)
@@ -37,7 +34,7 @@ abbrev pub takes_part : Stride → Part → ℕ → Bool
 takes_part s (part.Byte c) at = nat_lt c 256 && lets s.low s.most at c 0
 takes_part s part.Any at = true
 takes_part s (part.Digits f n) at = takes_digits s f n at
-takes_part s part.Sign at = (get_or s.low at 0 == 0) && (nat_le 128 (get_or s.tens.lanes 8 0) && (get_or s.ones.lanes 8 0 == at))
+takes_part s part.Sign at = (get_or s.low at 0 == 0) && takes_one s 8 at
 takes_part s other at = false
 
 -- parts one after the other, and no byte after them
@@ -72,25 +69,16 @@ count_of (step.Part p) = 1
 count_of (step.Optional b p) = 1
 count_of (step.Stride s) = s.count
 
--- one item alone
-abbrev pub is_alone : Part → List Item → Bool
-is_alone p (item.Part q ∷ []) = part_equality.ghosts.eq p q
-is_alone p other = false
+-- one item alone, or parts that a stride was made for
+abbrev pub FitsStep : Step → List Item → Type 0
+FitsStep (step.Part p) is = is ≡ item.Part p ∷ []
+FitsStep (step.Optional b p) is = is ≡ item.Optional b p ∷ []
+FitsStep (step.Stride s) is = (are_certain is ≡ true) × (fits_stride s (all_certain is) ≡ true)
 
-abbrev pub is_optional : ℕ → Part → List Item → Bool
-is_optional b p (item.Optional c q ∷ []) = (b == c) && part_equality.ghosts.eq p q
-is_optional b p other = false
-
-abbrev pub fits_step : Step → List Item → Bool
-fits_step (step.Part p) is = is_alone p is
-fits_step (step.Optional b p) is = is_optional b p is
-fits_step (step.Stride s) is = are_certain is && fits_stride s (all_certain is)
-
-abbrev pub are_made : List Step → List Item → Bool
-are_made [] [] = true
-are_made [] (i ∷ is) = false
-are_made (s ∷ ss) is = nat_le (count_of s) (length is) && (fits_step s (take (count_of s) is) && are_made ss (drop (count_of s) is))
+abbrev pub AreMade : List Step → List Item → Type 0
+AreMade [] is = is ≡ []
+AreMade (s ∷ ss) is = (count_of s ≤ length is) × FitsStep s (take (count_of s) is) × AreMade ss (drop (count_of s) is)
 
 -- the strides were made for the items
-abbrev pub made : Strides → List Item → Bool
-made s is = are_made (take s.count s.steps) is
+abbrev pub IsMade : Strides → List Item → Type 0
+IsMade s is = AreMade (take s.count s.steps) is

@@ -40,7 +40,7 @@ impl Found {
     ghost use Rattle.parsing_layout.specs.declared.parts.Field.TheVariants as field;
     ghost use Rattle.parsing_strides.specs.Found.{is_lane, values_in};
 
-    /// A number in the range of each field, without a fraction of a second.
+    /// What stands for numbers that are not read: a second of 0, without a fraction. Nothing is promised of the others.
     #[inline(always)]
     pub fn usual() -> Found
         ensures nanosecond { values_in result field.Nanosecond ≡ 0 }

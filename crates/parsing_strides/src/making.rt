@@ -1,6 +1,5 @@
 //! How strides are made. Nothing is proved of this: what it makes is checked.
 
-use crate::step::Step;
 use crate::stride::{NOWHERE, Stride, lets_year};
 use parsing_layout::{Field, Item, Part, place_of};
 use parsing_places::{LANES, Moves};
@@ -102,17 +101,8 @@ impl Draft {
     }
 }
 
-// The step of one item.
-fn alone(item: Item) -> Step {
-    match item {
-        Item::Part(part) => Step::Part(part),
-        Item::Optional(byte, part) => Step::Optional(byte, part),
-    }
-}
-
-/// The step that items begin with, if there are any.
-pub(crate) fn step_of(items: &[Item]) -> Option<Step> {
-    let first = items.first()?;
+/// A stride for the first items, if they have enough bytes.
+pub(crate) fn stride_of(items: &[Item]) -> Option<Stride> {
     let mut draft = Draft::new();
     let mut count = 0;
     for (index, item) in items.iter().enumerate() {
@@ -126,8 +116,7 @@ pub(crate) fn step_of(items: &[Item]) -> Option<Step> {
         count = index + 1;
     }
     if draft.length < LEAST_LENGTH {
-        return Some(alone(*first));
+        return None;
     }
-    let stride = draft.finished(count)?;
-    Some(Step::Stride(stride))
+    draft.finished(count)
 }

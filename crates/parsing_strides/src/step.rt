@@ -1,11 +1,13 @@
 //! Steps: one item, or parts of fixed widths.
-ghost use Rattle.std.specs.Prelude.{◌≡◌, true, List, IfSome};
+ghost use Rattle.std.specs.Prelude.{◌≡◌, ◌≤◌, true, List, IfSome, length, take};
 ghost use Rattle.parsing_combinator.specs.Tame.{EndsWith};
 ghost use Rattle.parsing_layout.specs.declared.items.Item.{Item};
 ghost use Rattle.parsing_strides.specs.Found.{SayItems};
-ghost use Rattle.parsing_strides.specs.Strides.{count_of, fits_step, is_alone, is_optional};
+ghost use Rattle.parsing_strides.specs.declared.step.Step.TheVariants as step;
+ghost use Rattle.parsing_strides.specs.Strides.{FitsStep, count_of};
 
 use crate::found::Found;
+use crate::making::stride_of;
 use crate::part::read_part;
 use crate::stride::Stride;
 use parsing_combinator::byte as after_byte;
@@ -20,24 +22,16 @@ pub(crate) enum Step {
     Stride(Stride),
 }
 
-// Whether a part alone has to be there.
-fn is_alone(part: Part, items: &[Item]) -> bool
-    ensures { result ≡ is_alone part items.now }
+// A stride that was made for the first items.
+fn checked_stride(items: &[Item]) -> Option<Stride>
+    ensures { IfSome result
+        (λ s. (s.count ≤ length items.now) × FitsStep (step.Stride s) (take s.count items.now)) }
 {
-    match items {
-        [Item::Part(other)] => part == *other,
-        _ => false,
+    let stride = stride_of(items)?;
+    if stride.count > items.len() || !stride.fits(&items[..stride.count]) {
+        return None;
     }
-}
-
-// Whether a byte and a part alone may be missing.
-fn is_optional(byte: u8, part: Part, items: &[Item]) -> bool
-    ensures { result ≡ is_optional byte part items.now }
-{
-    match items {
-        [Item::Optional(first, other)] => byte == *first && part == *other,
-        _ => false,
-    }
+    Some(stride)
 }
 
 impl Step {
@@ -51,14 +45,18 @@ impl Step {
         }
     }
 
-    /// Whether it was made for items.
-    pub(crate) fn fits(&self, items: &[Item]) -> bool
-        ensures { result ≡ true → fits_step self.now items.now ≡ true }
+    /// The step that items begin with: a stride, or else one item.
+    pub(crate) fn of_items(items: &[Item]) -> Option<Step>
+        ensures { IfSome result
+            (λ s. (count_of s ≤ length items.now) × FitsStep s (take (count_of s) items.now)) }
     {
-        match self {
-            Step::Part(part) => is_alone(*part, items),
-            Step::Optional(byte, part) => is_optional(*byte, *part, items),
-            Step::Stride(stride) => stride.fits_items(items),
+        if let Some(stride) = checked_stride(items) {
+            return Some(Step::Stride(stride));
+        }
+        match items {
+            [] => None,
+            [Item::Part(part), ..] => Some(Step::Part(*part)),
+            [Item::Optional(byte, part), ..] => Some(Step::Optional(*byte, *part)),
         }
     }
 
@@ -71,7 +69,7 @@ impl Step {
         found: &mut Found,
     ) -> Option<&'l [u8]>
         requires { EndsWith line.now rest.now }
-        ensures says { (items : List Item) → fits_step self.now items ≡ true
+        ensures says { (items : List Item) → FitsStep self.now items
             → IfSome result (λ after. SayItems items rest.now after.now found.old found.new) }
         ensures end { IfSome result (λ after. EndsWith line.now after.now) }
     {

@@ -1,7 +1,8 @@
 //! Parts of fixed widths, which are read in one step.
-ghost use Rattle.std.specs.Prelude.{◌≡◌, ◌≤◌, map, take, true, IfSome};
-ghost use Rattle.parsing_layout.specs.declared.items.Item.TheVariants as item;
+ghost use Rattle.std.specs.Prelude.{◌≡◌, ◌≤◌, true, IfSome};
+ghost use Rattle.parsing_layout.specs.Items.{all_certain, are_certain};
 ghost use Rattle.parsing_layout.specs.Layout.{width};
+ghost use Rattle.parsing_layout.specs.Said.{fields_of};
 ghost use Rattle.parsing_strides.specs.Places.{lets, lets_year};
 
 use crate::found::Found;
@@ -88,21 +89,14 @@ fn width_of(part: Part) -> usize
     }
 }
 
-// The parts of items, where all have to be there and they are few.
-fn copy_parts(items: &[Item], parts: &mut [Part; LANES]) -> Option<usize>
-    ensures few { IfSome result (λ count. count ≤ LANES) }
-    ensures copied { IfSome result (λ count. map item.Part (take count parts.new) ≡ items.now) }
+// Whether items that have to be there say the number of a field.
+fn say_certainly(items: &[Item], field: Field) -> bool
+    ensures { result ≡ true → fields_of (all_certain items.now) field ≡ true }
 {
-    if items.len() > LANES {
-        return None;
-    }
-    for (index, it) in items.iter().enumerate() {
-        let Item::Part(part) = it else {
-            return None;
-        };
-        parts[index] = *part;
-    }
-    Some(items.len())
+    let [Item::Part(part), others @ ..] = items else {
+        return false;
+    };
+    say(&[*part], field) || say_certainly(others, field)
 }
 
 impl Stride {
@@ -112,42 +106,30 @@ impl Stride {
     ghost use Rattle.parsing_layout.specs.declared.parts.Part.{Part};
     ghost use Rattle.parsing_places.specs.Lanes.{above};
     ghost use Rattle.parsing_strides.specs.Found.{KeepOthers, SaysAsFound};
-    ghost use Rattle.parsing_layout.specs.Items.{all_certain, are_certain};
-    ghost use Rattle.parsing_strides.specs.Strides.{fits_stride, keep_others, keeps, takes_all, takes_digits, takes_lane, takes_one, takes_part, takes_two};
+    ghost use Rattle.parsing_strides.specs.Strides.{fits_stride, keep_others, keeps, takes_all, takes_digits, takes_lane, takes_one, takes_part};
 
-    // Whether the lane at a place takes two digits.
-    fn takes_two(&self, lane: usize, at: usize) -> bool
-        requires lane { lane < LANES }
-        requires at { at < LANES }
-        ensures { result ≡ takes_two self.now lane at }
-    {
-        lets(&self.low, &self.most, at, b'0', 9)
-            && lets(&self.low, &self.most, at + 1, b'0', 9)
-            && usize::from(self.tens.lanes[lane]) == at
-            && usize::from(self.ones.lanes[lane]) == at + 1
-    }
-
-    // Whether it takes one digit.
+    // Whether a lane takes the byte at a place alone.
     fn takes_one(&self, lane: usize, at: usize) -> bool
-        requires lane { lane < LANES }
-        requires at { at < LANES }
+        requires { lane < LANES }
         ensures { result ≡ takes_one self.now lane at }
     {
-        lets(&self.low, &self.most, at, b'0', 9)
-            && self.tens.lanes[lane] >= 128
-            && usize::from(self.ones.lanes[lane]) == at
+        self.tens.lanes[lane] >= 128 && usize::from(self.ones.lanes[lane]) == at
     }
 
-    // Whether it takes so many digits.
+    // Whether a lane takes so many digits.
     fn takes_lane(&self, lane: usize, count: usize, at: usize) -> bool
         requires { at < LANES }
         ensures { result ≡ takes_lane self.now lane count at }
     {
-        if lane >= LANES - 2 {
+        if lane >= LANES - 2 || !lets(&self.low, &self.most, at, b'0', 9) {
             return false;
         }
         match count {
-            2 => self.takes_two(lane, at),
+            2 => {
+                lets(&self.low, &self.most, at + 1, b'0', 9)
+                    && usize::from(self.tens.lanes[lane]) == at
+                    && usize::from(self.ones.lanes[lane]) == at + 1
+            }
             1 => self.takes_one(lane, at),
             _ => false,
         }
@@ -173,22 +155,21 @@ impl Stride {
             Part::Byte(byte) => lets(&self.low, &self.most, at, byte, 0),
             Part::Any => true,
             Part::Digits(field, count) => self.takes_digits(field, count, at),
-            Part::Sign => {
-                let lane = place_of(Field::Sign);
-                self.low[at] == 0
-                    && self.tens.lanes[lane] >= 128
-                    && usize::from(self.ones.lanes[lane]) == at
-            }
+            Part::Sign => self.low[at] == 0 && self.takes_one(place_of(Field::Sign), at),
             _ => false,
         }
     }
 
-    // Whether parts are taken one after the other from a place on, and no byte after them.
-    fn takes_all(&self, parts: &[Part], at: usize) -> bool
-        ensures { result ≡ takes_all self.now parts.now at }
+    // Whether items, all of which have to be there, are taken one after the other from a place on, and no byte after them.
+    fn takes_all(&self, items: &[Item], at: usize) -> bool
+        ensures certain { result ≡ true → are_certain items.now ≡ true }
+        ensures taken { result ≡ true → takes_all self.now (all_certain items.now) at ≡ true }
     {
-        let [part, others @ ..] = parts else {
+        let [item, others @ ..] = items else {
             return at == self.length;
+        };
+        let Item::Part(part) = item else {
+            return false;
         };
         let width = width_of(*part);
         at < self.length
@@ -208,33 +189,22 @@ impl Stride {
         place >= LANES - 2 || self.ones.lanes[place] >= 128
     }
 
-    // Whether it leaves the numbers of these fields as they are, but those that parts say.
-    fn keeps_others(&self, parts: &[Part], fields: &[Field]) -> bool
-        ensures { result ≡ keep_others self.now parts.now fields.now }
+    // Whether it leaves the numbers of these fields as they are, but those that items say.
+    fn keeps_others(&self, items: &[Item], fields: &[Field]) -> bool
+        ensures { result ≡ true → keep_others self.now (all_certain items.now) fields.now ≡ true }
     {
         let [field, others @ ..] = fields else {
             return true;
         };
-        (say(parts, *field) || self.keeps(*field)) && self.keeps_others(parts, others)
-    }
-
-    /// Whether it was made for parts.
-    pub(crate) fn fits(&self, parts: &[Part]) -> bool
-        ensures { result ≡ fits_stride self.now parts.now }
-    {
-        self.takes_all(parts, 0) && self.keeps_others(parts, &FIELDS)
+        (say_certainly(items, *field) || self.keeps(*field)) && self.keeps_others(items, others)
     }
 
     /// Whether it was made for items, all of which have to be there.
-    pub(crate) fn fits_items(&self, items: &[Item]) -> bool
+    pub(crate) fn fits(&self, items: &[Item]) -> bool
         ensures certain { result ≡ true → are_certain items.now ≡ true }
         ensures fits { result ≡ true → fits_stride self.now (all_certain items.now) ≡ true }
     {
-        let mut parts = [Part::Any; LANES];
-        let Some(count) = copy_parts(items, &mut parts) else {
-            return false;
-        };
-        self.fits(&parts[..count])
+        self.takes_all(items, 0) && self.keeps_others(items, &FIELDS)
     }
 
     // The year that stands in a text, or else one that was found before.

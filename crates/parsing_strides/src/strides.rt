@@ -2,7 +2,6 @@
 ghost use Rattle.std.specs.Prelude.{◌≤◌};
 
 use crate::found::Found;
-use crate::making::step_of;
 use crate::step::Step;
 use parsing_layout::{Field, Item, Part};
 
@@ -26,55 +25,33 @@ impl Strides {
     ghost use Rattle.parsing_layout.specs.declared.parts.Part.{Part};
     ghost use Rattle.parsing_layout.specs.Said.{are_apart, fields_of};
     ghost use Rattle.parsing_strides.specs.Found.{SayItems, values_in};
-    ghost use Rattle.parsing_strides.specs.Strides.{are_made, made};
-
-    // Whether steps were made for items.
-    fn are_made(steps: &[Step], items: &[Item]) -> bool
-        ensures { result ≡ true → are_made steps.now items.now ≡ true }
-    {
-        let [step, others @ ..] = steps else {
-            return items.is_empty();
-        };
-        let count = step.count();
-        if count > items.len() {
-            return false;
-        }
-        let (first, later) = items.split_at(count);
-        step.fits(first) && Strides::are_made(others, later)
-    }
-
-    // The steps of items, as far as they are known.
-    fn steps_of(items: &[Item]) -> Option<Strides> {
-        let mut steps = [Step::Part(Part::Any); MOST];
-        let mut rest = items;
-        for index in 0..MOST {
-            let Some(step) = step_of(rest) else {
-                return Some(Strides {
-                    steps,
-                    count: index,
-                });
-            };
-            rest = rest.get(step.count()..)?;
-            steps[index] = step;
-        }
-        Some(Strides { steps, count: MOST })
-    }
+    ghost use Rattle.parsing_strides.specs.Strides.{AreMade, IsMade};
 
     /// The strides of items: `None` where they would be too many.
     pub fn of_items(items: &[Item]) -> Option<Strides>
-        ensures { IfSome result (λ s. made s items.now ≡ true) }
+        ensures { IfSome result (λ s. IsMade s items.now) }
     {
-        let strides = Strides::steps_of(items)?;
-        if !Strides::are_made(&strides.steps[..strides.count], items) {
-            return None;
+        let mut steps = [Step::Part(Part::Any); MOST];
+        let mut rest = items;
+        for count in 0..MOST + 1 {
+            if rest.is_empty() {
+                return Some(Strides { steps, count });
+            }
+            if count == MOST {
+                return None;
+            }
+            let step = Step::of_items(rest)?;
+            let (_, others) = rest.split_at(step.count());
+            rest = others;
+            steps[count] = step;
         }
-        Some(strides)
+        None
     }
 
     // Reads steps one after the other.
     #[inline(always)]
     fn run<'l>(steps: &[Step], line: &'l [u8], found: &mut Found) -> Option<&'l [u8]>
-        ensures says { (items : List Item) → are_made steps.now items ≡ true
+        ensures says { (items : List Item) → AreMade steps.now items
             → are_apart (all_possible items) ≡ true
             → IfSome result (λ rest. SayItems items line.now rest.now found.old found.new) }
         ensures end { IfSome result (λ rest. EndsWith line.now rest.now) }
@@ -89,7 +66,7 @@ impl Strides {
     /// Reads the items at the start of a line, and returns what follows them: `None` says nothing of the line.
     #[inline(never)]
     pub fn read<'l>(&self, line: &'l [u8], found: &mut Found) -> Option<&'l [u8]>
-        ensures says { (items : List Item) → made self.now items ≡ true
+        ensures says { (items : List Item) → IsMade self.now items
             → are_apart (all_possible items) ≡ true
             → IfSome result (λ rest. (way : List Part)
             × SaysItems items line.now (values_in found.new) rest.now way

@@ -47,13 +47,13 @@ kept_leaves f bytes (Some x) h = said_leaves bytes x.1 (f x.0) h
 says_leaves : {A B : Type 0} (f : A → Option B) (shape : Shape A) (bytes : List ℕ) → Leaves bytes (says f (taken shape) bytes)
 says_leaves f shape bytes = kept_leaves f bytes (taken shape bytes) (taken_leaves shape bytes)
 
-passed_over : (b : Bool) (k : ℕ) (bytes : List ℕ) → Leaves bytes (cond b (Some (read.Nothing, drop k bytes)) None)
-passed_over true k bytes = dropped k bytes
-passed_over false k bytes = tt
+whole_leaves : (b : Bool) (bytes : List ℕ) (x : Read × List ℕ) → EndsWith bytes x.1 → Leaves bytes (cond b (Some x) None)
+whole_leaves true bytes x h = h
+whole_leaves false bytes x h = tt
 
 ignored_leaves : (count : ℕ) (bytes : List ℕ) → Leaves bytes (ignored count bytes)
 unfolding ignored
-ignored_leaves count bytes = passed_over (nat_le count (length bytes)) count bytes
+ignored_leaves count bytes = whole_leaves (nat_le count (length bytes)) bytes (read.Nothing, drop count bytes) (dropped count bytes)
 
 pub component_leaves : (c : Component) (bytes : List ℕ) → Leaves bytes (date_piece c bytes)
 unfolding date_piece year_piece time_piece offset_piece
@@ -95,10 +95,6 @@ modern_tame c bytes = of_piece bytes (fault.component (component_name c)) (date_
 pub component_tame : (c : Component) → IsTame (reads_component c)
 unfolding reads_component
 component_tame c = modern_tame (modern c)
-
-whole_leaves : (b : Bool) (bytes : List ℕ) (x : Read × List ℕ) → EndsWith bytes x.1 → Leaves bytes (cond b (Some x) None)
-whole_leaves true bytes x h = h
-whole_leaves false bytes x h = tt
 
 if_whole_leaves : (bytes : List ℕ) (o : Option (Read × List ℕ)) → Leaves bytes o → Leaves bytes (if_whole o)
 if_whole_leaves bytes None h = tt

@@ -1,6 +1,5 @@
 use Rattle.std.proofs.Common.{◌≡◌, List, length, ap, sym, ◌∙◌}
 use Rattle.parsing_layout.specs.Items.{all_certain}
-use Rattle.parsing_layout.specs.declared.items.Item.TheVariants as item
 use Rattle.parsing_layout.specs.declared.parts.Part.{Part}
 use Rattle.parsing_item_parts.specs.Items.{parts_kept}
 use Rattle.parsing_item_parts.proofs.ItemLemmas.{all_alone}
