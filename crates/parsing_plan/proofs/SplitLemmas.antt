@@ -21,7 +21,7 @@ use Rattle.parsing_shapes.specs.Tail.{IsEnd}
 use Rattle.parsing_shapes.specs.declared.front.Front.{Front}
 use Rattle.parsing_layout.specs.declared.parts.Part.TheVariants as part
 use Rattle.parsing_shapes.specs.declared.shape.Shape.{Shape}
-use Rattle.parsing_shapes.proofs.EndLemmas.{end_fits, end_is, none_at, none_first}
+use Rattle.parsing_shapes.proofs.EndLemmas.{none_at, none_first}
 use Rattle.parsing_layout.proofs.LayoutLemmas.{says_both}
 use Rattle.parsing_shapes.proofs.MomentLemmas.{are_few, end_lane, own_lane}
 use Rattle.parsing_shapes.proofs.TailLemmas.{end_says}
@@ -84,7 +84,7 @@ none_after end last line back is ends none =
 
 module _ (f : Front) (before : ℕ) (last : LastBytes) (ps : List Part) (split : IsSplit f before last ps) where
   pub is_end : IsEnd last.window
-  is_end = end_is last.window f.beside.has_offset split.clock split.offset
+  is_end = record { has_offset = f.beside.has_offset; clock = split.clock; offset = split.offset }
 
   module _ (line : List ℕ) (end count d m o t nanosecond : ℕ) (small : (k : ℕ) → get_or line k 0 < 256) (x : AreTaken f.shape last.window line end d m o t) where
     pub sums : AreSums f.shape line d m o t
@@ -103,7 +103,7 @@ module _ (f : Front) (before : ℕ) (last : LastBytes) (ps : List Part) (split :
           let after : f.shape.length + count ≡ end - length_of back = omega (arith, all, split.length) in
           let from : end - last.length - count ≡ f.shape.length = omega (arith, all) in
           let front = fields.front_said f.shape f.beside line d m o t sums small front_long (Some nanosecond) assumed fs y (λ n is. no_place f.beside.fraction split.one) (take before ps) split.fits in
-          let back_says = end_says last.window line end x.end x.both x.n v (refl, refl, refl) x.end_taken (end_lane f.shape last.window line end d m o t split.tail is_end x small) x.paired small long within (fields.even f.shape f.beside line d m o t sums small front_long (Some nanosecond) assumed fs y) back (end_fits last.window back split.ends) in
+          let back_says = end_says last.window line end x.end x.both x.n v (refl, refl, refl) x.end_taken (end_lane f.shape last.window line end d m o t split.tail is_end x small) x.paired small long within (fields.even f.shape f.beside line d m o t sums small front_long (Some nanosecond) assumed fs y) back split.ends in
           let none = none_first back (drop (end - length_of back) line) (drop end line) v split.apart back_says (none_after end last.length line back split.length ends) in
           let fraction = digits_end line f.shape.length count nanosecond some (omega (arith, few)) (rw after none) (rw from at written) in
           let opened : taken (fraction_between 1 32) (drop f.shape.length line) ≡ Some (fs.fraction, drop (end - length_of back) line) = rw (y.fraction_is, ← after) fraction in

@@ -130,7 +130,8 @@ unix_line line later finer second nanosecond m defaults assumed f few long below
     let n : ℕ = second * second_nanos + nanosecond in
     let within : n ≤ 20_000_000_000_000_000_000 = omega arith in
     let read = was_read (m (starting defaults) line) _ (reads_it line r.number r.all (rw r.scaled_is within) (starting defaults)) in
-    let all : m (starting defaults) line ≡ Ok (record (beginning assumed) { unix_timestamp_nanos = Some (pos n) }, []) = rw (← start, ← r.scaled_is) read in
+    let there : m (starting defaults) line ≡ Ok (record (starting defaults) { unix_timestamp_nanos = Some (pos n) }, []) = rw (← r.scaled_is) read in
+    let all = there ∙ ap (λ (x : Record). Ok (record x { unix_timestamp_nanos = Some (pos n) }, [])) start in
     rw (whole_is m defaults line (record (beginning assumed) { unix_timestamp_nanos = Some (pos n) }) all, is) (unix_named assumed n (in_calendar n within))
 
 pub unix_lines : (line later : List ℕ) (finer second nanosecond : ℕ) (m : Meaning) (defaults : Option Record) (assumed : Option ℤ) (o : Option Fields) → finer ≤ 9 → 10 + finer ≡ length line → second < 10_000_000_000 → nanosecond < 1_000_000_000 → digits 10 line ≡ Some (second, later) → WriteFraction (drop 10 line) finer nanosecond → IfSome o (λ f. moment_of f ≡ record { wall = pos (second * second_nanos + nanosecond); offset = pos 0 }) → IsUnixOf m finer → starting defaults ≡ beginning assumed → IfSome o (λ f. names moment_named (whole m defaults line) ≡ Ok (moment_of f))
