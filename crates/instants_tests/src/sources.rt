@@ -5,7 +5,7 @@ use datetime::OffsetDateTime;
 use description::Description;
 use instants::SourceText;
 use instants_sources::{Source, directly_named, is_no_rfc3339, starting};
-use parsing_plan::Plan;
+use parsing_plan::PlanAt;
 use parsing_values::Fields;
 use std::alloc::Global;
 
@@ -107,10 +107,12 @@ fn fast_second(source: Source, line: &[u8]) -> Option<i64> {
 fn second_by_plan(source: &Source, line: &[u8]) -> Option<(Option<i64>, Option<i64>)> {
     let plan = source.plan()?;
     let by_plan = second_of(source.read_planned(line, None));
-    match plan {
-        Plan::Places(places) => Some((by_plan, second_of(places.read(line, None)))),
-        Plan::Unix(unix) => Some((by_plan, second_of(unix.read_within(line)))),
-        Plan::Listed(_) => Some((by_plan, None)),
+    match plan.at(None) {
+        PlanAt::Plain(places) => Some((by_plan, second_of(places.read_plain(line)))),
+        PlanAt::Whole(whole) => Some((by_plan, second_of(whole.read(line)))),
+        PlanAt::Split(split) => Some((by_plan, second_of(split.read(line)))),
+        PlanAt::Unix(unix) => Some((by_plan, second_of(unix.read_within(line)))),
+        PlanAt::Other(_) => Some((by_plan, None)),
     }
 }
 
