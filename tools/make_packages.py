@@ -27,6 +27,9 @@ PICTURES = ("docs/speed.svg",)
 PAGES = ("instants.1", "instants-lines.1", "instants-descriptions.7")
 # Which of the bindings are handed on as sources.
 SOURCES = ("c", "postgres", "sqlite")
+# What each package has: the licence, and the notice of whose code is in it. The crates for Rust have copies of their own.
+TERMS = ("LICENSE", "NOTICE")
+CRATES = tuple(ROOT / "bindings" / "rust" / it for it in ("sys", ""))
 
 
 class PackagingFailed(Exception):
@@ -48,6 +51,12 @@ def version():
     if f"#define INSTANTS_VERSION {number}\n" not in (ROOT / "include" / "instants.h").read_text():
         raise PackagingFailed(f"the header is not of version {number}")
     return ".".join(said.groups())
+
+
+def stale_terms():
+    """Returns the copies of the licence and the notice that a crate for Rust lacks, or that differ from the repository's."""
+    copies = [(ROOT / name, crate / name) for crate in CRATES for name in TERMS]
+    return [str(copy.relative_to(ROOT)) for of, copy in copies if not copy.is_file() or copy.read_bytes() != of.read_bytes()]
 
 
 def programs():
@@ -117,7 +126,8 @@ def lay_out(top):
     lay_out_documents(top / "doc")
     for name in run(["git", "ls-files", *(f"bindings/{it}" for it in SOURCES)], cwd=ROOT).decode().split():
         put(ROOT / name, top / name)
-    put(ROOT / "LICENSE", top / "LICENSE")
+    for name in TERMS:
+        put(ROOT / name, top / name)
     wheel(top / "python", top / "lib" / build_library.SHARED)
 
 

@@ -17,7 +17,7 @@ The same commit gives the same bytes: each file is as old as the commit, and all
 With --try they are installed and tried as tools/try_packages.py says, which has to be root for that. The last line counts what
 passed; the status is 1 where anything failed.
 
-The packages of Debian: binutils gcc make debhelper dh-python, and for --try lintian pkg-config.
+The packages of Debian: binutils gcc make debhelper dh-python, and for --try cargo lintian pkg-config.
 """
 
 import argparse
@@ -31,7 +31,7 @@ import build_library
 import build_program
 import tries
 import try_packages
-from make_packages import CHECK, PROGRAMS, Commit, PackagingFailed, make, programs, version
+from make_packages import CHECK, PROGRAMS, Commit, PackagingFailed, make, programs, stale_terms, version
 
 
 def main():
@@ -52,6 +52,8 @@ def main():
             same = [one.read_bytes() == other.read_bytes() for one, other in zip(made, make(pathlib.Path(again), commit))]
         for it, is_same in zip(made, same):
             tries.report(f"{it}: the same bytes twice", is_same)
+        stale = stale_terms()
+        tries.report("the licence and the notice of the crates for Rust", not stale, f"not as the repository has them: {stale}")
         if given.is_tried:
             try_packages.try_packages(made[0], made[1:], version())
     except (build_program.BuildFailed, build_library.BuildFailed, PackagingFailed) as fault:

@@ -7,7 +7,10 @@ root that holds this machine's C library, shell, Python and dpkg, and nothing el
 - a program in C, compiled with what was installed, by pkg-config, answers there, with the shared library and with the static one;
 - the manual pages and bash's completions lie where they are looked for, and each link in an installed document leads to a page
   that is there;
+- the notice of whose code is in it is in the folder of documents of each package;
 - after the removal nothing is left.
+
+Both crates for Rust hand on the licence and the notice (`cargo package --list`).
 """
 
 import os
@@ -17,7 +20,7 @@ import shutil
 import subprocess
 import tempfile
 
-from make_packages import programs, put, run
+from make_packages import CRATES, TERMS, programs, put, run
 from page_links import lost_in
 from program import ROOT
 from tries import report
@@ -27,6 +30,8 @@ LIBDIR = "/usr/lib/x86_64-linux-gnu"
 MODULES = "/usr/local/lib/python3.11/dist-packages"
 LINE, ANSWER = b"2021-01-02T04:04:05+01:00\n", b"2021-01-02T03:04:05.000000000Z\n"
 WORDS = ["+00:00", "-", "100", "rfc3339"]
+# Debian's packages.
+PACKAGES = ("instants", "libinstants0", "libinstants-dev", "python3-instants")
 IN_PYTHON = f"import instants; print(*instants.answers({LINE.decode()!r}, target='+00:00', sources=['rfc3339']))"
 # How each program is called, with its input and what it answers, and a first word that bash knows.
 CALLS = {
@@ -90,6 +95,21 @@ def try_in_c(what, root, libdir):
         made.unlink()
 
 
+def try_notice(what, root, prefix, owners):
+    """Tries whether the notice was installed with each package."""
+    due = (ROOT / "NOTICE").read_bytes()
+    for name in owners:
+        notice = root / prefix[1:] / "share" / "doc" / name / "NOTICE"
+        report(f"{what}: {name} has the notice", notice.is_file() and notice.read_bytes() == due, f"{notice}")
+
+
+def try_crates():
+    """Tries whether the crates for Rust are packed with the licence and the notice."""
+    for crate in CRATES:
+        listed = run(["cargo", "package", "--list", "--offline", "--allow-dirty"], cwd=crate).decode().split("\n")
+        report(f"the crate in {crate.relative_to(ROOT)} has the licence and the notice", set(TERMS) <= set(listed), f"{listed}")
+
+
 def try_installed(what, root, prefix, libdir):
     """Tries what was installed in a root."""
     pages = root / prefix[1:] / "share"
@@ -112,13 +132,15 @@ def try_packages(archive, packages, version):
     """Installs all in an empty root, tries and removes them."""
     said = subprocess.run(["lintian", "--pedantic", "--allow-root", *packages], capture_output=True, text=True, check=False)
     report("lintian", said.returncode == 0 and not said.stdout.strip(), said.stdout + said.stderr)
+    try_crates()
     with tempfile.TemporaryDirectory(prefix="root-") as room:
         root = pathlib.Path(room, "root")
         empty_root(root)
         before = files_in(root)
         run(["dpkg", f"--root={root}", "--install", *packages])
         try_installed("Debian's packages", root, "/usr", LIBDIR)
-        run(["dpkg", f"--root={root}", "--purge", "instants", "libinstants0", "libinstants-dev", "python3-instants"])
+        try_notice("Debian's packages", root, "/usr", PACKAGES)
+        run(["dpkg", f"--root={root}", "--purge", *PACKAGES])
         left = files_in(root) ^ before
         report("Debian's packages: nothing is left", not left, f"{sorted(left)}")
         run(["tar", "-xzf", archive, "-C", room])
@@ -129,6 +151,7 @@ def try_packages(archive, packages, version):
         (wheel,) = (top / "python").glob("*.whl")
         run(["python3", "-m", "zipfile", "-e", wheel, modules])
         try_installed("the archive", root, "/usr/local", "/usr/local/lib")
+        try_notice("the archive", root, "/usr/local", ["instants"])
         shutil.rmtree(modules)
         run([*install, "uninstall"])
         left = files_in(root) ^ before
