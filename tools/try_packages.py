@@ -7,6 +7,7 @@ root that holds this machine's C library, shell, Python and dpkg, and nothing el
 - a program in C, compiled with what was installed, by pkg-config, answers there, with the shared library and with the static one;
 - the manual pages and bash's completions lie where they are looked for, and each link in an installed document leads to a page
   that is there;
+- both libraries have the calls of the header and no other name, the shared one by a version and with a build id;
 - the notice of whose code is in it is in the folder of documents of each package;
 - after the removal nothing is left.
 
@@ -20,6 +21,8 @@ import shutil
 import subprocess
 import tempfile
 
+import build_library
+from header_numbers import of_header
 from make_packages import CRATES, TERMS, programs, put, run
 from page_links import lost_in
 from program import ROOT
@@ -110,6 +113,25 @@ def try_crates():
         report(f"the crate in {crate.relative_to(ROOT)} has the licence and the notice", set(TERMS) <= set(listed), f"{listed}")
 
 
+def names_in(file, *how):
+    """Returns the names that a library gives to others."""
+    rows = (it.split() for it in run(["nm", "--defined-only", *how, file]).decode().splitlines())
+    return {it[2] for it in rows if len(it) == 3}
+
+
+def try_libraries(folder):
+    """Tries which names the libraries in a folder have, and whether the shared one tells its build."""
+    _, calls = of_header()
+    shared, archive = folder / build_library.SHARED, folder / build_library.ARCHIVE
+    version = build_library.VERSION
+    found = names_in(shared, "--dynamic")
+    report("the shared library has the header's calls alone", found == {version, *(f"{it}@@{version}" for it in calls)}, f"{sorted(found)}")
+    found = names_in(archive, "--extern-only")
+    report("so has the static one", found == set(calls), f"{sorted(found)}")
+    notes = run(["readelf", "--notes", shared]).decode()
+    report("the shared library has a build id", re.search(r"Build ID: [0-9a-f]{40}$", notes, re.M), notes)
+
+
 def try_installed(what, root, prefix, libdir):
     """Tries what was installed in a root."""
     pages = root / prefix[1:] / "share"
@@ -145,6 +167,7 @@ def try_packages(archive, packages, version):
         report("Debian's packages: nothing is left", not left, f"{sorted(left)}")
         run(["tar", "-xzf", archive, "-C", room])
         top = pathlib.Path(room, f"instants-{version}")
+        try_libraries(top / "lib")
         install = ["make", "-C", top, f"DESTDIR={root}", "PREFIX=/usr/local"]
         run([*install, "install"])
         modules = root / MODULES[1:]

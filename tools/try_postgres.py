@@ -86,13 +86,13 @@ class Server:
                 self.run([BIN / "pg_ctl", "-D", self.data, "-w", "-m", "fast", "stop"])
 
 
-def build(server):
-    """Builds the extension, and installs it below the server's folder."""
+def build(server, programs=("instants", "instants-lines")):
+    """Builds the extension, and installs it below the server's folder, to which the programs are copied."""
     made = server.room / "extension"
     shutil.copytree(EXTENSION, made)
     for source in (INCLUDE / "instants.h", LIBRARY):
         shutil.copy(source, made)
-    for name in ("instants", "instants-lines"):
+    for name in programs:
         shutil.copy(Program(f"{name.replace('-', '_')}_program", name).file, server.room / name)
     if os.geteuid() == 0:
         subprocess.run(["chown", "-R", server.user, server.room], check=True)
