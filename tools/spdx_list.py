@@ -14,7 +14,8 @@ import uuid
 from program import ROOT
 
 LICENSE, NOBODY_SAYS, NONE = "Apache-2.0", "NOASSERTION", "NONE"
-KIT, C_LIBRARY = "SPDXRef-Rattle", "SPDXRef-C-library"
+KIT, C_LIBRARY, START = "SPDXRef-Rattle", "SPDXRef-C-library", "SPDXRef-start-up-files"
+LINKED = "The LGPL with an exception for what is linked with these files, and the GPL with the GCC Runtime Library Exception."
 # What holds the kit's code, and is linked with the C library as it runs.
 BINARY = re.compile(r"(?:bin|lib)/[^/]+$")
 
@@ -80,6 +81,7 @@ def below(version):
     return [
         package("Rattle's standard library, and its lines of C", kit_version(), SPDXID=KIT, licenseDeclared=NONE, licenseComments=told),
         package("GNU C Library", f"{version} or a later one", SPDXID=C_LIBRARY, licenseDeclared="LGPL-2.1-or-later"),
+        package("start-up files of the GNU C Library and of GCC", NOBODY_SAYS, SPDXID=START, licenseDeclared=NOBODY_SAYS, licenseComments=LINKED),
     ]
 
 
@@ -91,7 +93,7 @@ def relations(packages, files):
         if is_mixed(name):
             related.append((it["SPDXID"], "STATIC_LINK", KIT))
         if BINARY.match(name) and not name.endswith(".a"):
-            related.append((it["SPDXID"], "DYNAMIC_LINK", C_LIBRARY))
+            related += [(it["SPDXID"], "DYNAMIC_LINK", C_LIBRARY), (it["SPDXID"], "STATIC_LINK", START)]
     return [{"spdxElementId": one, "relationshipType": kind, "relatedSpdxElement": other} for one, kind, other in related]
 
 
