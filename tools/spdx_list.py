@@ -15,6 +15,7 @@ from program import ROOT
 
 LICENSE, NOBODY_SAYS, NONE = "Apache-2.0", "NOASSERTION", "NONE"
 KIT, C_LIBRARY, START = "SPDXRef-Rattle", "SPDXRef-C-library", "SPDXRef-start-up-files"
+BY_LINKERS = "start-up files of the GNU C Library, start-up files and functions of GCC"
 LINKED = "The LGPL with an exception for what is linked with these files, and the GPL with the GCC Runtime Library Exception."
 # What holds the kit's code, and is linked with the C library as it runs.
 BINARY = re.compile(r"(?:bin|lib)/[^/]+$")
@@ -81,7 +82,7 @@ def below(version):
     return [
         package("Rattle's standard library, and its lines of C", kit_version(), SPDXID=KIT, licenseDeclared=NONE, licenseComments=told),
         package("GNU C Library", f"{version} or a later one", SPDXID=C_LIBRARY, licenseDeclared="LGPL-2.1-or-later"),
-        package("start-up files of the GNU C Library and of GCC", NOBODY_SAYS, SPDXID=START, licenseDeclared=NOBODY_SAYS, licenseComments=LINKED),
+        package(BY_LINKERS, NOBODY_SAYS, SPDXID=START, licenseDeclared=NOBODY_SAYS, licenseComments=LINKED),
     ]
 
 
