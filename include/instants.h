@@ -20,8 +20,8 @@
  *
  * Memory. All memory that is passed to a call stays the caller's, and is not used after the call has returned. A call takes
  * memory of its own by malloc and realloc, for the list of the arguments and for the descriptions, and frees it before it
- * returns. Only an open handle keeps something: the memory for the descriptions, and the caller's text of the words, until it
- * is closed. So several threads may call at the same time, each with its own output. No call may be made from a signal
+ * returns. Only an open handle keeps something: the memory for the descriptions, and where the caller's text of the words is,
+ * until it is closed. So several threads may call at the same time, each with its own output. No call may be made from a signal
  * handler, nor in the forked child of a process with threads.
  *
  * Handles. If the same words are used again and again, open a handle: the words are read once, when it is opened. A call with
@@ -49,7 +49,8 @@
  * - While a call runs, no other code changes the words or the input, and no other code reads or writes the output, `*written`
  *   or `*sentence_len`.
  * - A handle is `{0}` when it is opened, so that no open handle is opened again.
- * - The text of the words with which a handle was opened stays unchanged, at the same address, until the handle is closed.
+ * - **The text of the words with which a handle was opened may not be freed, moved or changed before `instants_close`.** The
+ *   handle has no copy of it: what it keeps of a description points into the text.
  * - A handle is used only after it was opened and before it is closed. It is closed once, and neither the handle nor a copy of
  *   it is used afterwards. Several threads may answer by one handle at the same time, and each thread may open and close
  *   handles of its own. A thread may use a handle that another thread opened, if the opening is ordered before that use, for
@@ -159,7 +160,8 @@ struct instants_handle {
 };
 
 /*
- * Opens a handle for the words.
+ * Opens a handle for the words. **Their text may not be freed, moved or changed before `instants_close`**: the handle
+ * points into it.
  *
  * INSTANTS_OK: the handle is open. Close it by `instants_close` in the end.
  * INSTANTS_FAILED: the call is out of memory, or the words are not UTF-8. The handle is unchanged, and no memory is kept.

@@ -6,7 +6,8 @@
 The crates below `instants_c` are proved by `rt ci` over a copy of them (tools/build_program.py), so a crate that was proved for
 a program is not proved again. Rattle's compiler proves `instants_c` over them and makes an archive of all. That and the kit's
 few lines of C, by which Rattle takes memory, become one object, in which the calls of `include/instants.h` are the only names
-that others see. Both libraries are made of that. The packages of Debian: binutils gcc.
+that others see. Both libraries are made of that. A version script has the shared one export these calls alone, under the version
+VERSION, and its build id is a digest of what is in it. The packages of Debian: binutils gcc.
 """
 
 import pathlib
@@ -25,6 +26,8 @@ CALLS = (
     "instants_version",
 )
 ARCHIVE, SHARED = "libinstants.a", "libinstants.so.0"
+# The release in which these calls came; a call that comes later has that release's version.
+VERSION = "INSTANTS_0.1"
 
 
 class Library(Program):
@@ -34,7 +37,8 @@ class Library(Program):
         super().__init__(CRATE, "libinstants", SHARED)
 
     def is_current(self):
-        return super().is_current() and (out() / ARCHIVE).is_file()
+        # (one that was linked in another way is not)
+        return super().is_current() and (out() / ARCHIVE).is_file() and f"{VERSION}\0".encode() in self.file.read_bytes()
 
     def proved_first(self):
         return [it for it in self.crates() if it != CRATE]
@@ -88,8 +92,14 @@ def join(room):
     run(["objcopy", *(f"--keep-global-symbol={it}" for it in CALLS), "instants.o"], room)
     run(["objcopy", "--strip-unneeded", "--remove-section=.comment", "instants.o"], room)
     run(["ar", "rcsD", ARCHIVE, "instants.o"], room)
-    shared = ["-shared", "-Wl,--build-id=none", f"-Wl,-soname,{SHARED}", "-Wl,-z,relro,-z,now"]
-    run(["gcc", *shared, "-o", SHARED, "instants.o"], room)
+    link_shared(room)
+
+
+def link_shared(room):
+    """Links the shared library in the folder room of the object there."""
+    (room / "instants.map").write_text(f"{VERSION} {{ global: {'; '.join(CALLS)}; local: *; }};\n")
+    exported = ["-Wl,--version-script=instants.map", f"-Wl,-soname,{SHARED}", "-Wl,-z,defs"]
+    run(["gcc", "-shared", *exported, "-Wl,--build-id=sha1", "-Wl,-z,relro,-z,now", "-o", SHARED, "instants.o"], room)
     run(["strip", "--strip-unneeded", SHARED], room)
 
 

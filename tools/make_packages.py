@@ -1,4 +1,4 @@
-"""What tools/package.py makes: the folder that is packed, the archive, and Debian's packages by debhelper."""
+"""What tools/package.py makes: the folder that is packed, the archive, Debian's packages by debhelper, and the list of these."""
 
 import gzip
 import os
@@ -13,6 +13,8 @@ import tempfile
 sys.dont_write_bytecode = True
 
 import build_library
+import spdx_list
+from installed_pages import installed
 from page_links import LINK
 from program import ROOT, Program
 
@@ -20,13 +22,16 @@ PACKAGING = ROOT / "packaging"
 PROGRAMS = {name: Program(crate, name) for crate, name in (("instants_program", "instants"), ("instants_lines_program", "instants-lines"))}
 CHECK = Program("description_check", "description_check")
 # What of the documents is for those who use the programs or the library.
-DOCUMENTS = ("README.md", "docs/GUIDE.md", "docs/FORMATS.md", "docs/DESCRIPTIONS.md", "docs/LIBRARIES.md", "docs/SCALE.md",
+DOCUMENTS = ("README.md", "SECURITY.md", "docs/GUIDE.md", "docs/FORMATS.md", "docs/DESCRIPTIONS.md", "docs/LIBRARIES.md", "docs/SCALE.md",
              "docs/CLAIMS.md", "docs/DIFFERENCES.md", "docs/PEERS.md", "docs/SPEED.md")
 # The pictures of these documents.
 PICTURES = ("docs/speed.svg",)
 PAGES = ("instants.1", "instants-lines.1", "instants-descriptions.7")
 # Which of the bindings are handed on as sources.
-SOURCES = ("c", "postgres", "sqlite")
+SOURCES = ("c", "postgres", "rust", "sqlite")
+# What each package has: the licence, and the notice of whose code is in it. The crates for Rust have copies of their own.
+TERMS = ("LICENSE", "NOTICE")
+CRATES = tuple(ROOT / "bindings" / "rust" / it for it in ("sys", ""))
 
 
 class PackagingFailed(Exception):
@@ -48,6 +53,12 @@ def version():
     if f"#define INSTANTS_VERSION {number}\n" not in (ROOT / "include" / "instants.h").read_text():
         raise PackagingFailed(f"the header is not of version {number}")
     return ".".join(said.groups())
+
+
+def stale_terms():
+    """Returns the copies of the licence and the notice that a crate for Rust lacks, or that differ from the repository's."""
+    copies = [(ROOT / name, crate / name) for crate in CRATES for name in TERMS]
+    return [str(copy.relative_to(ROOT)) for of, copy in copies if not copy.is_file() or copy.read_bytes() != of.read_bytes()]
 
 
 def programs():
@@ -74,7 +85,7 @@ def put(source, target, text=None):
 
 
 def linked(name):
-    """Returns a document in which a link to a page that is not packaged is its words alone."""
+    """Returns a document as it is installed, in which a link to a page that is not packaged is its words alone."""
     page = ROOT / name
 
     def kept(link):
@@ -82,7 +93,7 @@ def linked(name):
         is_there = not to or ":" in to or any((page.parent / to).resolve() == ROOT / it for it in (*DOCUMENTS, *PICTURES))
         return link[0] if is_there else words
 
-    fences = re.split(r"(^```.*?^```$)", page.read_text(), flags=re.M | re.S)
+    fences = re.split(r"(^```.*?^```$)", installed(page.read_text()), flags=re.M | re.S)
     return "".join(it if it.startswith("```") else LINK.sub(kept, it) for it in fences)
 
 
@@ -115,9 +126,11 @@ def lay_out(top):
     for name in (*PAGES, *([f"{CHECK.name}.1"] if CHECK.name in programs() else [])):
         put(ROOT / "docs" / name, top / "man" / name)
     lay_out_documents(top / "doc")
-    for name in run(["git", "ls-files", *(f"bindings/{it}" for it in SOURCES)], cwd=ROOT).decode().split():
+    # (Debian wants no folder of examples among examples)
+    for name in run(["git", "ls-files", *(f"bindings/{it}" for it in SOURCES), ":!bindings/rust/examples"], cwd=ROOT).decode().split():
         put(ROOT / name, top / name)
-    put(ROOT / "LICENSE", top / "LICENSE")
+    for name in TERMS:
+        put(ROOT / name, top / name)
     wheel(top / "python", top / "lib" / build_library.SHARED)
 
 
@@ -159,8 +172,34 @@ def debian(top, commit):
     return sorted(top.parent.glob("*.deb"))
 
 
+def glibc_of(files):
+    """Returns the oldest version of glibc with which all of the files run, as 2.34."""
+    text = run(["objdump", "--dynamic-syms", *files]).decode()
+    return ".".join(map(str, max(tuple(map(int, it.split("."))) for it in re.findall(r"\(?GLIBC_([\d.]+)\b", text))))
+
+
+class Measured:
+    """What the README says of the programs in a folder: how large they are, in kB, and which glibc they need."""
+
+    def __init__(self, folder):
+        self.sizes = {name: (folder / name).stat().st_size / 1000 for name in PROGRAMS}
+        self.glibc = glibc_of([folder / name for name in PROGRAMS])
+
+    def differs(self):
+        """Returns what the README says otherwise; it gives sizes to 10 kB."""
+        text, wrong = (ROOT / "README.md").read_text(), []
+        for name, size in self.sizes.items():
+            said = re.search(rf"`{name}`(?: is)? one(?: file)? of (\d+) kB", text)
+            if not said or int(said[1]) != round(size, -1):
+                wrong.append(f"{name} has {size:.0f} kB, and not {said and said[1]}")
+        if f"glibc {self.glibc} or a later one" not in text:
+            wrong.append(f"the programs need glibc {self.glibc}")
+        return wrong
+
+
 def make(folder, commit):
-    """Makes all packages in a folder, and returns their files, the archive first."""
+    """Makes all packages in a folder, and returns their files, the archive first and the list of them last, and what was measured of
+    the programs."""
     with tempfile.TemporaryDirectory(prefix="package-") as room:
         name = f"instants-{version()}"
         top = pathlib.Path(room, name)
@@ -168,4 +207,6 @@ def make(folder, commit):
         settle(pathlib.Path(room), commit)
         archive = folder / f"{name}-x86_64-linux.tar.gz"
         pack(top, archive, commit)
-        return [archive, *(pathlib.Path(shutil.copy(it, folder)) for it in debian(top, commit))]
+        measured = Measured(top / "bin")
+        made = [archive, *(pathlib.Path(shutil.copy(it, folder)) for it in debian(top, commit))]
+        return [*made, spdx_list.write(made, version(), measured.glibc, commit)], measured

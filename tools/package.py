@@ -10,14 +10,16 @@ They are put into FOLDER (`packages` in the system's temporary folder if left ou
 - `libinstants0`: the shared library; `libinstants-dev`: the static one, the header, a file for pkg-config, and as examples
   programs in C and the functions for SQLite and PostgreSQL; `python3-instants`: the package for Python;
 
-and `instants-VERSION-x86_64-linux.tar.gz`, with all of it, `make install PREFIX=`, and a wheel for pip. The programs and the
+and `instants-VERSION-x86_64-linux.tar.gz`, with all of it, `make install PREFIX=`, and a wheel for pip; and
+`instants-VERSION.spdx.json`, the list of what is in them and of its licences (tools/spdx_list.py). The README has the sizes of the
+programs without their symbols, and which glibc they need; both are compared with what is measured here. The programs and the
 library are those that were built last; where they are not, or are older than their sources, they are proved and built first.
 The same commit gives the same bytes: each file is as old as the commit, and all is made twice and compared.
 
 With --try they are installed and tried as tools/try_packages.py says, which has to be root for that. The last line counts what
 passed; the status is 1 where anything failed.
 
-The packages of Debian: binutils gcc make debhelper dh-python, and for --try lintian pkg-config.
+The packages of Debian: binutils gcc make debhelper dh-python, and for --try cargo lintian pkg-config.
 """
 
 import argparse
@@ -31,7 +33,7 @@ import build_library
 import build_program
 import tries
 import try_packages
-from make_packages import CHECK, PROGRAMS, Commit, PackagingFailed, make, programs, version
+from make_packages import CHECK, PROGRAMS, Commit, PackagingFailed, make, programs, stale_terms, version
 
 
 def main():
@@ -47,13 +49,17 @@ def main():
         if CHECK.name not in programs():
             print(f"without {CHECK.name}, whose program is not built, or is older than its sources")
         commit = Commit()
-        made = make(given.folder, commit)
+        made, measured = make(given.folder, commit)
         with tempfile.TemporaryDirectory(prefix="again-") as again:
-            same = [one.read_bytes() == other.read_bytes() for one, other in zip(made, make(pathlib.Path(again), commit))]
+            same = [one.read_bytes() == other.read_bytes() for one, other in zip(made, make(pathlib.Path(again), commit)[0])]
         for it, is_same in zip(made, same):
             tries.report(f"{it}: the same bytes twice", is_same)
+        wrong = measured.differs()
+        tries.report("the README's sizes of the programs, and their glibc", not wrong, "; ".join(wrong))
+        stale = stale_terms()
+        tries.report("the licence and the notice of the crates for Rust", not stale, f"not as the repository has them: {stale}")
         if given.is_tried:
-            try_packages.try_packages(made[0], made[1:], version())
+            try_packages.try_packages(made[0], made[1:-1], made[-1], version())
     except (build_program.BuildFailed, build_library.BuildFailed, PackagingFailed) as fault:
         sys.exit(f"package: {fault}")
     return tries.summary()

@@ -10,8 +10,11 @@ The extension `bindings/postgres` is built, and installed below a folder; a serv
 else, as an ordinary user: the caller, or where that is root the user `postgres`. Then
 
 - the regression test of the extension passes (`make installcheck`): answers, refusals, words that change from row to row, an
-  index that is used, a generated column, a condition, a query by several processes;
-- the answers to mixed lines are those of the program, byte by byte, and so is their order by an index;
+  index that is used, a generated column, a condition, a query by several processes; the extension's older version and the way
+  from it; moments as `timestamptz`, at both ends, in a generated column and in indexes;
+- the answers to mixed lines are those of the program, byte by byte, and so is their order by an index, and so are their moments,
+  cut to microseconds;
+- the example of docs/LIBRARIES.md runs, and prints what the page says;
 - a log is read by `COPY .. FROM PROGRAM 'instants-lines ..'`: by a superuser and by who has the role for it, and by nobody else.
 
 At the end the server is stopped and the folder removed. With --write what the regression test prints becomes what is expected
@@ -23,6 +26,7 @@ import contextlib
 import os
 import pathlib
 import pwd
+import re
 import shutil
 import subprocess
 import sys
@@ -35,6 +39,7 @@ from tries import report, summary
 from try_bindings import INCLUDE, LIBRARY, SOURCES, mixed_lines
 
 EXTENSION = ROOT / "bindings" / "postgres"
+PAGE = ROOT / "docs" / "LIBRARIES.md"
 PG_CONFIG = "/usr/lib/postgresql/15/bin/pg_config"
 BIN = pathlib.Path(PG_CONFIG).parent
 # What a log has, as bytes: quotes, tabs, backslashes and a carriage return pass through COPY.
@@ -81,13 +86,13 @@ class Server:
                 self.run([BIN / "pg_ctl", "-D", self.data, "-w", "-m", "fast", "stop"])
 
 
-def build(server):
-    """Builds the extension, and installs it below the server's folder."""
+def build(server, programs=("instants", "instants-lines")):
+    """Builds the extension, and installs it below the server's folder, to which the programs are copied."""
     made = server.room / "extension"
     shutil.copytree(EXTENSION, made)
     for source in (INCLUDE / "instants.h", LIBRARY):
         shutil.copy(source, made)
-    for name in ("instants", "instants-lines"):
+    for name in programs:
         shutil.copy(Program(f"{name.replace('-', '_')}_program", name).file, server.room / name)
     if os.geteuid() == 0:
         subprocess.run(["chown", "-R", server.user, server.room], check=True)
@@ -106,6 +111,23 @@ def try_regression(server, is_written):
         shutil.copyfile(made / "results" / "instants.out", EXTENSION / "expected" / "instants.out")
 
 
+def as_timestamp(answer):
+    """Returns how the server shows the moment of an answer, or of a fault."""
+    if answer.startswith("!"):
+        return "none"
+    # (the year 0 is the first one before Christ)
+    return f"{answer[:26]} AD" if answer[:4] != "0000" else f"0001{answer[4:26]} BC"
+
+
+def try_moments(server, sources, due):
+    """Compares the moments of the lines, whose answers are due, with the program's."""
+    status, said = server.asked(f"""SET timezone = 'UTC';
+SELECT coalesce(to_char(instant_at({sources}, line), 'YYYY-MM-DD"T"HH24:MI:SS.US BC'), 'none') FROM lines ORDER BY place;
+""")
+    wanted = "".join(as_timestamp(it) + "\n" for it in due.decode("ascii").splitlines()).encode()
+    report("their moments", status == 0 and said == wanted, said[:500].decode(errors="replace"))
+
+
 def try_lines(server, count):
     """Compares the answers to lines with the program's."""
     read = [it for it in mixed_lines(count).split(b"\n") if b"\0" not in it and b"\r" not in it and it == it.decode(errors="ignore").encode()]
@@ -119,12 +141,22 @@ CREATE TABLE lines (place serial, line text);
 SELECT instant('+00:00', {sources}, line) FROM lines ORDER BY place;
 """)
     report(f"{len(read):,} lines", status == 0 and said == due, said[:500].decode(errors="replace"))
+    try_moments(server, sources, due)
     status, said = server.asked(f"""CREATE INDEX by_moment ON lines (instant('+00:00', {sources}, line) COLLATE "C");
 SET enable_seqscan = off;
 SELECT instant('+00:00', {sources}, line) FROM lines ORDER BY instant('+00:00', {sources}, line) COLLATE "C";
 """)
     wanted = b"".join(sorted(it + b"\n" for it in due.split(b"\n")[:-1]))
     report("their order by an index", status == 0 and said == wanted, said[:500].decode(errors="replace"))
+
+
+def try_page(server):
+    """Runs the page's example in a database of its own."""
+    (example,) = re.findall(r"^```sql\n(CREATE EXTENSION .*?)^```$", PAGE.read_text(), re.M | re.S)
+    server.asked("CREATE DATABASE page;")
+    status, said = server.asked(example, PGDATABASE="page")
+    due = "".join(f"{it}\n" for it in re.findall(r"^-- (.*)$", example, re.M)).encode()
+    report("the page's example", status == 0 and due and said == due, f"{said!r} in place of {due!r}")
 
 
 def try_copy(server):
@@ -159,6 +191,7 @@ def main():
                 if is_up:
                     try_regression(server, given.write)
                     try_lines(server, given.lines)
+                    try_page(server)
                     try_copy(server)
     return summary()
 

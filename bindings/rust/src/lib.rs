@@ -1,3 +1,4 @@
+// (the page of the crate is its README)
 #![doc = include_str!("../README.md")]
 #![deny(missing_docs)]
 
@@ -8,11 +9,21 @@ use std::fmt;
 
 pub use instants_sys::{GREATEST_LIMIT, LINE_ROOM};
 use instants_sys::{OK, REFUSED};
-pub use moment::{LineFault, Moment};
+pub use moment::{LineFault, Moment, NoSystemTime};
 pub use timeline::Timeline;
 
-/// Why lines are not answered.
+/// Why lines are not answered. Later versions may have more reasons, so a `match` needs an arm for others:
+///
+/// ```compile_fail,E0004
+/// fn is_of_words(fault: instants::Fault) -> bool {
+///     match fault {
+///         instants::Fault::Refused(_) => true,
+///         instants::Fault::NoRoom | instants::Fault::Memory => false,
+///     }
+/// }
+/// ```
 #[derive(Clone, Debug, PartialEq, Eq)]
+#[non_exhaustive]
 pub enum Fault {
     /// The words are wrong, or a source among them is no description; with the program's sentence.
     Refused(String),
@@ -63,13 +74,14 @@ fn line_feeds(bytes: &[u8]) -> usize {
     usize::from(bytes.iter().map(|byte| u8::from(*byte == b'\n')).sum::<u8>())
 }
 
-/// Answers each line of the input as the words say, each answer followed by a line feed.
+/// Answers each line of the input as the words say, each answer followed by a line feed. A word is a `&str`, a `String`, or what
+/// else is one text.
 ///
 /// ```
 /// let fault = instants::answers(&["+25:00", "-", "100", "rfc3339"], b"").unwrap_err();
 /// assert_eq!(fault.to_string(), "instants: the target offset must be +HH:MM or -HH:MM");
 /// ```
-pub fn answers(words: &[&str], input: &[u8]) -> Result<Vec<u8>, Fault> {
+pub fn answers<W: AsRef<str>>(words: &[W], input: &[u8]) -> Result<Vec<u8>, Fault> {
     let mut output = vec![0; room(input)];
     let len = answer_into(words, input, &mut output)?;
     output.truncate(len);
@@ -84,8 +96,12 @@ pub fn answers(words: &[&str], input: &[u8]) -> Result<Vec<u8>, Fault> {
 /// assert_eq!(&output[..len], b"2021-01-02T03:04:05.000000000Z\n");
 /// # Ok::<(), instants::Fault>(())
 /// ```
-pub fn answer_into(words: &[&str], input: &[u8], output: &mut [u8]) -> Result<usize, Fault> {
-    let words = joined(words)?;
+pub fn answer_into<W: AsRef<str>>(words: &[W], input: &[u8], output: &mut [u8]) -> Result<usize, Fault> {
+    answer_by(&joined(words)?, input, output)
+}
+
+/// The same by the words in one text.
+fn answer_by(words: &str, input: &[u8], output: &mut [u8]) -> Result<usize, Fault> {
     let mut written = 0;
     // Slices are never null, and an output that is borrowed mutably overlaps with nothing.
     let status = unsafe {
@@ -101,14 +117,15 @@ pub fn answer_into(words: &[&str], input: &[u8], output: &mut [u8]) -> Result<us
     };
     match status {
         OK => Ok(written),
-        REFUSED => Err(Fault::Refused(sentence(&words)?)),
+        REFUSED => Err(Fault::Refused(sentence(words)?)),
         _ if written > 0 || output.is_empty() => Err(Fault::NoRoom),
         _ => Err(Fault::Memory),
     }
 }
 
 /// The words in one text. A word with a line feed would be two.
-fn joined(words: &[&str]) -> Result<String, Fault> {
+fn joined<W: AsRef<str>>(words: &[W]) -> Result<String, Fault> {
+    let words: Vec<&str> = words.iter().map(AsRef::as_ref).collect();
     match words.iter().position(|word| word.contains('\n')) {
         Some(at) => Err(Fault::Refused(format!("instants: word {} has a line feed", at + 1))),
         None => Ok(words.join("\n")),

@@ -33,13 +33,13 @@ unsafe impl Send for Timeline {}
 unsafe impl Sync for Timeline {}
 
 impl Timeline {
-    /// Reads the words.
+    /// Reads the words, and keeps a text of its own of them.
     ///
     /// ```
     /// let fault = instants::Timeline::new(&["+25:00", "-", "100", "rfc3339"]).unwrap_err();
     /// assert_eq!(fault.to_string(), "instants: the target offset must be +HH:MM or -HH:MM");
     /// ```
-    pub fn new(words: &[&str]) -> Result<Timeline, Fault> {
+    pub fn new<W: AsRef<str>>(words: &[W]) -> Result<Timeline, Fault> {
         let words = joined(words)?;
         let mut handle = Handle { at: ptr::null_mut() };
         // The text of a `String` is never null, and stays with the handle; the handle is not open yet.

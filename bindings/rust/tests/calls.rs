@@ -1,6 +1,8 @@
 //! The calls on their happy path, and where they end early.
 
-use instants::{answer_into, answers, room, version, Fault, Moment, Timeline};
+use std::time::{Duration, SystemTime, UNIX_EPOCH};
+
+use instants::{answer_into, answers, room, version, Fault, Moment, NoSystemTime, Timeline};
 
 const WORDS: [&str; 4] = ["+00:00", "-", "100", "rfc3339"];
 const LINE: &[u8] = b"2021-01-02T04:04:05+01:00\n";
@@ -105,5 +107,58 @@ fn threads_share_a_timeline() -> Result<(), Fault> {
     });
     let other = std::thread::spawn(move || timeline.answers(LINE));
     assert_eq!(other.join().ok().as_deref(), Some(ANSWER));
+    Ok(())
+}
+
+#[test]
+fn words_of_each_kind() -> Result<(), Fault> {
+    let owned: Vec<String> = WORDS.iter().map(|it| it.to_string()).collect();
+    assert_eq!(answers(&owned, LINE)?, ANSWER);
+    assert_eq!(Timeline::new(&owned)?.answers(LINE), ANSWER);
+    let boxed: [Box<str>; 4] = WORDS.map(Into::into);
+    assert_eq!(answers(&boxed, LINE)?, ANSWER);
+    let mut output = [0; 31];
+    assert_eq!(answer_into(&owned, LINE, &mut output), Ok(31));
+    Ok(())
+}
+
+#[test]
+fn words_may_go_before_a_timeline() -> Result<(), Fault> {
+    let mut words: Vec<String> = ["+00:00", "-", "100", "strftime", "at %F %T %z"].map(String::from).to_vec();
+    let timeline = Timeline::new(&words)?;
+    for word in &mut words {
+        *word = "x".repeat(word.len());
+    }
+    drop(words);
+    let others: Vec<Vec<u8>> = (0..100).map(|len| vec![b'x'; len]).collect();
+    assert_eq!(timeline.answers(b"at 2021-01-02 04:04:05 +0100\nxx 2021-01-02 04:04:05 +0100\n"), [ANSWER, b"! literal\n"].concat());
+    assert_eq!(others.len(), 100);
+    Ok(())
+}
+
+#[test]
+fn moments_are_times_of_the_system() -> Result<(), NoSystemTime> {
+    let rows = [
+        (UNIX_EPOCH, 0, 0),
+        (UNIX_EPOCH + Duration::new(5, 1), 5, 1),
+        (UNIX_EPOCH - Duration::new(5, 0), -5, 0),
+        (UNIX_EPOCH - Duration::new(5, 1), -6, 999_999_999),
+        (UNIX_EPOCH - Duration::new(0, 999_999_999), -1, 1),
+        // The first and the last moment of a line.
+        (UNIX_EPOCH - Duration::from_secs(62_167_219_200), -62_167_219_200, 0),
+        (UNIX_EPOCH + Duration::new(253_402_300_799, 999_999_999), 253_402_300_799, 999_999_999),
+    ];
+    for (time, seconds, nanoseconds) in rows {
+        let moment = Moment { seconds, nanoseconds };
+        assert_eq!(Moment::from(time), moment);
+        assert_eq!(SystemTime::try_from(moment)?, time);
+    }
+    for (seconds, nanoseconds) in [(0, 1_000_000_000), (-1, u32::MAX), (i64::MAX, 1_000_000_000)] {
+        assert_eq!(SystemTime::try_from(Moment { seconds, nanoseconds }), Err(NoSystemTime));
+    }
+    for seconds in [i64::MIN + 1, i64::MAX] {
+        let moment = Moment { seconds, nanoseconds: 999_999_999 };
+        assert_eq!(SystemTime::try_from(moment).map(Moment::from), Ok(moment));
+    }
     Ok(())
 }

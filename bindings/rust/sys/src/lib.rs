@@ -1,3 +1,4 @@
+// (the page of the crate is its README)
 #![doc = include_str!("../README.md")]
 #![deny(missing_docs)]
 #![no_std]
