@@ -4,7 +4,7 @@
     tools/try_bindings.py [--lines N]
 
 The packages of Debian: binutils gcc g++ valgrind cargo rustc mypy pkg-config python3 python3-venv python3-numpy
-python3-pandas libsqlite3-dev sqlite3. The program and the library are
+python3-pandas python3-ciso8601 libsqlite3-dev sqlite3. The program and the library are
 those that were built last; where they are not, or are older than their sources, they are proved and built first
 (tools/build_program.py, tools/build_library.py).
 
@@ -20,7 +20,8 @@ those that were built last; where they are not, or are older than their sources,
 - Rust: the tests of `bindings/rust`, and its example `answer` as that in C, without the sanitizers. Both crates are packed
   without a network, and what was packed is unpacked and tried outside of the repository, with the library that
   INSTANTS_LIB_DIR names and with that which pkg-config finds; where there is none the build says how to get it.
-- Python: `to_datetime64` of the same lines, against the program's answers; the tests of `bindings/python`, by Debian's Python, which has numpy and pandas where their packages are there; its
+- Python: `to_datetime64` of the same lines, against the program's answers; `datetimes` takes no longer than ciso8601 with
+  `astimezone`; the tests of `bindings/python`, by Debian's Python, which has numpy and pandas where their packages are there; its
   types, by `mypy --strict`; the same lines by its calls, and one by one by a timeline; `pip install`, without a network, into an environment of its own,
   where the package answers with no variable set; and what is said where there is no library, or one of another version.
 - SQLite: `bindings/sqlite/instant.c` answers the lines that are text as the program does; the answers are the key of a table,
@@ -73,6 +74,23 @@ THREADED = ["-pthread"]
 CALLS = "200000"
 # Lines for valgrind through SQLite, where each is a call of its own.
 FEW = 2_000
+# Moments as `datetime`, by `datetimes` and by ciso8601 in turns: how many times as long the first takes, on lines of RFC 3339.
+RATIO = """
+import sys, time
+from datetime import timezone
+import ciso8601, instants
+lines = open(sys.argv[1], encoding="ascii").read().split("\\n")[:-1]
+timeline, read = instants.Timeline(target="+00:00", sources=["rfc3339"]), ciso8601.parse_datetime
+calls = (lambda: timeline.datetimes(lines), lambda: [read(line).astimezone(timezone.utc) for line in lines])
+taken = ([], [])
+for _ in range(15):
+    for call, rounds in zip(calls, taken):
+        began = time.process_time_ns()
+        call()
+        rounds.append(time.process_time_ns() - began)
+assert calls[0]() == calls[1]()
+print(f"{min(taken[0]) / min(taken[1]):.2f}")
+"""
 # A caller in Python, for its types.
 CALLER = """
 from __future__ import annotations
@@ -336,6 +354,7 @@ def try_python(library):
         listed = [timeline.answer(line) for line in library.input.split(b"\n")]
     tell_same("Python: line by line", "\n".join([*listed, ""]).encode(), library.answers)
     try_arrays(library)
+    try_pace_of_datetimes(library)
     try_library_of_python(library)
     try_pip(library)
 
@@ -354,6 +373,18 @@ def try_arrays(library):
     due = [-(2**63) if it is None or abs(it) >= 2**63 else it for it in nanoseconds]
     found = instants.to_datetime64(library.input, sources=SOURCES, limit=100)
     report("Python: to_datetime64", found.dtype == numpy.dtype("datetime64[ns]") and found.view("int64").tolist() == due)
+
+
+def try_pace_of_datetimes(library):
+    """Tries whether `datetimes` takes longer than ciso8601 does with `astimezone`, in turns."""
+    if ran([PYTHON, "-c", "import ciso8601"])[0]:
+        print("skipped: Python: ciso8601 is missing: Debian has it as python3-ciso8601")
+        return
+    rng, file = random.Random(39), library.room / "rfc3339"
+    file.write_text("".join(f"{bench_lines.rfc3339(rng)}\n" for _ in range(20_000)))
+    status, said, wrong = ran([PYTHON, "-B", "-c", RATIO, file], env={**os.environ, "PYTHONPATH": str(BINDINGS / "python")})
+    told = said.decode().strip() or "no number"
+    report(f"Python: datetimes take {told} of the time of ciso8601", status == 0 and float(told) <= 1, wrong.decode(errors="replace"))
 
 
 def quoted(words):

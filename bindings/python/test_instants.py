@@ -14,7 +14,7 @@ from datetime import datetime, timedelta, timezone
 from unittest import mock
 
 import instants
-from instants import _handle, _library, _timeline, dask
+from instants import _answers, _handle, _library, _lines, _timeline, dask
 
 try:
     import numpy
@@ -145,8 +145,27 @@ class Values(unittest.TestCase):
         self.assertEqual(instants.datetimes(lines, sources=["rfc3339"]), [moment, None, None])
         (moved,) = instants.datetimes(lines[:1], target="-05:30", sources=["rfc3339"])
         self.assertEqual((moved, moved.utcoffset()), (moment, timedelta(hours=-5, minutes=-30)))
-        with self.assertRaisesRegex(instants.Fault, "line 1, .*: datetime has no year 0"):
-            instants.datetimes(lines[2:], sources=["rfc3339"], raising=True)
+        for lines in (lines[2:], [lines[2], "yesterday"]):
+            with self.assertRaisesRegex(instants.Fault, "line 1, .*: datetime has no year 0"):
+                instants.datetimes(lines, sources=["rfc3339"], raising=True)
+
+    def test_many_datetimes(self):
+        start, step = datetime(1, 1, 2, tzinfo=timezone.utc), timedelta(days=360, seconds=76_543, microseconds=210_001)
+        due = [start + at * step for at in range(9_990)]
+        lines = [f"{it.isoformat(timespec='microseconds')[:26]}999Z" for it in due]
+        for target in ("+00:00", "-00:00", "+23:59", "-05:00"):
+            found = instants.datetimes(lines, target=target, sources=["rfc3339"])
+            self.assertEqual(found, due)
+            self.assertEqual({it.strftime("%z") for it in found}, {target.replace(":", "").replace("-0000", "+0000")})
+        # (faults and years 0 in some of the parts that are read at once, also at their ends)
+        for at in (*range(0, 9_990, 1_999), *range(4_000, 5_200, 3)):
+            lines[at], due[at] = "0000-01-02T03:04:05Z" if at % 2 else "", None
+        self.assertEqual(instants.datetimes(lines, sources=["rfc3339"]), due)
+        self.assertEqual(instants.datetimes("", sources=["rfc3339"]), [])
+
+    def test_datetimes_of_older_versions(self):
+        for text in (ANSWER, "0001-01-01T00:00:00.000000999Z", "2021-01-02T03:04:05.123456789-05:30", "9999-12-31T23:59:59.999999999+23:59"):
+            self.assertEqual([_answers.datetime_before_3_11(text)], _answers.datetimes_of(f"{text}\n"))
 
 
 class Timelines(unittest.TestCase):
@@ -215,7 +234,7 @@ class Timelines(unittest.TestCase):
             timeline = instants.Timeline(**how())
             handle = timeline._open()
             timeline.close()
-            self.assertEqual((handle.answer(LINE.encode()), close.call_count), (ANSWER.encode() + b"\n", 0))
+            self.assertEqual((handle.answer(_lines.whole_stream(LINE.encode())), close.call_count), (ANSWER.encode() + b"\n", 0))
             del handle
             self.assertEqual(close.call_count, 1)
 

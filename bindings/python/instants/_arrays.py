@@ -21,15 +21,15 @@ FAULT = 1 << 32
 FIRST, LAST = -9_223_372_036, 9_223_372_035
 
 
-def raise_first_missing(handle: Handle, stream: bytes, moments: Moments) -> None:
+def raise_first_missing(handle: Handle, text: bytes, moments: Moments) -> None:
     """Raises the fault of the first line that has no moment."""
     import numpy
 
     missing = numpy.isnat(moments)
     if missing.any():
         place = int(missing.argmax())
-        text = handle.answer_line(stream.split(b"\n", place + 1)[place])
-        raise fault_at(stream, place, text[2:] if text.startswith("!") else f"datetime64[ns] does not reach to {text}")
+        answer = handle.answer_line(text.split(b"\n", place + 1)[place])
+        raise fault_at(text, place, answer[2:] if answer.startswith("!") else f"datetime64[ns] does not reach to {answer}")
 
 
 def moments_of(entries: memoryview) -> Moments:

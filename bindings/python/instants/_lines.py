@@ -2,24 +2,40 @@
 
 from __future__ import annotations
 
-from typing import IO, Any, Iterable, Union
+from typing import IO, Any, Iterable, NamedTuple, Union
 
 Line = Union[str, bytes, bytearray, memoryview]
 # One text, or one block of bytes, whose lines end in line feeds; a file that is open for reading; or one line after the other.
 Lines = Union[Line, IO[str], IO[bytes], Iterable[Line]]
+LINE = (str, bytes, bytearray, memoryview)
 
 
-def stream_of(lines: Lines) -> bytes:
-    """Returns the bytes of lines, with a line feed between them."""
+class Stream(NamedTuple):
+    """The bytes of lines, with a line feed between them, and a number that is not less than theirs."""
+
+    text: bytes
+    most: int
+
+
+def bytes_of(text: Any) -> bytes:
+    """Returns the bytes of a text or of a block of bytes."""
+    return text.encode(errors="surrogateescape") if isinstance(text, str) else bytes(text)
+
+
+def stream_of(lines: Lines) -> Stream:
+    """Returns the bytes of lines."""
     whole: Any = lines.read() if hasattr(lines, "read") else lines
-    if isinstance(whole, str):
-        return whole.encode(errors="surrogateescape")
-    if isinstance(whole, (bytes, bytearray, memoryview)):
-        return bytes(whole)
+    if isinstance(whole, LINE):
+        return whole_stream(bytes_of(whole))
     return _stream_of_list(list(whole))
 
 
-def _stream_of_list(lines: list[Any]) -> bytes:
+def whole_stream(text: bytes) -> Stream:
+    """Returns bytes with the number of their lines."""
+    return Stream(text, text.count(b"\n") + 1)
+
+
+def _stream_of_list(lines: list[Any]) -> Stream:
     """Returns the bytes of a list of lines, each with a line feed after it."""
     stream = b""
     try:
@@ -30,19 +46,16 @@ def _stream_of_list(lines: list[Any]) -> bytes:
             stream = b"\n".join([*lines, b""])
     except TypeError:
         pass
-    if stream.count(b"\n") == len(lines):
-        return stream
-    return b"".join(line_of(line) + b"\n" for line in lines)
+    if stream.count(b"\n") != len(lines):
+        stream = b"".join(line_of(line) + b"\n" for line in lines)
+    return Stream(stream, len(lines))
 
 
 def line_of(line: Any) -> bytes:
     """Returns the bytes of a line without the line feed at its end."""
-    if isinstance(line, str):
-        read = line.encode("utf-8", "surrogateescape")
-    elif isinstance(line, (bytes, bytearray, memoryview)):
-        read = bytes(line)
-    else:
+    if not isinstance(line, LINE):
         raise TypeError(f"a line is a text or bytes, and not {type(line).__name__}")
+    read = bytes_of(line)
     end = read.find(b"\n")
     if end < 0:
         return read

@@ -7,11 +7,11 @@ from datetime import datetime
 from types import TracebackType
 from typing import TYPE_CHECKING, Any, Iterable
 
-from ._answers import Answer, datetimes_of, fault_at, raise_first, raise_first_year_0
+from ._answers import Answer, datetimes_of, fault_at, may_lack_datetimes, raise_first, raise_first_without_datetime
 from ._arrays import moments_of, raise_first_missing
 from ._handle import Handle, listed
 from ._library import GREATEST_LIMIT
-from ._lines import Line, Lines, line_of, stream_of
+from ._lines import Line, Lines, line_of, stream_of, whole_stream
 
 if TYPE_CHECKING:
     from ._arrays import Moments
@@ -55,14 +55,6 @@ class Timeline:
             raise ValueError("instants: the timeline is closed")
         return handle
 
-    def _texts(self, stream: bytes, raising: bool) -> list[str]:
-        """Returns the answers to the lines of a stream."""
-        written = self._open().answer(stream)
-        texts = written.decode("ascii").split("\n")[:-1]
-        if raising and b"!" in written:
-            raise_first(stream, texts)
-        return texts
-
     def answer(self, line: Line, *, raising: bool = False) -> str:
         """Returns the answer to one line."""
         read = line_of(line)
@@ -73,7 +65,14 @@ class Timeline:
 
     def answers(self, lines: Lines, *, raising: bool = False) -> list[str]:
         """Returns the answers to lines as a list of texts. A line feed at a line's end is no part of it."""
-        return self._texts(stream_of(lines), raising)
+        stream = stream_of(lines)
+        answers = self._open().answer(stream).decode("ascii")
+        texts = answers.split("\n")
+        # (after the last line feed there is no answer)
+        texts.pop()
+        if raising and "!" in answers:
+            raise_first(stream.text, texts)
+        return texts
 
     def parse(self, lines: Lines, *, raising: bool = False) -> list[Answer]:
         """Returns the same answers as values, which tell date-times from faults: `for text, fault in timeline.parse(..)`."""
@@ -86,10 +85,10 @@ class Timeline:
         the year 0 is None.
         """
         stream = stream_of(lines)
-        texts = self._texts(stream, raising)
-        if raising:
-            raise_first_year_0(stream, texts)
-        return datetimes_of(texts, self._words[0])
+        answers = self._open().answer(stream).decode("ascii")
+        if raising and may_lack_datetimes(answers):
+            raise_first_without_datetime(stream.text, answers.split("\n")[:-1])
+        return datetimes_of(answers)
 
     def to_datetime64(self, lines: Lines, *, raising: bool = False) -> Moments:
         """Returns the moments of lines, in UTC, as an array of `datetime64[ns]`, with NaT for each line that has none.
@@ -99,7 +98,7 @@ class Timeline:
         stream, handle = stream_of(lines), self._open()
         moments = moments_of(handle.moments(stream))
         if raising:
-            raise_first_missing(handle, stream, moments)
+            raise_first_missing(handle, stream.text, moments)
         return moments
 
 
@@ -152,4 +151,4 @@ def to_datetime64(
 def answer_bytes(stream: bytes | bytearray | memoryview, words: Iterable[str]) -> bytes:
     """Returns the answers to the lines of bytes, each with a line feed after it, by the program's words, which stay read."""
     handle = _kept_handle(tuple(listed(words, "the words")))
-    return handle.answer(stream if isinstance(stream, bytes) else memoryview(stream).tobytes())
+    return handle.answer(whole_stream(stream if isinstance(stream, bytes) else memoryview(stream).tobytes()))
