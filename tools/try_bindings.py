@@ -22,7 +22,7 @@ those that were built last; where they are not, or are older than their sources,
   INSTANTS_LIB_DIR names and with that which pkg-config finds; where there is none the build says how to get it.
 - Python: `to_datetime64` of the same lines, against the program's answers; `datetimes` takes no longer than ciso8601 with
   `astimezone`; the tests of `bindings/python`, by Debian's Python, which has numpy and pandas where their packages are there; its
-  types, by `mypy --strict`; the same lines by its calls, and one by one by a timeline; `pip install`, without a network, into an environment of its own,
+  types, by `mypy --strict`; the same lines by its calls, by `python3 -m instants`, and one by one by a timeline; `pip install`, without a network, into an environment of its own,
   where the package answers with no variable set; and what is said where there is no library, or one of another version.
 - SQLite: `bindings/sqlite/instant.c` answers the lines that are text as the program does; the answers are the key of a table,
   of an index that SQLite uses, and of generated columns, also where the schema is not trusted; bad calls are errors; words
@@ -33,6 +33,7 @@ The last line counts what passed; the status is 1 where anything failed.
 
 import argparse
 import datetime
+import io
 import os
 import pathlib
 import random
@@ -95,15 +96,19 @@ print(f"{min(taken[0]) / min(taken[1]):.2f}")
 CALLER = """
 from __future__ import annotations
 from datetime import datetime
+from typing import Iterator
 import instants
 texts: list[str] = instants.answers(open("lines"), target="+00:00", sources=["rfc3339"], limit=100)
 block: list[str] = instants.answers(memoryview(b""), target="+00:00", sources=("rfc3339",), raising=True)
 faults: list[str | None] = [it.fault for it in instants.parse([b"", bytearray()], target="+00:00", sources=["rfc3339"])]
 moments: list[datetime | None] = instants.datetimes(["x"], sources=["rfc3339"], assumed="+00:00")
+later: Iterator[str] = instants.iter(open("lines", "rb"), target="+00:00", sources=["rfc3339"], raising=True)
+version: str = instants.__version__
 written: bytes = instants.answer_bytes(b"", ["+00:00", "-", "100", "rfc3339"])
 with instants.Timeline(target="+00:00", sources=["rfc3339"], limit=100) as timeline:
     text: str = timeline.answer(b"x", raising=False)
     texts = timeline.answers(open("lines", "rb"))
+    later = timeline.iter([b"x"])
     faults = [it.fault for it in timeline.parse("x")]
     moments = timeline.datetimes(["x"], raising=True)
 timeline.close()
@@ -350,6 +355,10 @@ def try_python(library):
     for what, lines in (("a list", library.input.split(b"\n")), ("a block", library.input)):
         listed = instants.answers(lines, target="+00:00", sources=SOURCES, limit=100)
         tell_same(f"Python: {what}", "\n".join([*listed, ""]).encode(), library.answers)
+    listed = instants.iter(io.BytesIO(library.input), target="+00:00", sources=SOURCES, limit=100)
+    tell_same("Python: block by block", "\n".join([*listed, ""]).encode(), library.answers)
+    status, said, wrong = ran([PYTHON, "-B", "-m", "instants", *WORDS], library.input, cwd=BINDINGS / "python")
+    tell_same("Python: as a program", said if status == 0 else wrong, library.answers)
     with instants.Timeline(target="+00:00", sources=SOURCES, limit=100) as timeline:
         listed = [timeline.answer(line) for line in library.input.split(b"\n")]
     tell_same("Python: line by line", "\n".join([*listed, ""]).encode(), library.answers)

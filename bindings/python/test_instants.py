@@ -3,13 +3,16 @@
 import array
 import doctest
 import io
+import itertools
 import os
 import pathlib
 import pickle
 import subprocess
+import sys
 import tempfile
 import threading
 import unittest
+from collections import Counter
 from datetime import datetime, timedelta, timezone
 from unittest import mock
 
@@ -28,6 +31,7 @@ except ImportError:
 WORDS = ["+00:00", "-", "100", "rfc3339"]
 LINE, ANSWER = "2021-01-02T04:04:05+01:00", "2021-01-02T03:04:05.000000000Z"
 NO_YEAR = "! component year"
+PROJECT = pathlib.Path(__file__).with_name("pyproject.toml")
 
 
 def how(**others):
@@ -88,6 +92,141 @@ class Lines(unittest.TestCase):
             instants.answer_bytes(5, WORDS)
         with self.assertRaises(TypeError):
             instants.answer_bytes(LINE, WORDS)
+
+
+class Iterated(unittest.TestCase):
+    """Lines that are read block by block."""
+
+    def iterated(self, lines, **others):
+        return instants.iter(lines, **how(**others))
+
+    def test_lines(self):
+        text = f"{LINE}\n\nyesterday"
+        for lines in (text, text.encode(), bytearray(text.encode()), memoryview(text.encode()), text.split("\n"), iter(text.encode().split(b"\n"))):
+            self.assertEqual(list(self.iterated(lines)), [ANSWER, NO_YEAR, NO_YEAR])
+        for lines in ("", b"", [], iter([]), io.BytesIO(), io.StringIO()):
+            self.assertEqual(list(self.iterated(lines)), [])
+        self.assertEqual(list(self.iterated([LINE, b"x", "\n"])), [ANSWER, NO_YEAR, NO_YEAR])
+        self.assertEqual(Counter(self.iterated("\n" * 300_000)), {NO_YEAR: 300_000})
+
+    def test_blocks(self):
+        """Blocks end within lines, at their ends, and lines are longer than a block."""
+        text = b"".join(b"%s%s\n" % (LINE.encode(), b"0" * (at * 7 % 5)) for at in range(40)) + b"\n\n" + LINE.encode()
+        for tail in (b"", b"\n", b"\n\n"):
+            due = answers(text + tail)
+            for size in (1, 2, 25, 26, 27, 52, 100, 5_000):
+                with mock.patch.object(_lines, "BLOCK", size), mock.patch.object(_lines, "BLOCK_LINES", size):
+                    whole = (text + tail).decode()
+                    for lines in (io.BytesIO(text + tail), io.StringIO(whole), whole, whole.split("\n")[: len(due)]):
+                        self.assertEqual(list(self.iterated(lines)), due)
+
+    def test_a_long_line(self):
+        lines = io.BytesIO(b"9" * 3_000_000 + b"\n" + LINE.encode())
+        self.assertEqual(list(self.iterated(lines)), ["! long", ANSWER])
+
+    def test_files(self):
+        with tempfile.TemporaryDirectory() as folder:
+            file = pathlib.Path(folder, "lines")
+            file.write_text(f"{LINE}\n" * 20_000)
+            for mode, buffering in (("r", -1), ("rb", -1), ("rb", 0)):
+                with open(file, mode, buffering) as lines:
+                    found = self.iterated(lines)
+                    self.assertEqual(next(found), ANSWER)
+                    self.assertLess(os.lseek(lines.fileno(), 0, os.SEEK_CUR), 200_000)
+                    self.assertEqual(Counter(found), {ANSWER: 19_999})
+
+    def test_no_more_is_read_than_is_asked_for(self):
+        given = iter(range(10_000))
+        found = self.iterated(LINE for _ in given)
+        self.assertEqual(next(given), 0)
+        self.assertEqual([next(found) for _ in range(10)], [ANSWER] * 10)
+        self.assertLess(next(given), 2_000)
+
+    def test_a_pipe(self):
+        class Pipe(io.RawIOBase):
+            reads = 0
+
+            def readable(self):
+                return True
+
+            def readinto(self, room):
+                self.reads += 1
+                text = f"{LINE}\n".encode() * (self.reads < 9)
+                room[: len(text)] = text
+                return len(text)
+
+        pipe = Pipe()
+        found = self.iterated(io.BufferedReader(pipe))
+        for reads in range(1, 4):
+            self.assertEqual((next(found), pipe.reads), (ANSWER, reads))
+
+    def test_a_file_that_does_not_wait(self):
+        reads, writes = os.pipe()
+        os.set_blocking(reads, False)
+        with open(reads, "rb", buffering=0) as lines, open(writes, "wb", buffering=0):
+            with self.assertRaises(BlockingIOError):
+                list(self.iterated(lines))
+
+    def test_raising(self):
+        found = self.iterated(io.BytesIO(f"{LINE}\n".encode() * 20_000 + b"x\n" + LINE.encode()), raising=True)
+        self.assertEqual(Counter(itertools.islice(found, 20_000)), {ANSWER: 20_000})
+        with self.assertRaisesRegex(instants.Fault, "line 20001, 'x': component year"):
+            next(found)
+        self.assertEqual(list(found), [])
+        self.assertEqual(list(self.iterated([LINE], raising=True)), [ANSWER])
+
+    def test_what_is_refused(self):
+        for lines in ([5], [LINE, None], [LINE + "\n\n"]):
+            with self.assertRaises((TypeError, ValueError)):
+                list(self.iterated(lines))
+        # (what is wrong with the call is told at once)
+        with self.assertRaises(TypeError):
+            self.iterated(5)
+        with self.assertRaises(instants.Refused):
+            self.iterated([LINE], target="+25:00")
+
+    def test_a_timeline(self):
+        with instants.Timeline(**how()) as timeline:
+            found = timeline.iter([LINE, ""])
+        self.assertEqual(list(found), [ANSWER, NO_YEAR])
+        with self.assertRaisesRegex(ValueError, "the timeline is closed"):
+            timeline.iter([LINE])
+
+
+class Program(unittest.TestCase):
+    """`python -m instants`."""
+
+    def ran(self, *words, given=b"", **how):
+        places = {**os.environ, "PYTHONPATH": str(pathlib.Path(instants.__file__).parents[1])}
+        how = {"input": given, "stdout": subprocess.PIPE, **how}
+        done = subprocess.run([sys.executable, "-B", "-m", "instants", *words], stderr=subprocess.PIPE, env=places, **how)
+        return done.returncode, done.stdout, done.stderr
+
+    def test_answers(self):
+        self.assertEqual(self.ran(*WORDS, given=f"{LINE}\n\nx".encode()), (0, f"{ANSWER}\n{NO_YEAR}\n{NO_YEAR}\n".encode(), b""))
+        self.assertEqual(self.ran(*WORDS), (0, b"", b""))
+        status, said, wrong = self.ran(*WORDS, given=f"{LINE}\n".encode() * 50_000)
+        self.assertEqual((status, Counter(said.split(b"\n")), wrong), (0, {ANSWER.encode(): 50_000, b"": 1}, b""))
+
+    def test_wrong_words(self):
+        for words in ([], WORDS[:3], ["+25:00", *WORDS[1:]], [*WORDS[:2], "0", "rfc3339"]):
+            status, said, wrong = self.ran(*words, given=LINE.encode())
+            self.assertEqual((status, said), (2, b""))
+            self.assertRegex(wrong, rb"\Ainstants: [^\n]+\n\Z")
+
+    def test_what_it_says_of_itself(self):
+        self.assertEqual(self.ran("--version"), (0, f"instants {instants.__version__}\n".encode(), b""))
+        for word in ("-h", "--help"):
+            status, said, wrong = self.ran(word)
+            self.assertEqual((status, wrong), (0, b""))
+            self.assertIn(b"python3 -m instants TARGET ASSUMED LIMIT SOURCE... < LINES", said)
+
+    def test_a_run_that_fails(self):
+        with open("/dev/full", "wb") as full:
+            for words in (WORDS, ["--version"]):
+                self.assertEqual(self.ran(*words, given=LINE.encode(), stdout=full)[::2], (1, b"instants: writing failed\n"))
+        with open("/dev/null", "wb") as written:
+            self.assertEqual(self.ran(*WORDS, input=None, stdin=written), (1, b"", b"instants: reading failed\n"))
 
 
 class Words(unittest.TestCase):
@@ -155,12 +294,12 @@ class Values(unittest.TestCase):
         lines = [f"{it.isoformat(timespec='microseconds')[:26]}999Z" for it in due]
         for target in ("+00:00", "-00:00", "+23:59", "-05:00"):
             found = instants.datetimes(lines, target=target, sources=["rfc3339"])
-            self.assertEqual(found, due)
+            self.assertTrue(found == due)
             self.assertEqual({it.strftime("%z") for it in found}, {target.replace(":", "").replace("-0000", "+0000")})
         # (faults and years 0 in some of the parts that are read at once, also at their ends)
         for at in (*range(0, 9_990, 1_999), *range(4_000, 5_200, 3)):
             lines[at], due[at] = "0000-01-02T03:04:05Z" if at % 2 else "", None
-        self.assertEqual(instants.datetimes(lines, sources=["rfc3339"]), due)
+        self.assertTrue(instants.datetimes(lines, sources=["rfc3339"]) == due)
         self.assertEqual(instants.datetimes("", sources=["rfc3339"]), [])
 
     def test_datetimes_of_older_versions(self):
@@ -379,6 +518,12 @@ class Parts(unittest.TestCase):
 class Library(unittest.TestCase):
     def test_version(self):
         self.assertEqual(instants.version(), _library.VERSION)
+        self.assertEqual([_library.told(it) for it in (100, 12_345, 999)], ["0.1.0", "1.23.45", "0.9.99"])
+        self.assertEqual(instants.__version__, _library.told(_library.VERSION))
+
+    @unittest.skipUnless(PROJECT.exists(), "the package is tried where it is installed")
+    def test_version_of_the_project(self):
+        self.assertIn(f'version = "{instants.__version__}"', PROJECT.read_text().split("\n"))
 
     def test_another_version(self):
         _library.check_version(_library.VERSION + 1)

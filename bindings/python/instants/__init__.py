@@ -16,15 +16,24 @@ A timeline has the words, which it reads once, for those who ask with one line a
     ...     [timeline.answer(line) for line in lines]
     ['2021-01-02T03:04:05.000000000Z', '2021-01-02T03:04:07.000000000Z', '! component year']
 
-Lines are texts or bytes, one after the other, or one text, one block of bytes or an open file that has them. The shared
+A long file is read block by block:
+
+    >>> for answer in instants.iter([b"2021-01-02T04:04:05Z"], **how):
+    ...     print(answer)
+    2021-01-02T04:04:05.000000000Z
+
+Lines are texts or bytes, one after the other, or one text, one block of bytes or an open file that has them. `python -m
+instants` takes the program's arguments, and answers the lines of standard input. The shared
 library is the file that INSTANTS_LIBRARY names, else that of this package, else `libinstants.so.0` where the system looks.
 """
 
 from ._answers import Answer, Fault
 from ._handle import Refused
-from ._library import GREATEST_LIMIT, LINE_ROOM, version
+from ._library import GREATEST_LIMIT, LINE_ROOM, VERSION, told, version
 from ._lines import Line, Lines
-from ._timeline import Timeline, answer_bytes, answers, datetimes, parse, to_datetime64
+from ._timeline import Timeline, answer_bytes, answers, datetimes, iter, parse, to_datetime64
+
+__version__ = told(VERSION)
 
 __all__ = [
     "GREATEST_LIMIT",
@@ -35,9 +44,11 @@ __all__ = [
     "Lines",
     "Refused",
     "Timeline",
+    "__version__",
     "answer_bytes",
     "answers",
     "datetimes",
+    "iter",
     "parse",
     "to_datetime64",
     "version",

@@ -35,9 +35,9 @@ class Fault(ValueError):
         return Fault, (self.place, self.line, self.fault)
 
 
-def fault_at(stream: bytes, place: int, fault: str) -> Fault:
-    """Returns the fault of the line at a place of a stream."""
-    return Fault(place, stream.split(b"\n", place + 1)[place], fault)
+def fault_at(stream: bytes, place: int, fault: str, before: int = 0) -> Fault:
+    """Returns the fault of the line at a place of a stream, before which other lines were read."""
+    return Fault(before + place, stream.split(b"\n", place + 1)[place], fault)
 
 
 def raise_first(stream: bytes, texts: list[str]) -> None:

@@ -2,12 +2,16 @@
 
 from __future__ import annotations
 
-from typing import IO, Any, Iterable, NamedTuple, Union
+import io
+import itertools
+from typing import IO, Any, Iterable, Iterator, NamedTuple, Union
 
 Line = Union[str, bytes, bytearray, memoryview]
 # One text, or one block of bytes, whose lines end in line feeds; a file that is open for reading; or one line after the other.
 Lines = Union[Line, IO[str], IO[bytes], Iterable[Line]]
 LINE = (str, bytes, bytearray, memoryview)
+# What is read at once where lines are read block by block: so much of a file, so many lines of another iterable.
+BLOCK, BLOCK_LINES = 1 << 17, 1024
 
 
 class Stream(NamedTuple):
@@ -49,6 +53,37 @@ def _stream_of_list(lines: list[Any]) -> Stream:
     if stream.count(b"\n") != len(lines):
         stream = b"".join(line_of(line) + b"\n" for line in lines)
     return Stream(stream, len(lines))
+
+
+def blocks_of(lines: Lines) -> Iterator[Stream]:
+    """Reads lines block by block, and no block before it is asked for; of a pipe a block is what is there."""
+    if hasattr(lines, "read"):
+        return map(whole_stream, _blocks_of_file(lines))
+    if isinstance(lines, LINE):
+        return map(whole_stream, _blocks_of_file(io.BytesIO(bytes_of(lines))))
+    return _blocks_of_iterable(iter(lines))
+
+
+def _blocks_of_file(file: Any) -> Iterator[bytes]:
+    """Yields the bytes of a file in blocks of whole lines."""
+    # (where a file has both, `read` waits until a block is full)
+    read, begun = getattr(file, "read1", file.read), []
+    while block := read(BLOCK):
+        text = bytes_of(block)
+        end = text.rfind(b"\n") + 1
+        begun.append(text[:end] if end else text)
+        if end:
+            yield b"".join(begun)
+            begun = [text[end:]]
+    if block is None:
+        raise BlockingIOError("a file whose reads do not wait has nothing to read")
+    if rest := b"".join(begun):
+        yield rest
+
+
+def _blocks_of_iterable(lines: Iterator[Any]) -> Iterator[Stream]:
+    while block := list(itertools.islice(lines, BLOCK_LINES)):
+        yield _stream_of_list(block)
 
 
 def line_of(line: Any) -> bytes:

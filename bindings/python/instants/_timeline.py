@@ -5,13 +5,13 @@ from __future__ import annotations
 import functools
 from datetime import datetime
 from types import TracebackType
-from typing import TYPE_CHECKING, Any, Iterable
+from typing import TYPE_CHECKING, Any, Iterable, Iterator
 
 from ._answers import Answer, datetimes_of, fault_at, may_lack_datetimes, raise_first, raise_first_without_datetime
 from ._arrays import moments_of, raise_first_missing
 from ._handle import Handle, listed
 from ._library import GREATEST_LIMIT
-from ._lines import Line, Lines, line_of, stream_of, whole_stream
+from ._lines import Line, Lines, Stream, blocks_of, line_of, stream_of, whole_stream
 
 if TYPE_CHECKING:
     from ._arrays import Moments
@@ -74,6 +74,14 @@ class Timeline:
             raise_first(stream.text, texts)
         return texts
 
+    def iter(self, lines: Lines, *, raising: bool = False) -> Iterator[str]:
+        """Returns the same answers one after the other. Lines are read block by block, as answers are asked for, so a file may
+        be longer than memory; of a pipe a block is what is there. With `raising` the fault comes after the answers before it.
+
+        An iterator has its answers also where the timeline is closed meanwhile.
+        """
+        return _iterated(self._open(), blocks_of(lines), raising)
+
     def parse(self, lines: Lines, *, raising: bool = False) -> list[Answer]:
         """Returns the same answers as values, which tell date-times from faults: `for text, fault in timeline.parse(..)`."""
         return [Answer(it, it[2:] if it[0] == "!" else None) for it in self.answers(lines, raising=raising)]
@@ -102,6 +110,20 @@ class Timeline:
         return moments
 
 
+def _iterated(handle: Handle, blocks: Iterator[Stream], raising: bool) -> Iterator[str]:
+    before = 0
+    for stream in blocks:
+        answers = handle.answer(stream).decode("ascii")
+        texts = answers.split("\n")
+        texts.pop()
+        if raising and "!" in answers:
+            place = next(place for place, text in enumerate(texts) if text[0] == "!")
+            yield from texts[:place]
+            raise fault_at(stream.text, place, texts[place][2:], before)
+        yield from texts
+        before += len(texts)
+
+
 def _made(target: str, sources: tuple[str, ...], assumed: str, limit: int | None) -> Timeline:
     return Timeline(target=target, sources=sources, assumed=assumed, limit=limit)
 
@@ -124,6 +146,13 @@ def answers(
 ) -> list[str]:
     """Returns what `Timeline.answers` does; the words that were given last stay read."""
     return _timeline(target, sources, assumed, limit).answers(lines, raising=raising)
+
+
+def iter(
+    lines: Lines, *, target: str, sources: Iterable[str], assumed: str = "-", limit: int | None = None, raising: bool = False
+) -> Iterator[str]:
+    """Returns what `Timeline.iter` does; the words that were given last stay read."""
+    return _timeline(target, sources, assumed, limit).iter(lines, raising=raising)
 
 
 def parse(
