@@ -23,7 +23,8 @@ those that were built last; where they are not, or are older than their sources,
 - Python: `to_datetime64` of the same lines, against the program's answers; `datetimes` takes no longer than ciso8601 with
   `astimezone`; the tests of `bindings/python`, by Debian's Python, which has numpy and pandas where their packages are there; its
   types, by `mypy --strict`; the same lines by its calls, by `python3 -m instants`, and one by one by a timeline; `pip install`, without a network, into an environment of its own,
-  where the package answers with no variable set; and what is said where there is no library, or one of another version.
+  where the package answers with no variable set; the wheel's platform, by the versions that its library needs; the archive of the
+  sources, with a library and without one; and what is said where there is no library, or one of another version.
 - SQLite: `bindings/sqlite/instant.c` answers the lines that are text as the program does; the answers are the key of a table,
   of an index that SQLite uses, and of generated columns, also where the schema is not trusted; bad calls are errors; words
   that stay from row to row, and words that change, are answered alike; all of it on 2,000 lines under valgrind.
@@ -324,12 +325,41 @@ def try_library_of_python(library):
         tell_refused_library("a library of another version", made, b"is of version 2.0.0, and this package is of 0.1.0")
 
 
+def try_wheel(library, pip, places):
+    """Tries the wheel's platform, by what the library in it needs of the C library."""
+    told = ran(["objdump", "-p", SHARED])[1].decode()
+    needed, versions = re.findall(r"NEEDED +(\S+)", told), re.findall(r"GLIBC_([\d.]+)", told)
+    newest = max((tuple(map(int, it.split("."))) for it in versions), default=(0,))
+    report(f"Python: the library needs {needed} of version {newest}", needed == ["libc.so.6"] and (0,) < newest <= (2, 17), told)
+    command = [*pip, "wheel", "--no-index", "--no-cache-dir", "--no-deps", "--wheel-dir", library.room, BINDINGS / "python"]
+    if tell_run("Python: pip wheel", command, env=places, cwd=library.room):
+        made = [it.name for it in library.room.glob("*.whl")]
+        report("Python: the wheel's platform", made == ["instants-0.1.0-py3-none-manylinux2014_x86_64.whl"], f"{made}")
+
+
+def try_archive_of_sources(library, pip, places):
+    """Tries the archive of the package's sources where there is no library, and with one that is named."""
+    code = "import sys, wheel_of_package; print(wheel_of_package.build_sdist(sys.argv[1]))"
+    status, made, wrong = ran([PYTHON, "-B", "-c", code, library.room], cwd=BINDINGS / "python")
+    if not report("Python: the archive of the sources", status == 0, wrong.decode(errors="replace")):
+        return
+    install = [*pip, "install", "--no-index", "--no-cache-dir", "--disable-pip-version-check", library.room / made.decode().strip()]
+    status, said, wrong = ran(install, env=places, cwd=library.room)
+    told = (said + wrong).decode(errors="replace")
+    is_sentence = "instants: the package needs its library: " in told and "Traceback" not in told
+    report("Python: pip install of the sources without a library", status != 0 and is_sentence, told)
+    tell_run("Python: pip install of the sources", install, env={**places, "INSTANTS_LIBRARY": str(SHARED)}, cwd=library.room)
+
+
 def try_pip(library):
     """Tries whether pip installs the package without a network."""
     room, places = library.room / "venv", {it: text for it, text in os.environ.items() if it not in ("INSTANTS_LIBRARY", "PYTHONPATH")}
     if not tell_run("Python: an environment", [PYTHON, "-m", "venv", room]):
         return
-    install = [room / "bin" / "pip", "install", "--no-index", "--disable-pip-version-check", BINDINGS / "python"]
+    pip = [room / "bin" / "pip"]
+    try_wheel(library, pip, places)
+    try_archive_of_sources(library, pip, places)
+    install = [*pip, "install", "--no-index", "--disable-pip-version-check", "--force-reinstall", BINDINGS / "python"]
     if tell_run("Python: pip install", install, env=places, cwd=library.room):
         code = "import instants, sys; sys.stdout.buffer.write(instants.answer_bytes(sys.stdin.buffer.read(), sys.argv[1:]))"
         status, said, wrong = ran([room / "bin" / "python", "-c", code, *WORDS], library.input, env=places, cwd=library.room)

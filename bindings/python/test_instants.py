@@ -1,17 +1,23 @@
 """Tries the package where it answers, and where it refuses."""
 
 import array
+import base64
 import doctest
+import email
+import hashlib
 import io
 import itertools
 import os
 import pathlib
 import pickle
+import shutil
 import subprocess
 import sys
+import tarfile
 import tempfile
 import threading
 import unittest
+import zipfile
 from collections import Counter
 from datetime import datetime, timedelta, timezone
 from unittest import mock
@@ -513,6 +519,104 @@ class Parts(unittest.TestCase):
             with self.assertRaises(subprocess.CalledProcessError):
                 dask.answer_part(str(file), dask.Part(0, 2), ["false"], folder)
             self.assertEqual(len([it for it in os.listdir(folder) if it.isdigit()]), 1)
+
+
+@unittest.skipUnless(PROJECT.exists(), "the package is tried where it is installed")
+class Packed(unittest.TestCase):
+    """The wheel and the archive of the sources."""
+
+    def setUp(self):
+        import wheel_of_package
+
+        self.maker, self.folder = wheel_of_package, tempfile.TemporaryDirectory()
+        self.addCleanup(self.folder.cleanup)
+        self.room = pathlib.Path(self.folder.name)
+
+    def wheel(self, named):
+        """Makes a wheel, with a library that the variable names, or without the variable; returns its name and its files."""
+        with mock.patch.dict(os.environ):
+            os.environ.pop("INSTANTS_LIBRARY", None)
+            os.environ.update({} if named is None else {"INSTANTS_LIBRARY": str(named)})
+            made = self.maker.build_wheel(str(self.room))
+        with zipfile.ZipFile(self.room / made) as wheel:
+            return made, {it: wheel.read(it) for it in wheel.namelist()}
+
+    def library(self, text):
+        file = self.room / "library"
+        file.write_bytes(text)
+        return file
+
+    def test_a_library_in_it(self):
+        made, files = self.wheel(self.library(b"\0GLIBC_2.14\0GLIBC_2.2.5\0"))
+        self.assertEqual(made, f"instants-{instants.__version__}-py3-none-manylinux2014_x86_64.whl")
+        self.assertIn(b"\0GLIBC_2.14\0", files["instants/libinstants.so.0"])
+        about = f"instants-{instants.__version__}.dist-info"
+        self.assertIn(b"Tag: py3-none-manylinux2014_x86_64\n", files[f"{about}/WHEEL"])
+        self.assertIn(b"Apache License", files[f"{about}/LICENSE"])
+        self.assertIn(b"Copyright", files[f"{about}/NOTICE"])
+        self.assertIn("instants/__main__.py", files)
+        recorded = dict(it.split(",", 1) for it in files.pop(f"{about}/RECORD").decode().splitlines())
+        self.assertEqual(recorded.pop(f"{about}/RECORD"), ",")
+        for name, text in files.items():
+            digest = base64.urlsafe_b64encode(hashlib.sha256(text).digest()).decode().rstrip("=")
+            self.assertEqual(recorded.pop(name), f"sha256={digest},{len(text)}")
+        self.assertEqual(recorded, {})
+
+    def test_its_platform(self):
+        for versions, platform in (
+            (["2.2.5", "2.14", "2.17"], "manylinux2014_x86_64"),
+            (["2.2.5", "2.18"], "linux_x86_64"),
+            (["2.14", "PRIVATE"], "linux_x86_64"),
+            (["2.14", "ABI_DT_RELR"], "linux_x86_64"),
+            (["3.0"], "linux_x86_64"),
+            ([], "linux_x86_64"),
+        ):
+            text = b"\x7fELF" + b"".join(b"\0GLIBC_%s" % it.encode() for it in versions) + b"\0"
+            self.assertEqual(self.maker.platform_of(text), platform, versions)
+
+    def test_no_library_in_it(self):
+        about, name = f"instants-{instants.__version__}.dist-info", f"instants-{instants.__version__}-py3-none-any.whl"
+        made, files = self.wheel("")
+        self.assertEqual((made, "instants/libinstants.so.0" in files, f"{about}/LICENSE" in files), (name, False, False))
+        with mock.patch.object(self.maker, "BUILT", self.room / "none"), mock.patch.object(self.maker, "is_on_system", lambda: True):
+            made, files = self.wheel(None)
+        self.assertEqual((made, "instants/libinstants.so.0" in files, f"{about}/LICENSE" in files), (name, False, True))
+
+    def test_no_library_at_all(self):
+        with mock.patch.object(self.maker, "BUILT", self.room / "none"), mock.patch.object(self.maker, "LIBRARY", "libnone.so.0"):
+            with self.assertRaises(SystemExit) as ended:
+                self.wheel(None)
+        self.assertRegex(str(ended.exception.code), r"\Ainstants: the package needs its library: .*INSTANTS_LIBRARY\Z")
+        with self.assertRaises(SystemExit) as ended:
+            self.wheel(self.room / "none")
+        self.assertRegex(str(ended.exception.code), r"\Ainstants: INSTANTS_LIBRARY names .*/none, which is no file in ")
+
+    def test_what_it_says_of_itself(self):
+        said = email.message_from_string(self.maker.metadata())
+        self.assertEqual((said["Name"], said["Version"], said["Author"]), ("instants", instants.__version__, "The Fuzhelik authors"))
+        self.assertIn("License :: OSI Approved :: Apache Software License", said.get_all("Classifier"))
+        self.assertIn("# instants", said.get_payload())
+
+    def test_the_same_bytes(self):
+        made = self.maker.build_sdist(str(self.room))
+        first = (self.room / made).read_bytes()
+        copy = self.room / "copy"
+        shutil.copytree(PROJECT.parent, copy)
+        for name, text in self.maker.licence().items():
+            (copy / name).write_bytes(text)
+        for file in copy.rglob("*"):
+            if file.is_file():
+                os.utime(file, (1, 1))
+                file.chmod(0o600)
+        with mock.patch.object(self.maker, "HERE", copy), mock.patch("time.time", lambda: 5):
+            self.assertEqual((self.room / self.maker.build_sdist(str(self.room))).read_bytes(), first)
+        with tarfile.open(self.room / made) as archive:
+            names = [it.name for it in archive.getmembers()]
+            self.assertEqual({(it.uid, it.uname, it.mode, it.mtime) for it in archive.getmembers()}, {(0, "", 0o644, 315_532_800)})
+        top = f"instants-{instants.__version__}"
+        wanted = {f"{top}/{it}" for it in ("PKG-INFO", "LICENSE", "NOTICE", "pyproject.toml", "wheel_of_package.py", "instants/__main__.py")}
+        self.assertLessEqual(wanted, set(names))
+        self.assertEqual(len(names), len(set(names)))
 
 
 class Library(unittest.TestCase):
