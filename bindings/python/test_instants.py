@@ -83,6 +83,24 @@ class Lines(unittest.TestCase):
                     self.assertEqual(answers(lines), [ANSWER, NO_YEAR, ANSWER])
         self.assertEqual(answers(io.BytesIO(LINE.encode())), [ANSWER])
 
+    def test_bytes_that_are_no_text(self):
+        """A text has them as Python does in names of files and in arguments."""
+        how_raised = how(raising=True)
+        with instants.Timeline(**how()) as timeline:
+            for call in (
+                lambda: instants.answers("\udcff\udc80", **how_raised),
+                lambda: instants.answers(io.StringIO("\udcff\udc80"), **how_raised),
+                lambda: instants.answers(["\udcff\udc80"], **how_raised),
+                lambda: instants.answers(["\udcff\udc80\n"], **how_raised),
+                lambda: instants.answers(iter(["\udcff\udc80", b""]), **how_raised),
+                lambda: list(instants.iter("\udcff\udc80", **how_raised)),
+                lambda: list(instants.iter(io.StringIO("\udcff\udc80"), **how_raised)),
+                lambda: timeline.answer("\udcff\udc80", raising=True),
+            ):
+                with self.assertRaises(instants.Fault) as caught:
+                    call()
+                self.assertEqual(caught.exception.line, b"\xff\x80")
+
     def test_a_line_feed(self):
         self.assertEqual(answers([LINE + "\n", "\n"]), [ANSWER, NO_YEAR])
         with self.assertRaises(ValueError):
@@ -383,6 +401,25 @@ class Timelines(unittest.TestCase):
             del handle
             self.assertEqual(close.call_count, 1)
 
+    def test_the_text_of_the_words(self):
+        """The library reads the text of the words as long as the handle is open."""
+        given_back = []
+
+        class Text(bytes):
+            def __del__(self):
+                given_back.append(bytes(self))
+
+        def close(at):
+            self.assertEqual(given_back, [])
+            closed(at)
+
+        closed, text = _handle.LIBRARY.instants_close, "\n".join(WORDS).encode()
+        with mock.patch.object(_handle, "joined", lambda words: Text(text)), mock.patch.object(_handle.LIBRARY, "instants_close", close):
+            handle = _handle.Handle(WORDS)
+            self.assertEqual((handle.answer_line(LINE.encode()), given_back), (ANSWER, []))
+            del handle
+        self.assertEqual(given_back, [text])
+
     def test_threads(self):
         lines, ended = [LINE, "", LINE] * 100, []
 
@@ -459,6 +496,16 @@ class Arrays(unittest.TestCase):
         outside = ["1677-09-21T00:12:43.145224191Z", "2262-04-11T23:47:16.854775808Z", "0000-01-01T00:00:00Z", "9999-12-31T00:00:00Z"]
         self.assertTrue(numpy.isnat(self.read(outside)).all())
 
+    def test_each_end_alone(self):
+        """No other line has the ends looked at."""
+        within = ["1677-09-21T00:12:43.145224193", "1677-09-21T00:12:44.000000000", "2262-04-11T23:47:15.999999999", "2262-04-11T23:47:16.854775807"]
+        for moment in within:
+            self.assertEqual([str(it) for it in self.read([moment + "Z"])], [moment])
+        for moment in ("1677-09-21T00:12:42.999999999Z", "1677-09-21T00:12:43Z", "1677-09-21T00:12:43.145224191Z"):
+            self.assertTrue(numpy.isnat(self.read([moment])).all(), moment)
+        for moment in ("2262-04-11T23:47:16.854775808Z", "2262-04-11T23:47:16.999999999Z", "2262-04-11T23:47:17Z", "2262-04-11T23:47:18Z"):
+            self.assertTrue(numpy.isnat(self.read([moment])).all(), moment)
+
     def test_a_limit(self):
         found = self.read([LINE, LINE + "0" * 80, "\n"], limit=50)
         self.assertEqual([bool(it) for it in numpy.isnat(found)], [False, True, True])
@@ -519,6 +566,46 @@ class Parts(unittest.TestCase):
             with self.assertRaises(subprocess.CalledProcessError):
                 dask.answer_part(str(file), dask.Part(0, 2), ["false"], folder)
             self.assertEqual(len([it for it in os.listdir(folder) if it.isdigit()]), 1)
+
+    def test_a_part_is_whole_when_it_is_there(self):
+        with tempfile.TemporaryDirectory() as folder:
+            file, parts = pathlib.Path(folder, "lines"), pathlib.Path(folder, "parts")
+            file.write_text("a\n")
+            parts.mkdir()
+            # (the program says what is there while it runs, and once more when it has written all of it)
+            made = dask.answer_part(str(file), dask.Part(0, 2), ["sh", "-c", f"ls {parts}; echo; ls {parts}"], str(parts))
+            begun, ended = pathlib.Path(made).read_text().split("\n\n")
+            self.assertEqual(begun.strip(), ended.strip())
+            self.assertRegex(begun, rf"\A{'0' * 20}\..*\.{os.getpid()}\Z")
+            self.assertEqual(os.listdir(parts), ["0" * 20])
+
+    def answered(self, folder, **others):
+        """Answers a file of three parts, whose program is `cat`, by a client that is no cluster."""
+        client = mock.Mock(map=lambda call, parts, pure: [call(it) for it in parts], gather=lambda made: made)
+        file = pathlib.Path(folder, "lines")
+        file.write_text("a\nb\nc\n")
+        dask.answer_file(client, str(file), ["cat"], str(pathlib.Path(folder, "output")), 2, **others)
+
+    def test_an_output_is_whole_when_it_is_there(self):
+        copied, seen, made = shutil.copyfileobj, [], set()
+
+        def copy(part, whole, size):
+            seen.append(sorted(os.listdir(folder)))
+            made.add(os.fstat(whole.fileno()).st_ino)
+            copied(part, whole, size)
+
+        with tempfile.TemporaryDirectory() as folder, mock.patch.object(dask.shutil, "copyfileobj", copy):
+            self.answered(folder)
+            self.assertEqual(seen, [["lines", "output.parts"]] * 3)
+            self.assertEqual(pathlib.Path(folder, "output").read_text(), "a\nb\nc\n")
+            self.assertEqual(made, {os.stat(f"{folder}/output").st_ino})
+            self.assertEqual(sorted(os.listdir(folder)), ["lines", "output"])
+
+    def test_an_output_that_cannot_be_written(self):
+        with tempfile.TemporaryDirectory() as folder:
+            with mock.patch.object(dask.shutil, "copyfileobj", side_effect=OSError("full")), self.assertRaises(OSError):
+                self.answered(folder)
+            self.assertEqual(os.listdir(folder), ["lines"])
 
 
 @unittest.skipUnless(PROJECT.exists(), "the package is tried where it is installed")
