@@ -105,6 +105,8 @@ faults: list[str | None] = [it.fault for it in instants.parse([b"", bytearray()]
 moments: list[datetime | None] = instants.datetimes(["x"], sources=["rfc3339"], assumed="+00:00")
 later: Iterator[str] = instants.iter(open("lines", "rb"), target="+00:00", sources=["rfc3339"], raising=True)
 version: str = instants.__version__
+column: list[str | float | None] = ["x", None, float("nan")]
+instants.to_datetime64(column, sources=["rfc3339"])
 written: bytes = instants.answer_bytes(b"", ["+00:00", "-", "100", "rfc3339"])
 with instants.Timeline(target="+00:00", sources=["rfc3339"], limit=100) as timeline:
     text: str = timeline.answer(b"x", raising=False)

@@ -256,7 +256,8 @@ class Program(unittest.TestCase):
 class Words(unittest.TestCase):
     def test_refused(self):
         for words, sentence in (
-            ({"sources": []}, "instants: usage: instants TARGET ASSUMED LIMIT SOURCE..."),
+            ({"sources": []}, "instants: there are no sources: name one at least, as in sources=['rfc3339']"),
+            ({"sources": iter(())}, "instants: there are no sources: name one at least, as in sources=['rfc3339']"),
             ({"target": "+25:00"}, "instants: the target offset must be +HH:MM or -HH:MM"),
             ({"sources": ["rfc3339\0"]}, "instants: source 1 is not a known source with its description"),
             ({"sources": ["v1", "[day]\n"]}, "instants: a word has a line feed"),
@@ -506,6 +507,23 @@ class Arrays(unittest.TestCase):
         for moment in ("2262-04-11T23:47:16.854775808Z", "2262-04-11T23:47:16.999999999Z", "2262-04-11T23:47:17Z", "2262-04-11T23:47:18Z"):
             self.assertTrue(numpy.isnat(self.read([moment])).all(), moment)
 
+    def test_lines_that_are_missing(self):
+        nan = float("nan")
+        for missing in (None, nan, numpy.float64("nan"), *([pandas.NA, pandas.NaT] if pandas else [])):
+            for lines in ([LINE, missing, LINE], [missing, LINE.encode(), missing], [missing], iter([LINE + "\n", missing, "x"])):
+                lines = list(lines)
+                due = [it is missing or it == "x" for it in lines]
+                self.assertEqual([bool(it) for it in numpy.isnat(self.read(iter(lines)))], due)
+            self.assertEqual([str(it) for it in self.read([missing, LINE], raising=True)], ["NaT", ANSWER[:-1]])
+            with self.assertRaisesRegex(instants.Fault, "line 3, '': component year"):
+                self.read([missing, LINE, "", missing, "x"], raising=True)
+        for lines in ([5], [LINE, 5.0], [None, [LINE]], [None, float("inf")], None, 5, nan):
+            with self.assertRaises(TypeError):
+                self.read(lines)
+        given = [LINE, None]
+        self.read(given)
+        self.assertEqual(given, [LINE, None])
+
     def test_a_limit(self):
         found = self.read([LINE, LINE + "0" * 80, "\n"], limit=50)
         self.assertEqual([bool(it) for it in numpy.isnat(found)], [False, True, True])
@@ -526,10 +544,11 @@ class Arrays(unittest.TestCase):
 
     @unittest.skipUnless(pandas, "pandas is missing: Debian has it as python3-pandas")
     def test_pandas(self):
-        frame = pandas.DataFrame({"line": [LINE, "yesterday"]})
-        frame["moment"] = self.read(frame["line"])
-        self.assertEqual(list(frame["moment"].isna()), [False, True])
-        self.assertEqual(frame["moment"][0].tz_localize("UTC"), pandas.Timestamp(LINE))
+        for kind in ("object", "string", "category"):
+            frame = pandas.DataFrame({"line": pandas.Series([LINE, "yesterday", None, float("nan"), LINE], dtype=kind)})
+            frame["moment"] = self.read(frame["line"])
+            self.assertEqual(list(frame["moment"].isna()), [False, True, True, True, False])
+            self.assertEqual(frame["moment"][4].tz_localize("UTC"), pandas.Timestamp(LINE))
 
 
 class Parts(unittest.TestCase):

@@ -9,7 +9,11 @@ from typing import IO, Any, Iterable, Iterator, NamedTuple, Union
 Line = Union[str, bytes, bytearray, memoryview]
 # One text, or one block of bytes, whose lines end in line feeds; a file that is open for reading; or one line after the other.
 Lines = Union[Line, IO[str], IO[bytes], Iterable[Line]]
+# The same, or a column in which lines may be missing.
+Column = Union[Lines, Iterable[Union[Line, float, None]]]
 LINE = (str, bytes, bytearray, memoryview)
+# The types of what stands in a column for a line that is missing, beside the number NaN: None, and what pandas has.
+MISSING = ("NoneType", "NAType", "NaTType")
 # What is read at once where lines are read block by block: so much of a file, so many lines of another iterable.
 BLOCK, BLOCK_LINES = 1 << 17, 1024
 
@@ -32,6 +36,27 @@ def stream_of(lines: Lines) -> Stream:
     if isinstance(whole, LINE):
         return whole_stream(bytes_of(whole))
     return _stream_of_list(list(whole))
+
+
+def column_of(lines: Column) -> tuple[Stream, list[int]]:
+    """Returns the bytes of lines, and the places of those that are missing, as in a column of pandas: there the bytes have an
+    empty line."""
+    whole: Any = lines
+    if hasattr(whole, "read") or isinstance(whole, LINE):
+        return stream_of(whole), []
+    listed = list(whole)
+    try:
+        return _stream_of_list(listed), []
+    except TypeError:
+        missing = [place for place, line in enumerate(listed) if is_missing(line)]
+    for place in missing:
+        listed[place] = b""
+    return _stream_of_list(listed), missing
+
+
+def is_missing(line: object) -> bool:
+    """Returns whether something stands for a line that is missing."""
+    return type(line).__name__ in MISSING or (isinstance(line, float) and line != line)
 
 
 def whole_stream(text: bytes) -> Stream:

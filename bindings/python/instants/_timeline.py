@@ -9,9 +9,9 @@ from typing import TYPE_CHECKING, Any, Iterable, Iterator
 
 from ._answers import Answer, datetimes_of, fault_at, may_lack_datetimes, raise_first, raise_first_without_datetime
 from ._arrays import moments_of, raise_first_missing
-from ._handle import Handle, listed
+from ._handle import Handle, Refused, listed
 from ._library import GREATEST_LIMIT
-from ._lines import Line, Lines, Stream, blocks_of, line_of, stream_of, whole_stream
+from ._lines import Column, Line, Lines, Stream, blocks_of, column_of, line_of, stream_of, whole_stream
 
 if TYPE_CHECKING:
     from ._arrays import Moments
@@ -30,6 +30,8 @@ class Timeline:
 
     def __init__(self, *, target: str, sources: Iterable[str], assumed: str = "-", limit: int | None = None) -> None:
         words = [target, assumed, str(GREATEST_LIMIT if limit is None else limit), *listed(sources, "the sources")]
+        if len(words) == 3:
+            raise Refused("instants: there are no sources: name one at least, as in sources=['rfc3339']")
         self._words = target, tuple(words[3:]), assumed, limit
         self._handle: Handle | None = Handle(listed(words, "the words"))
 
@@ -98,15 +100,16 @@ class Timeline:
             raise_first_without_datetime(stream.text, answers.split("\n")[:-1])
         return datetimes_of(answers)
 
-    def to_datetime64(self, lines: Lines, *, raising: bool = False) -> Moments:
+    def to_datetime64(self, lines: Column, *, raising: bool = False) -> Moments:
         """Returns the moments of lines, in UTC, as an array of `datetime64[ns]`, with NaT for each line that has none.
 
         That type reaches from 1677-09-21T00:12:43.145224193 to 2262-04-11T23:47:16.854775807; a moment before or after is NaT.
+        Where a line is missing, as None or NaN in a column of pandas, there is NaT, which raises nothing.
         """
-        stream, handle = stream_of(lines), self._open()
+        (stream, missing), handle = column_of(lines), self._open()
         moments = moments_of(handle.moments(stream))
         if raising:
-            raise_first_missing(handle, stream.text, moments)
+            raise_first_missing(handle, stream.text, moments, missing)
         return moments
 
 
@@ -171,7 +174,7 @@ def datetimes(
 
 
 def to_datetime64(
-    lines: Lines, *, sources: Iterable[str], assumed: str = "-", limit: int | None = None, raising: bool = False
+    lines: Column, *, sources: Iterable[str], assumed: str = "-", limit: int | None = None, raising: bool = False
 ) -> Moments:
     """Returns what `Timeline.to_datetime64` does; the words that were given last stay read."""
     return _timeline("+00:00", sources, assumed, limit).to_datetime64(lines, raising=raising)
