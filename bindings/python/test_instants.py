@@ -2,8 +2,10 @@
 
 import array
 import base64
+import codecs
 import doctest
 import email
+import gzip
 import hashlib
 import io
 import itertools
@@ -159,6 +161,19 @@ class Iterated(unittest.TestCase):
                     self.assertLess(os.lseek(lines.fileno(), 0, os.SEEK_CUR), 200_000)
                     self.assertEqual(Counter(found), {ANSWER: 19_999})
 
+    def test_files_that_decode(self):
+        with tempfile.TemporaryDirectory() as folder:
+            file = pathlib.Path(folder, "lines")
+            file.write_text(f"{LINE}\n" * 20_000, encoding="utf-16")
+            with codecs.open(file, encoding="utf-16") as lines, open(file, encoding="utf-16") as others:
+                self.assertEqual(Counter(self.iterated(lines)), {ANSWER: 20_000})
+                self.assertEqual(Counter(self.iterated(others)), {ANSWER: 20_000})
+            with gzip.open(file, "wb") as packed:
+                packed.write(f"{LINE}\n".encode() * 20_000)
+            with gzip.open(file) as lines, gzip.open(file, "rt") as others:
+                self.assertEqual(Counter(self.iterated(lines)), {ANSWER: 20_000})
+                self.assertEqual(Counter(self.iterated(others)), {ANSWER: 20_000})
+
     def test_no_more_is_read_than_is_asked_for(self):
         given = iter(range(10_000))
         found = self.iterated(LINE for _ in given)
@@ -208,6 +223,12 @@ class Iterated(unittest.TestCase):
             self.iterated(5)
         with self.assertRaises(instants.Refused):
             self.iterated([LINE], target="+25:00")
+
+    def test_the_name(self):
+        names = {}
+        exec("from instants import *", names)
+        self.assertIs(names["answers"], instants.answers)
+        self.assertNotIn("iter", names)
 
     def test_a_timeline(self):
         with instants.Timeline(**how()) as timeline:

@@ -22,16 +22,19 @@ A long file is read block by block:
     ...     print(answer)
     2021-01-02T04:04:05.000000000Z
 
-Lines are texts or bytes, one after the other, or one text, one block of bytes or an open file that has them. `python -m
-instants` takes the program's arguments, and answers the lines of standard input. The shared
-library is the file that INSTANTS_LIBRARY names, else that of this package, else `libinstants.so.0` where the system looks.
+Lines are texts or bytes, one after the other, or one text, one block of bytes or an open file that has them. As a command,
+`python -m instants`, the package is the program `instants`. The shared library is the file that INSTANTS_LIBRARY names, else
+that of this package, else `libinstants.so.0` where the system looks.
 """
 
 from ._answers import Answer, Fault
 from ._handle import Refused
 from ._library import GREATEST_LIMIT, LINE_ROOM, VERSION, told, version
 from ._lines import Line, Lines
-from ._timeline import Timeline, answer_bytes, answers, datetimes, iter, parse, to_datetime64
+from ._timeline import Timeline, answer_bytes, answers, datetimes, parse, to_datetime64
+
+# (not among the names that are imported by a star, where it would hide Python's own)
+from ._timeline import iter as iter
 
 __version__ = told(VERSION)
 
@@ -48,7 +51,6 @@ __all__ = [
     "answer_bytes",
     "answers",
     "datetimes",
-    "iter",
     "parse",
     "to_datetime64",
     "version",

@@ -91,8 +91,8 @@ def blocks_of(lines: Lines) -> Iterator[Stream]:
 
 def _blocks_of_file(file: Any) -> Iterator[bytes]:
     """Yields the bytes of a file in blocks of whole lines."""
-    # (where a file has both, `read` waits until a block is full)
-    read, begun = getattr(file, "read1", file.read), []
+    # (of a pipe `read` waits until a block is full; a reader that decodes may have the other call of what it reads)
+    read, begun = file.read1 if isinstance(file, io.BufferedIOBase) else file.read, []
     while block := read(BLOCK):
         text = bytes_of(block)
         end = text.rfind(b"\n") + 1
