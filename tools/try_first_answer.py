@@ -8,9 +8,9 @@ through one trial of the program (`rt try --cases`) and through the proved progr
 and their statuses have to be the same. Then, in copies of the sources:
 
 - a call without arguments gives the usage at once;
-- the first call answers within the time that other work of a fixed size takes here many times over, before it or after, which is
-  a minute on four quiet processors of 2.5 GHz; it says on standard error first that it builds a trial, then that this is not
-  proved; wrong words get their sentence and status 2;
+- the first call answers within 150 times as long as a piece of work of a fixed size takes here, just before or after, which is
+  a minute on processors of 2.5 GHz that have nothing else to do; it says on standard error first that it builds a trial, then
+  that this is not proved; wrong words get their sentence and status 2;
 - a terminal and an input that is too long are refused, with the command that builds the proved program;
 - a pipe that is silent for five seconds loses nothing;
 - ten calls of `--build` build the program once (this takes as long as a build, unless `rt ci` has kept its proofs);
