@@ -22,9 +22,10 @@ those that were built last; where they are not, or are older than their sources,
   INSTANTS_LIB_DIR names and with that which pkg-config finds; where there is none the build says how to get it.
 - Python: `to_datetime64` of the same lines, against the program's answers; `datetimes` takes no longer than ciso8601 with
   `astimezone`; the tests of `bindings/python`, by Debian's Python, which has numpy and pandas where their packages are there; its
-  types, by `mypy --strict`; the same lines by its calls, by `python3 -m instants`, and one by one by a timeline; `pip install`, without a network, into an environment of its own,
-  where the package answers with no variable set; the wheel's platform, by the versions that its library needs; the archive of the
-  sources, with a library and without one; and what is said where there is no library, or one of another version.
+  types, by `mypy --strict`; the same lines by its calls, by `python3 -m instants`, and one by one by a timeline; `pip install`,
+  without a network, into an environment of its own, where the package answers with no variable set; the wheel's platform, by the
+  versions that its library needs; the archive of the sources, with a library and without one; and what is said where there is no
+  library, or one of another version.
 - SQLite: `bindings/sqlite/instant.c` answers the lines that are text as the program does; the answers are the key of a table,
   of an index that SQLite uses, and of generated columns, also where the schema is not trusted; bad calls are errors; words
   that stay from row to row, and words that change, are answered alike; all of it on 2,000 lines under valgrind.
