@@ -4,7 +4,7 @@
     tools/try_bindings.py [--lines N]
 
 The packages of Debian: binutils gcc g++ valgrind cargo rustc mypy pkg-config python3 python3-venv python3-numpy
-python3-pandas libsqlite3-dev sqlite3. The program and the library are
+python3-pandas python3-ciso8601 libsqlite3-dev sqlite3. The program and the library are
 those that were built last; where they are not, or are older than their sources, they are proved and built first
 (tools/build_program.py, tools/build_library.py).
 
@@ -20,9 +20,12 @@ those that were built last; where they are not, or are older than their sources,
 - Rust: the tests of `bindings/rust`, and its example `answer` as that in C, without the sanitizers. Both crates are packed
   without a network, and what was packed is unpacked and tried outside of the repository, with the library that
   INSTANTS_LIB_DIR names and with that which pkg-config finds; where there is none the build says how to get it.
-- Python: `to_datetime64` of the same lines, against the program's answers; the tests of `bindings/python`, by Debian's Python, which has numpy and pandas where their packages are there; its
-  types, by `mypy --strict`; the same lines by its calls, and one by one by a timeline; `pip install`, without a network, into an environment of its own,
-  where the package answers with no variable set; and what is said where there is no library, or one of another version.
+- Python: `to_datetime64` of the same lines, against the program's answers; `datetimes` takes no longer than ciso8601 with
+  `astimezone`; the tests of `bindings/python`, by Debian's Python, which has numpy and pandas where their packages are there; its
+  types, by `mypy --strict`; the same lines by its calls, by `python3 -m instants`, and one by one by a timeline; `pip install`,
+  without a network, into an environment of its own, where the package answers with no variable set; the wheel's platform, by the
+  versions that its library needs; the archive of the sources, with a library and without one; and what is said where there is no
+  library, or one of another version.
 - SQLite: `bindings/sqlite/instant.c` answers the lines that are text as the program does; the answers are the key of a table,
   of an index that SQLite uses, and of generated columns, also where the schema is not trusted; bad calls are errors; words
   that stay from row to row, and words that change, are answered alike; all of it on 2,000 lines under valgrind.
@@ -32,6 +35,7 @@ The last line counts what passed; the status is 1 where anything failed.
 
 import argparse
 import datetime
+import io
 import os
 import pathlib
 import random
@@ -73,19 +77,42 @@ THREADED = ["-pthread"]
 CALLS = "200000"
 # Lines for valgrind through SQLite, where each is a call of its own.
 FEW = 2_000
+# Moments as `datetime`, by `datetimes` and by ciso8601 in turns: how many times as long the first takes, on lines of RFC 3339.
+RATIO = """
+import sys, time
+from datetime import timezone
+import ciso8601, instants
+lines = open(sys.argv[1], encoding="ascii").read().split("\\n")[:-1]
+timeline, read = instants.Timeline(target="+00:00", sources=["rfc3339"]), ciso8601.parse_datetime
+calls = (lambda: timeline.datetimes(lines), lambda: [read(line).astimezone(timezone.utc) for line in lines])
+taken = ([], [])
+for _ in range(15):
+    for call, rounds in zip(calls, taken):
+        began = time.process_time_ns()
+        call()
+        rounds.append(time.process_time_ns() - began)
+assert calls[0]() == calls[1]()
+print(f"{min(taken[0]) / min(taken[1]):.2f}")
+"""
 # A caller in Python, for its types.
 CALLER = """
 from __future__ import annotations
 from datetime import datetime
+from typing import Iterator
 import instants
 texts: list[str] = instants.answers(open("lines"), target="+00:00", sources=["rfc3339"], limit=100)
 block: list[str] = instants.answers(memoryview(b""), target="+00:00", sources=("rfc3339",), raising=True)
 faults: list[str | None] = [it.fault for it in instants.parse([b"", bytearray()], target="+00:00", sources=["rfc3339"])]
 moments: list[datetime | None] = instants.datetimes(["x"], sources=["rfc3339"], assumed="+00:00")
+later: Iterator[str] = instants.iter(open("lines", "rb"), target="+00:00", sources=["rfc3339"], raising=True)
+version: str = instants.__version__
+column: list[str | float | None] = ["x", None, float("nan")]
+instants.to_datetime64(column, sources=["rfc3339"])
 written: bytes = instants.answer_bytes(b"", ["+00:00", "-", "100", "rfc3339"])
 with instants.Timeline(target="+00:00", sources=["rfc3339"], limit=100) as timeline:
     text: str = timeline.answer(b"x", raising=False)
     texts = timeline.answers(open("lines", "rb"))
+    later = timeline.iter([b"x"])
     faults = [it.fault for it in timeline.parse("x")]
     moments = timeline.datetimes(["x"], raising=True)
 timeline.close()
@@ -301,12 +328,41 @@ def try_library_of_python(library):
         tell_refused_library("a library of another version", made, b"is of version 2.0.0, and this package is of 0.1.0")
 
 
+def try_wheel(library, pip, places):
+    """Tries the wheel's platform, by what the library in it needs of the C library."""
+    told = ran(["objdump", "-p", SHARED])[1].decode()
+    needed, versions = re.findall(r"NEEDED +(\S+)", told), re.findall(r"GLIBC_([\d.]+)", told)
+    newest = max((tuple(map(int, it.split("."))) for it in versions), default=(0,))
+    report(f"Python: the library needs {needed} of version {newest}", needed == ["libc.so.6"] and (0,) < newest <= (2, 17), told)
+    command = [*pip, "wheel", "--no-index", "--no-cache-dir", "--no-deps", "--wheel-dir", library.room, BINDINGS / "python"]
+    if tell_run("Python: pip wheel", command, env=places, cwd=library.room):
+        made = [it.name for it in library.room.glob("*.whl")]
+        report("Python: the wheel's platform", made == ["instants-0.1.0-py3-none-manylinux2014_x86_64.whl"], f"{made}")
+
+
+def try_archive_of_sources(library, pip, places):
+    """Tries the archive of the package's sources where there is no library, and with one that is named."""
+    code = "import sys, wheel_of_package; print(wheel_of_package.build_sdist(sys.argv[1]))"
+    status, made, wrong = ran([PYTHON, "-B", "-c", code, library.room], cwd=BINDINGS / "python")
+    if not report("Python: the archive of the sources", status == 0, wrong.decode(errors="replace")):
+        return
+    install = [*pip, "install", "--no-index", "--no-cache-dir", "--disable-pip-version-check", library.room / made.decode().strip()]
+    status, said, wrong = ran(install, env=places, cwd=library.room)
+    told = (said + wrong).decode(errors="replace")
+    is_sentence = "instants: the package needs its library: " in told and "Traceback" not in told
+    report("Python: pip install of the sources without a library", status != 0 and is_sentence, told)
+    tell_run("Python: pip install of the sources", install, env={**places, "INSTANTS_LIBRARY": str(SHARED)}, cwd=library.room)
+
+
 def try_pip(library):
     """Tries whether pip installs the package without a network."""
     room, places = library.room / "venv", {it: text for it, text in os.environ.items() if it not in ("INSTANTS_LIBRARY", "PYTHONPATH")}
     if not tell_run("Python: an environment", [PYTHON, "-m", "venv", room]):
         return
-    install = [room / "bin" / "pip", "install", "--no-index", "--disable-pip-version-check", BINDINGS / "python"]
+    pip = [room / "bin" / "pip"]
+    try_wheel(library, pip, places)
+    try_archive_of_sources(library, pip, places)
+    install = [*pip, "install", "--no-index", "--disable-pip-version-check", "--force-reinstall", BINDINGS / "python"]
     if tell_run("Python: pip install", install, env=places, cwd=library.room):
         code = "import instants, sys; sys.stdout.buffer.write(instants.answer_bytes(sys.stdin.buffer.read(), sys.argv[1:]))"
         status, said, wrong = ran([room / "bin" / "python", "-c", code, *WORDS], library.input, env=places, cwd=library.room)
@@ -332,10 +388,15 @@ def try_python(library):
     for what, lines in (("a list", library.input.split(b"\n")), ("a block", library.input)):
         listed = instants.answers(lines, target="+00:00", sources=SOURCES, limit=100)
         tell_same(f"Python: {what}", "\n".join([*listed, ""]).encode(), library.answers)
+    listed = instants.iter(io.BytesIO(library.input), target="+00:00", sources=SOURCES, limit=100)
+    tell_same("Python: block by block", "\n".join([*listed, ""]).encode(), library.answers)
+    status, said, wrong = ran([PYTHON, "-B", "-m", "instants", *WORDS], library.input, cwd=BINDINGS / "python")
+    tell_same("Python: as a program", said if status == 0 else wrong, library.answers)
     with instants.Timeline(target="+00:00", sources=SOURCES, limit=100) as timeline:
         listed = [timeline.answer(line) for line in library.input.split(b"\n")]
     tell_same("Python: line by line", "\n".join([*listed, ""]).encode(), library.answers)
     try_arrays(library)
+    try_pace_of_datetimes(library)
     try_library_of_python(library)
     try_pip(library)
 
@@ -354,6 +415,18 @@ def try_arrays(library):
     due = [-(2**63) if it is None or abs(it) >= 2**63 else it for it in nanoseconds]
     found = instants.to_datetime64(library.input, sources=SOURCES, limit=100)
     report("Python: to_datetime64", found.dtype == numpy.dtype("datetime64[ns]") and found.view("int64").tolist() == due)
+
+
+def try_pace_of_datetimes(library):
+    """Tries whether `datetimes` takes longer than ciso8601 does with `astimezone`, in turns."""
+    if ran([PYTHON, "-c", "import ciso8601"])[0]:
+        print("skipped: Python: ciso8601 is missing: Debian has it as python3-ciso8601")
+        return
+    rng, file = random.Random(39), library.room / "rfc3339"
+    file.write_text("".join(f"{bench_lines.rfc3339(rng)}\n" for _ in range(20_000)))
+    status, said, wrong = ran([PYTHON, "-B", "-c", RATIO, file], env={**os.environ, "PYTHONPATH": str(BINDINGS / "python")})
+    told = said.decode().strip() or "no number"
+    report(f"Python: datetimes take {told} of the time of ciso8601", status == 0 and float(told) <= 1, wrong.decode(errors="replace"))
 
 
 def quoted(words):

@@ -8,8 +8,9 @@ through one trial of the program (`rt try --cases`) and through the proved progr
 and their statuses have to be the same. Then, in copies of the sources:
 
 - a call without arguments gives the usage at once;
-- the first call answers within a minute, and says on standard error first that it builds a trial, then that this is not
-  proved; wrong words get their sentence and status 2;
+- the first call answers within 150 times as long as a piece of work of a fixed size takes here, just before or after, which is
+  a minute on processors of 2.5 GHz that have nothing else to do; it says on standard error first that it builds a trial, then
+  that this is not proved; wrong words get their sentence and status 2;
 - a terminal and an input that is too long are refused, with the command that builds the proved program;
 - a pipe that is silent for five seconds loses nothing;
 - ten calls of `--build` build the program once (this takes as long as a build, unless `rt ci` has kept its proofs);
@@ -25,6 +26,7 @@ import pathlib
 import pty
 import re
 import signal
+import statistics
 import subprocess
 import sys
 import tempfile
@@ -43,8 +45,10 @@ MARK = "FUZHELIK_TRIED"
 WORDS = ["+00:00", "-", "100", "rfc3339", "rfc2822"]
 LINES = [b"2021-01-02T03:04:05Z\n", b"Fri, 21 Nov 1997 09:55:06 -0600\n", b"x\n"]
 ANSWERS = b"2021-01-02T03:04:05.000000000Z\n1997-11-21T15:55:06.000000000Z\n! component year\n"
-# A first answer is to come within so many seconds.
-A_MINUTE = 60
+# What each processor does at once to tell the machine's pace: it prints its seconds.
+WORK = "import time; began = time.perf_counter(); sum(it * it % 7 for it in range(3_000_000)); print(time.perf_counter() - began)"
+# A first answer is to come within so many times as long as that takes. A free processor of 2.5 GHz needs some 0.4 seconds for it.
+MOST_PACES = 150
 
 def copy_to(room):
     """Makes a copy of the checkout, as it stands, without what was built; returns its wrapper."""
@@ -87,12 +91,21 @@ def compare_rows(files):
     report(f"a trial answers {len(rows)} rows as the proved program does", not wrong and not tried.returncode, "; ".join(wrong[:3]) or said[-600:] * bool(tried.returncode))
 
 
+def pace():
+    """Returns the seconds that the work of a fixed size takes now, where each processor does it."""
+    workers = [subprocess.Popen([sys.executable, "-c", WORK], stdout=subprocess.PIPE) for _ in range(os.cpu_count())]
+    return statistics.mean(float(it.communicate()[0]) for it in workers)
+
+
 def try_first_call(wrapper):
-    began = time.monotonic()
+    before, began = pace(), time.monotonic()
     with call(wrapper, WORDS, stdin=subprocess.PIPE) as ran:
         out, said = ran.communicate(b"".join(LINES))
     passed = time.monotonic() - began
-    report(f"the first answer comes within {A_MINUTE} s (load {os.getloadavg()[0]:.1f})", out == ANSWERS and passed < A_MINUTE, f"{passed:.0f} s")
+    # (the machine may be busy only for a while)
+    paces = passed / max(before, pace())
+    told = f"{passed:.0f} s, or {paces:.0f} times the work of a fixed size"
+    report(f"the first answer comes within {MOST_PACES} times that work: {told}", out == ANSWERS and paces < MOST_PACES)
     first, _, last = said.decode().strip().partition("\n")
     report("it says first what it does and how long that takes", "builds a trial" in first and "half a minute" in first, first)
     report("it says that the answers are not proved, and how to prove the program", "not proved" in last and "--build" in last, last)

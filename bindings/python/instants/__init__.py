@@ -16,15 +16,27 @@ A timeline has the words, which it reads once, for those who ask with one line a
     ...     [timeline.answer(line) for line in lines]
     ['2021-01-02T03:04:05.000000000Z', '2021-01-02T03:04:07.000000000Z', '! component year']
 
-Lines are texts or bytes, one after the other, or one text, one block of bytes or an open file that has them. The shared
-library is the file that INSTANTS_LIBRARY names, else that of this package, else `libinstants.so.0` where the system looks.
+A long file is read block by block:
+
+    >>> for answer in instants.iter([b"2021-01-02T04:04:05Z"], **how):
+    ...     print(answer)
+    2021-01-02T04:04:05.000000000Z
+
+Lines are texts or bytes, one after the other, or one text, one block of bytes or an open file that has them. As a command,
+`python -m instants`, the package is the program `instants`. The shared library is the file that INSTANTS_LIBRARY names, else
+that of this package, else `libinstants.so.0` where the system looks.
 """
 
 from ._answers import Answer, Fault
 from ._handle import Refused
-from ._library import GREATEST_LIMIT, LINE_ROOM, version
+from ._library import GREATEST_LIMIT, LINE_ROOM, VERSION, told, version
 from ._lines import Line, Lines
 from ._timeline import Timeline, answer_bytes, answers, datetimes, parse, to_datetime64
+
+# (not among the names that are imported by a star, where it would hide Python's own)
+from ._timeline import iter as iter
+
+__version__ = told(VERSION)
 
 __all__ = [
     "GREATEST_LIMIT",
@@ -35,6 +47,7 @@ __all__ = [
     "Lines",
     "Refused",
     "Timeline",
+    "__version__",
     "answer_bytes",
     "answers",
     "datetimes",

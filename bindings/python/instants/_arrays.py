@@ -21,15 +21,16 @@ FAULT = 1 << 32
 FIRST, LAST = -9_223_372_036, 9_223_372_035
 
 
-def raise_first_missing(handle: Handle, stream: bytes, moments: Moments) -> None:
-    """Raises the fault of the first line that has no moment."""
+def raise_first_missing(handle: Handle, text: bytes, moments: Moments, missing: list[int]) -> None:
+    """Raises the fault of the first line that has no moment, but for those at places where there is no line."""
     import numpy
 
-    missing = numpy.isnat(moments)
-    if missing.any():
-        place = int(missing.argmax())
-        text = handle.answer_line(stream.split(b"\n", place + 1)[place])
-        raise fault_at(stream, place, text[2:] if text.startswith("!") else f"datetime64[ns] does not reach to {text}")
+    without = numpy.isnat(moments)
+    without[missing] = False
+    if without.any():
+        place = int(without.argmax())
+        answer = handle.answer_line(text.split(b"\n", place + 1)[place])
+        raise fault_at(text, place, answer[2:] if answer.startswith("!") else f"datetime64[ns] does not reach to {answer}")
 
 
 def moments_of(entries: memoryview) -> Moments:

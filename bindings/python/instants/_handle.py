@@ -7,6 +7,7 @@ import weakref
 from typing import Iterable
 
 from ._library import ENTRY, LIBRARY, LINE_ROOM, OK, REFUSED, Opened, sentence
+from ._lines import Stream
 
 # Memory for the answer to one line, and for its length.
 ROOM = ctypes.c_char * LINE_ROOM
@@ -56,23 +57,23 @@ class Handle:
         # (as the interpreter ends other threads may still have it, and the system takes the memory back)
         weakref.finalize(self, close, self._opened, text).atexit = False
 
-    def answer(self, stream: bytes) -> bytes:
+    def answer(self, stream: Stream) -> bytes:
         """Returns the answers to the lines of a stream. Other threads run meanwhile."""
-        output = bytearray(LINE_ROOM * (stream.count(b"\n") + 1))
+        output = bytearray(LINE_ROOM * max(stream.most, 1))
         written = ctypes.c_size_t()
         room = ctypes.byref(ctypes.c_char.from_buffer(output))
-        LIBRARY.instants_answer(self._at, stream, len(stream), room, len(output), ctypes.byref(written))
+        LIBRARY.instants_answer(self._at, stream.text, len(stream.text), room, len(output), ctypes.byref(written))
         return bytes(memoryview(output)[: written.value])
 
-    def moments(self, stream: bytes) -> memoryview:
+    def moments(self, stream: Stream) -> memoryview:
         """Returns an entry of numbers for each line of a stream: `struct instants_moment` of instants.h. Other threads run
         meanwhile."""
-        most = stream.count(b"\n") + 1
+        most = max(stream.most, 1)
         # (the bytes of a bytearray are aligned as those of malloc)
         output = bytearray(ENTRY * most)
         written = ctypes.c_size_t()
         room = ctypes.byref(ctypes.c_char.from_buffer(output))
-        LIBRARY.instants_answer_moments(self._at, stream, len(stream), room, most, ctypes.byref(written))
+        LIBRARY.instants_answer_moments(self._at, stream.text, len(stream.text), room, most, ctypes.byref(written))
         return memoryview(output)[: ENTRY * written.value]
 
     def answer_line(self, line: bytes) -> str:

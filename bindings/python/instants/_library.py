@@ -30,11 +30,15 @@ def place() -> str:
     return os.environ.get("INSTANTS_LIBRARY") or (str(own) if own.exists() else FILE)
 
 
+def told(version: int) -> str:
+    """Returns a version as text, as `0.1.0` for 100."""
+    return f"{version // 10_000}.{version // 100 % 100}.{version % 100}"
+
+
 def check_version(found: int) -> None:
     """Raises ImportError unless a library has the major and the minor number of these modules."""
     if found // 100 != VERSION // 100:
-        told = [f"{it // 10_000}.{it // 100 % 100}.{it % 100}" for it in (found, VERSION)]
-        raise ImportError(f"instants: the library {place()} is of version {told[0]}, and this package is of {told[1]}; {HOW_TO_GET}")
+        raise ImportError(f"instants: the library {place()} is of version {told(found)}, and this package is of {told(VERSION)}; {HOW_TO_GET}")
 
 
 class Opened(ctypes.Structure):

@@ -5,13 +5,13 @@ from __future__ import annotations
 import functools
 from datetime import datetime
 from types import TracebackType
-from typing import TYPE_CHECKING, Any, Iterable
+from typing import TYPE_CHECKING, Any, Iterable, Iterator
 
-from ._answers import Answer, datetimes_of, fault_at, raise_first, raise_first_year_0
+from ._answers import Answer, datetimes_of, fault_at, may_lack_datetimes, raise_first, raise_first_without_datetime
 from ._arrays import moments_of, raise_first_missing
-from ._handle import Handle, listed
+from ._handle import Handle, Refused, listed
 from ._library import GREATEST_LIMIT
-from ._lines import Line, Lines, line_of, stream_of
+from ._lines import Column, Line, Lines, Stream, blocks_of, column_of, line_of, stream_of, whole_stream
 
 if TYPE_CHECKING:
     from ._arrays import Moments
@@ -30,6 +30,8 @@ class Timeline:
 
     def __init__(self, *, target: str, sources: Iterable[str], assumed: str = "-", limit: int | None = None) -> None:
         words = [target, assumed, str(GREATEST_LIMIT if limit is None else limit), *listed(sources, "the sources")]
+        if len(words) == 3:
+            raise Refused("instants: there are no sources: name one at least, as in sources=['rfc3339']")
         self._words = target, tuple(words[3:]), assumed, limit
         self._handle: Handle | None = Handle(listed(words, "the words"))
 
@@ -55,14 +57,6 @@ class Timeline:
             raise ValueError("instants: the timeline is closed")
         return handle
 
-    def _texts(self, stream: bytes, raising: bool) -> list[str]:
-        """Returns the answers to the lines of a stream."""
-        written = self._open().answer(stream)
-        texts = written.decode("ascii").split("\n")[:-1]
-        if raising and b"!" in written:
-            raise_first(stream, texts)
-        return texts
-
     def answer(self, line: Line, *, raising: bool = False) -> str:
         """Returns the answer to one line."""
         read = line_of(line)
@@ -73,7 +67,22 @@ class Timeline:
 
     def answers(self, lines: Lines, *, raising: bool = False) -> list[str]:
         """Returns the answers to lines as a list of texts. A line feed at a line's end is no part of it."""
-        return self._texts(stream_of(lines), raising)
+        stream = stream_of(lines)
+        answers = self._open().answer(stream).decode("ascii")
+        texts = answers.split("\n")
+        # (after the last line feed there is no answer)
+        texts.pop()
+        if raising and "!" in answers:
+            raise_first(stream.text, texts)
+        return texts
+
+    def iter(self, lines: Lines, *, raising: bool = False) -> Iterator[str]:
+        """Returns the same answers one after the other. Lines are read block by block, as answers are asked for, so a file may
+        be longer than memory; of a pipe a block is what is there. With `raising` the fault comes after the answers before it.
+
+        An iterator has its answers also where the timeline is closed meanwhile.
+        """
+        return _iterated(self._open(), blocks_of(lines), raising)
 
     def parse(self, lines: Lines, *, raising: bool = False) -> list[Answer]:
         """Returns the same answers as values, which tell date-times from faults: `for text, fault in timeline.parse(..)`."""
@@ -86,21 +95,36 @@ class Timeline:
         the year 0 is None.
         """
         stream = stream_of(lines)
-        texts = self._texts(stream, raising)
-        if raising:
-            raise_first_year_0(stream, texts)
-        return datetimes_of(texts, self._words[0])
+        answers = self._open().answer(stream).decode("ascii")
+        if raising and may_lack_datetimes(answers):
+            raise_first_without_datetime(stream.text, answers.split("\n")[:-1])
+        return datetimes_of(answers)
 
-    def to_datetime64(self, lines: Lines, *, raising: bool = False) -> Moments:
+    def to_datetime64(self, lines: Column, *, raising: bool = False) -> Moments:
         """Returns the moments of lines, in UTC, as an array of `datetime64[ns]`, with NaT for each line that has none.
 
         That type reaches from 1677-09-21T00:12:43.145224193 to 2262-04-11T23:47:16.854775807; a moment before or after is NaT.
+        Where a line is missing, as None or NaN in a column of pandas, there is NaT, which raises nothing.
         """
-        stream, handle = stream_of(lines), self._open()
+        (stream, missing), handle = column_of(lines), self._open()
         moments = moments_of(handle.moments(stream))
         if raising:
-            raise_first_missing(handle, stream, moments)
+            raise_first_missing(handle, stream.text, moments, missing)
         return moments
+
+
+def _iterated(handle: Handle, blocks: Iterator[Stream], raising: bool) -> Iterator[str]:
+    before = 0
+    for stream in blocks:
+        answers = handle.answer(stream).decode("ascii")
+        texts = answers.split("\n")
+        texts.pop()
+        if raising and "!" in answers:
+            place = next(place for place, text in enumerate(texts) if text[0] == "!")
+            yield from texts[:place]
+            raise fault_at(stream.text, place, texts[place][2:], before)
+        yield from texts
+        before += len(texts)
 
 
 def _made(target: str, sources: tuple[str, ...], assumed: str, limit: int | None) -> Timeline:
@@ -127,6 +151,13 @@ def answers(
     return _timeline(target, sources, assumed, limit).answers(lines, raising=raising)
 
 
+def iter(
+    lines: Lines, *, target: str, sources: Iterable[str], assumed: str = "-", limit: int | None = None, raising: bool = False
+) -> Iterator[str]:
+    """Returns what `Timeline.iter` does; the words that were given last stay read."""
+    return _timeline(target, sources, assumed, limit).iter(lines, raising=raising)
+
+
 def parse(
     lines: Lines, *, target: str, sources: Iterable[str], assumed: str = "-", limit: int | None = None, raising: bool = False
 ) -> list[Answer]:
@@ -143,7 +174,7 @@ def datetimes(
 
 
 def to_datetime64(
-    lines: Lines, *, sources: Iterable[str], assumed: str = "-", limit: int | None = None, raising: bool = False
+    lines: Column, *, sources: Iterable[str], assumed: str = "-", limit: int | None = None, raising: bool = False
 ) -> Moments:
     """Returns what `Timeline.to_datetime64` does; the words that were given last stay read."""
     return _timeline("+00:00", sources, assumed, limit).to_datetime64(lines, raising=raising)
@@ -152,4 +183,4 @@ def to_datetime64(
 def answer_bytes(stream: bytes | bytearray | memoryview, words: Iterable[str]) -> bytes:
     """Returns the answers to the lines of bytes, each with a line feed after it, by the program's words, which stay read."""
     handle = _kept_handle(tuple(listed(words, "the words")))
-    return handle.answer(stream if isinstance(stream, bytes) else memoryview(stream).tobytes())
+    return handle.answer(whole_stream(stream if isinstance(stream, bytes) else memoryview(stream).tobytes()))
