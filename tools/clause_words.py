@@ -33,7 +33,7 @@ WITH_ROWS = ("instants", *calls_page.ALONE, "Below these crates")
 # Crates that are programs or tests.
 NO_LIBRARY = re.compile(r"(^rows|^examples_\w+|_tests|_program|_check)$")
 # What rows name that is of the kit.
-OF_KIT = {"Display", "from_str"}
+NAMES_OF_KIT = {"Display", "from_str"}
 
 
 def told_words():
@@ -117,7 +117,7 @@ def names_in(cell):
 
 def names_on_page(sections):
     """Returns the names of all calls on CALLS.md, of the types, crates and modules that have some, and calls by their type."""
-    names, of = {*OF_KIT}, set()
+    names, of = {*NAMES_OF_KIT}, set()
     for crate in (*calls_page.FAMILIES, *calls_page.ALONE, *calls_page.BELOW):
         names |= rattle_files.exported(crate)
     for head, groups in sections:
