@@ -7,7 +7,7 @@ The build is `rt ci` over a copy of the programs' crates alone, without tests an
 both compilers make each program, and compares what it writes with the stored run. The longest chain of crates, which no
 number of processors makes shorter, is proved beside it by runs of its own, and each proof there gets as many processors as
 it can use; the other run takes what they leave. What is proved is kept for the repository's own `rt ci` on this machine, and
-for later builds. tools/build_all.py builds both programs and the library for C in one such run.
+for later builds. tools/build_all.py builds all programs for users and the library for C in one such run.
 """
 
 import contextlib
