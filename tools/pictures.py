@@ -7,8 +7,10 @@
 - docs/crates.svg, by graphviz: the crates of crates.txt, one row for each family, with arrows to the crates on which each stands.
   An arrow is left out where other arrows lead there too. Dashed arrows lead to other families. Crates of tests are left out. The
   crates whose files docs/ARCHITECTURE.md names in its section on the way of a line are bold, and so are the arrows between
-  them. The same arrows stand as text in docs/ARCHITECTURE.md.
-- docs/speed.svg, by gnuplot: the speeds in the two tables of docs/SPEED.md which bench/compare_programs.py prints.
+  them. An arrow that runs through a box, or nearer than two points to one, is an error. The same arrows stand as text in
+  docs/ARCHITECTURE.md.
+- docs/speed.svg, by gnuplot: the speeds in the two tables of docs/SPEED.md which bench/compare_programs.py prints, and beside
+  them for each file the marks of the programs that have none there.
 
 Each picture begins with a checksum of what graphviz or gnuplot was given, so that `--check` needs neither of them. The packages
 of Debian: graphviz, gnuplot-nox.
@@ -31,9 +33,17 @@ BEGIN, END = "<!-- tools/pictures.py begins -->", "<!-- tools/pictures.py ends -
 FONT = 'fontname="DejaVu Sans,sans-serif" fontsize=13'
 BOX = f'node [shape=box {FONT} height=0.32 margin="0.09,0.04"]'
 # Where the first box of a row lies, in points, and how far two rows are apart.
-LEFT, GAP = 105, 46
+LEFT, GAP = 105, 50
+# How far the boxes of a row are apart, how far arrows keep from boxes, and how near an arrow may come, in points, to a box that it
+# neither leaves nor reaches.
+APART, KEPT, NEAR = "nodesep=0.25; ranksep=0.5", 'esep="+6"; sep="+8"', 2
+# How many points of each part of an arrow are looked at.
+STEPS = 40
 # The marks of the programs in the picture of speeds, in the order of the tables; the first program is the measure.
 MARKS = (None, 12, 8, 4, 2, 7, 1, 3)
+# The ends of the axis of speeds; and, beyond it, the place of the first mark of a program that has no speed for a file, how many
+# times as far each next one is, and the end.
+LEAST, MOST, UNMEASURED, STEP, END_OF_MARKS = 0.1, 40, 48, 1.28, 200
 
 
 class PictureFailed(Exception):
@@ -91,7 +101,7 @@ class Crates:
     def place_row(self, row):
         """Returns where dot puts the boxes of a row, in points, and how high and wide they are, in inches."""
         mine = [it for it in self.names if row_of(it) == row]
-        lines = [f"digraph {{ rankdir={'TB' if row == 'programs' else 'LR'}; nodesep=0.16; ranksep=0.45; {BOX};"]
+        lines = [f"digraph {{ rankdir={'TB' if row == 'programs' else 'LR'}; {APART}; {BOX};"]
         lines += [f'{it} [label="{label_of(it)}"];' for it in mine]
         lines += [f"{below} -> {it};" for it in mine for below in self.direct(it, self.names) if below in mine]
         words = [line.split() for line in run(["dot", "-Tplain"], "\n".join([*lines, "}"])).splitlines()]
@@ -100,7 +110,7 @@ class Crates:
 
     def given(self):
         """Returns what the picture is made of, whatever graphviz makes of it: crates, arrows, the way of a line."""
-        return "\n".join([*self.names, *(" ".join(map(str, it)) for it in self.arrows()), *self.way, BOX])
+        return "\n".join([*self.names, *(" ".join(map(str, it)) for it in self.arrows()), *self.way, BOX, APART, KEPT])
 
 
 def programs_in_order(crates, places):
@@ -115,6 +125,31 @@ def programs_in_order(crates, places):
     return moved
 
 
+def points_of(path):
+    """Returns points along an arrow of a picture, whose path is a chain of Bezier curves."""
+    given = [complex(*map(float, it)) for it in re.findall(r"(-?[\d.]+),(-?[\d.]+)", path)]
+    for at in range(0, len(given) - 3, 3):
+        a, b, c, d = given[at : at + 4]
+        for t in (step / STEPS for step in range(STEPS + 1)):
+            yield a * (1 - t) ** 3 + 3 * b * t * (1 - t) ** 2 + 3 * c * t * t * (1 - t) + d * t**3
+
+
+def crossed_boxes(picture):
+    """Returns what is said of each arrow of a picture that comes too near to a box which it neither leaves nor reaches."""
+    boxes, crossed = {}, []
+    parts = re.findall(r'class="(node|edge)">\s*<title>(.*?)</title>(.*?)</g>', picture, re.S)
+    for name, corners in ((it[1], re.search(r'<polygon [^>]*points="([^"]*)"', it[2])) for it in parts if it[0] == "node"):
+        if corners:
+            x, y = zip(*(map(float, it.split(",")) for it in corners[1].split()))
+            boxes[name] = (min(x) - NEAR, max(x) + NEAR, min(y) - NEAR, max(y) + NEAR)
+    for title, path in ((it[1], it[2].split('d="')[1].split('"')[0]) for it in parts if it[0] == "edge"):
+        ends, points = title.replace("&#45;&gt;", " ").split(), [*points_of(path)]
+        for name, (left, right, low, high) in boxes.items():
+            if name not in ends and any(left < it.real < right and low < it.imag < high for it in points):
+                crossed.append(f"the arrow from {ends[0]} to {ends[1]} runs through {name}")
+    return crossed
+
+
 def picture_of_crates(crates):
     """Returns the picture of the crates."""
     places, height, labels = {}, 0, []
@@ -125,7 +160,7 @@ def picture_of_crates(crates):
         labels.append(f'row_{row} [shape=plaintext label=<<b>{row}</b>> pos="45,{height + high / 2:.0f}!"];')
         height -= GAP
     places |= programs_in_order(crates, places)
-    lines = [f'digraph crates {{ splines=true; esep="+1"; sep="+2"; bgcolor=white; outputorder=edgesfirst; {BOX}; edge [arrowsize=0.7];']
+    lines = [f'digraph crates {{ splines=true; {KEPT}; bgcolor=white; outputorder=edgesfirst; {BOX}; edge [arrowsize=0.7];']
     lines += labels
     for it, (x, y, wide, high) in places.items():
         bold = "penwidth=3" if it in crates.way else ""
@@ -133,7 +168,10 @@ def picture_of_crates(crates):
     for it, below, is_bold in crates.arrows():
         style = "penwidth=3" if is_bold else "style=dashed" if row_of(it) != row_of(below) else ""
         lines.append(f"{it} -> {below} [{style}];")
-    return run(["neato", "-n2", "-Tsvg"], "\n".join([*lines, "}"]))
+    picture = run(["neato", "-n2", "-Tsvg"], "\n".join([*lines, "}"]))
+    if crossed := crossed_boxes(picture):
+        raise PictureFailed("; ".join(crossed))
+    return picture
 
 
 def text_of_crates(crates):
@@ -162,21 +200,25 @@ def speeds():
 
 
 def script_of_speeds():
-    """Returns what gnuplot is given: a row for each file, a mark for each program, on a logarithmic axis."""
+    """Returns what gnuplot is given: a row for each file, a mark for each program, on a logarithmic axis or beside it."""
     names, files = speeds()
     mine = names.index("instants")
-    lines = ['set terminal svg size 960,440 font "DejaVu Sans,sans-serif,13" background "#ffffff"', "set logscale x 10",
-             "set xrange [0.1:40]", f"set yrange [{len(files) + 0.5}:0.5]", "set grid xtics ytics lt 1 lc rgb '#bbbbbb' lw 0.5",
+    lines = ['set terminal svg size 1040,460 font "DejaVu Sans,sans-serif,13" background "#ffffff"', "set logscale x 10",
+             f"set xrange [{LEAST}:{END_OF_MARKS}]", f"set yrange [{len(files) + 0.5}:0.5]", "set grid xtics ytics lt 1 lc rgb '#bbbbbb' lw 0.5",
+             f"set object 1 rectangle from {MOST},graph 0 to {END_OF_MARKS},graph 1 behind fc rgb '#dddddd' fs solid noborder",
+             f'set label 1 "not measured" at {(MOST * END_OF_MARKS) ** 0.5:.0f},graph 1.04 center',
              'set xtics ("0.1" 0.1, "0.2" 0.2, "0.5" 0.5, "1" 1, "2" 2, "5" 5, "10" 10, "20" 20, "40" 40)',
-             f'set xlabel "speed, where that of {names[0]} is 1 (more is faster)\\nthe number after the name of a file is the speed of instants"',
+             f'set xlabel "speed on a logarithmic axis, where that of {names[0]} is 1 (more is faster)\\nthe number after the name of a file is the speed of instants"',
              "set key outside right center vertical Left reverse samplen 1 spacing 1.3",
-             "set arrow 1 from 1,graph 0 to 1,graph 1 nohead lw 2 lc rgb '#000000'", "set tics nomirror"]
+             "set arrow 1 from 1,graph 0 to 1,graph 1 nohead lw 2 lc rgb '#000000'", "set tics nomirror", "set tmargin 3"]
     marks = ", ".join(f'"{name}: {values[mine]}" {at}'.replace("%", "%%") for at, (name, values) in enumerate(files, 1))
     lines.append(f"set ytics ({marks})")
     plots = []
     # (the marks of others are drawn over the grey ones of `instants`)
     for at in sorted(range(1, len(names)), key=lambda it: it != mine):
-        lines += [f"$p{at} << EOD", *(f"{values[at]} {row}" for row, (_, values) in enumerate(files, 1) if values[at] != "–"), "EOD"]
+        beside = f"{UNMEASURED * STEP ** [it for it in range(1, len(names)) if it != mine].index(at):.1f}" if at != mine else "–"
+        places = ((beside if values[at] == "–" else values[at], row) for row, (_, values) in enumerate(files, 1))
+        lines += [f"$p{at} << EOD", *(f"{place} {row}" for place, row in places if place != "–"), "EOD"]
         style = 'ps 1.5 lc rgb "#888888"' if at == mine else 'ps 0.9 lw 1.5 lc rgb "#000000"'
         plots.append(f'$p{at} using 1:2 with points pt {MARKS[at]} {style} title "{names[at]}"')
     return "\n".join([*lines, f"plot {', '.join(plots)}", ""])
@@ -211,6 +253,7 @@ def main(words):
     page = page_with(text_of_crates(crates))
     if words == ["--check"]:
         wrong = [str(it.relative_to(ROOT)) for it in (*old, *([ARCHITECTURE] if ARCHITECTURE.read_text() != page else []))]
+        wrong += crossed_boxes((DOCS / "crates.svg").read_text())
         print(f"the pictures are {'not ' if wrong else ''}as the repository has it{': ' if wrong else ''}{', '.join(wrong)}")
         return int(bool(wrong))
     try:
