@@ -77,9 +77,8 @@ def main(words):
     before, rest = text.split(BEGINS)
     new = f"{before}{BEGINS}\n\n{tables()}\n{ENDS}{rest.split(ENDS)[1]}"
     if words == ["--check"]:
-        if new != text:
-            print("docs/FORMATS.md is not as tools/formats_page.py writes it")
-        return new != text
+        print(f"docs/FORMATS.md is {'as' if new == text else 'not as'} the table of formats has it")
+        return int(new != text)
     PAGE.write_text(new)
     return 0
 
