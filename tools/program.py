@@ -73,6 +73,10 @@ class Program:
             files += [os.path.join(at, it) for at, _, names in os.walk(folder) for it in names]
         return all(os.stat(it).st_mtime_ns <= made for it in files)
 
+    def why_not_run(self):
+        """Returns why the program, which is not current, is not run."""
+        return "the program that is built is older than its sources" if self.file.exists() else "the program is not built"
+
     def keep_folders(self):
         """Writes beside the program, which is current, the folders of the code that it is made of, for the next call."""
         folders = " ".join(f"crates/{it}/src" for it in self.crates())

@@ -35,7 +35,7 @@ ROOT = pathlib.Path(__file__).resolve().parent.parent
 BUILT = ROOT / "crates" / "instants_lines_program" / "out" / "instants_lines_program"
 ROWS, DATED = ROOT / "crates" / "rows" / "stdout", "\n## Dated lines\n"
 # What is said beside the sentence of a run: of a trial, and of a description that is literal text alone.
-NOTES = (b"instants-lines: the program is not built", b"instants-lines: what follows is of a trial")
+NOTES = (b"instants-lines: the program is not built", b"instants-lines: the program that is built is older", b"instants-lines: what follows is of a trial")
 WARNING = re.compile(rb"instants-lines: warning: .*? names no component, as [^\n]*\n", re.DOTALL)
 PROCESSES = 2
 # A list of wrong words costs a run of its own, which takes as long as so many lines.
@@ -52,7 +52,7 @@ def said_by_program(program, words, stream):
     """Returns the output, the sentence and the status of the program."""
     ran = subprocess.run([program, *words], input=stream, capture_output=True)
     said = WARNING.sub(b"", ran.stderr).splitlines(keepends=True)
-    if NOTES[0] in ran.stderr:
+    if NOTES[-1] in ran.stderr:
         # (a trial ends an output that has no line feed at its end by one among what is said)
         said = [it for it in said if it != b"\n"]
     said = [it for it in said if not it.startswith(NOTES)]
