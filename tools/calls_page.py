@@ -1,6 +1,6 @@
 #!/usr/bin/env python3
 """Writes docs/CALLS.md: an index of names; then the public calls and constants of the five named crates, of the programs' crates,
-and of crates below those of which docs/CLAIMS.md speaks, type by type. Each has the first sentence of its doc comment, and the
+and of crates below those of which docs/PROMISES.md speaks, type by type. Each has the first sentence of its doc comment, and the
 clauses of its contract as its source has them.
 
     tools/calls_page.py            writes it
@@ -31,7 +31,7 @@ ALONE = (
     "instants_memory",
     "instants_c",
 )
-# The calls of the crates below these of which CLAIMS.md speaks: all that a crate gives on, or some of them.
+# The calls of the crates below these of which PROMISES.md speaks: all that a crate gives on, or some of them.
 BELOW = {
     "parsing_combinator": {"digit_chunk", "nine_digits"},
     "parsing_shapes": {"read_long_numbers"},
@@ -83,7 +83,7 @@ WIDTH = 140
 HEAD = """\
 # The calls, with their contracts
 
-`tools/calls_page.py` writes this page from the sources. First comes the index of names. Then come the five named crates, each with what it re-exports from the crates below it. After them come the crates for dates inside lines, for `instants-lines`, for calls over memory and for C. At the end are those calls of crates below these that [CLAIMS.md](CLAIMS.md) names.
+`tools/calls_page.py` writes this page from the sources. First comes the index of names. Then come the five named crates, each with what it re-exports from the crates below it. After them come the crates for dates inside lines, for `instants-lines`, for calls over memory and for C. At the end are those calls of crates below these that [PROMISES.md](PROMISES.md) names.
 
 How to read an entry:
 

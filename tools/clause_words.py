@@ -1,13 +1,13 @@
 #!/usr/bin/env python3
-"""Compares three pages of the documents with one another, and prints what is missing.
+"""Compares four pages of the documents with one another, and prints what is missing.
 
     tools/clause_words.py --check    with status 1 where anything is missing
 
 - Each definition that a clause on docs/CALLS.md names, and that stands in the specs/ of a crate here, is told in
   docs/DEFINITIONS.md, in a section whose heading names that crate.
-- Each call that has a row in docs/CLAIMS.md stands on docs/CALLS.md. A row may name a type or a module there, or the prefix of
+- Each call that has a row in docs/PROMISES.md stands on docs/CALLS.md. A row may name a type or a module there, or the prefix of
   the names of some calls, as `replace_`.
-- Each call on docs/CALLS.md of the programs' crates, and of the crates below of which it has some, has a row in docs/CLAIMS.md.
+- Each call on docs/CALLS.md of the programs' crates, and of the crates below of which it has some, has a row in docs/PROMISES.md.
 - Each public call that is handed an allocator is named in the section of docs/CLAIMS.md on what takes memory.
 
 What a word of a clause stands for is known from the `ghost use` lines of the file in which the clause stands.
@@ -26,9 +26,9 @@ from rattle_declarations import OF_KIT, Lost
 from rattle_files import CRATES
 from rattle_words import part_named
 
-DEFINITIONS, CLAIMS = ROOT / "docs" / "DEFINITIONS.md", ROOT / "docs" / "CLAIMS.md"
+DEFINITIONS, PROMISES, CLAIMS = (ROOT / "docs" / f"{it}.md" for it in ("DEFINITIONS", "PROMISES", "CLAIMS"))
 NAME = r"[A-Za-z_]\w*"
-# Sections of CALLS.md whose calls all have a row in CLAIMS.md.
+# Sections of CALLS.md whose calls all have a row in PROMISES.md.
 WITH_ROWS = ("instants", *calls_page.ALONE, "Below these crates")
 # Crates that are programs or tests.
 NO_LIBRARY = re.compile(r"(^rows|^examples_\w+|_tests|_program|_check)$")
@@ -95,10 +95,10 @@ def missing_words(sections):
     return [f"DEFINITIONS.md lacks {it}, which a clause of {missing[it]} names" for it in sorted(missing)]
 
 
-def rows_of_claims():
-    """Returns the first cells of the rows on calls and laws in CLAIMS.md, but those that go on with the row above."""
+def rows_of_promises():
+    """Returns the first cells of the rows on calls and laws in PROMISES.md, but those that go on with the row above."""
     is_of_calls = False
-    for line in CLAIMS.read_text().split("\n"):
+    for line in PROMISES.read_text().split("\n"):
         if not line.startswith("|"):
             is_of_calls = False
         elif re.match(r"\| (call|law)\b", line):
@@ -135,24 +135,24 @@ def names_on_page(sections):
 
 
 def missing_calls(sections):
-    """Returns the calls that CLAIMS.md has rows for and CALLS.md does not have."""
+    """Returns the calls that PROMISES.md has rows for and CALLS.md does not have."""
     names, of = names_on_page(sections)
-    for cell in rows_of_claims():
+    for cell in rows_of_promises():
         for owner, name in names_in(cell):
             is_front = name.endswith("_") and any(it.startswith(name) for it in names)
             if not is_front and (name not in names or (owner and owner[0].isupper() and (owner, name) not in of)):
-                yield f"CALLS.md lacks {owner + '::' if owner else ''}{name}, which has a row in CLAIMS.md"
+                yield f"CALLS.md lacks {owner + '::' if owner else ''}{name}, which has a row in PROMISES.md"
 
 
 def missing_rows(sections):
-    """Returns the calls of some sections of CALLS.md that CLAIMS.md has no row for: none of the call, and none of its type."""
-    named = {name for cell in rows_of_claims() for _, name in names_in(cell)}
+    """Returns the calls of some sections of CALLS.md that PROMISES.md has no row for: none of the call, and none of its type."""
+    named = {name for cell in rows_of_promises() for _, name in names_in(cell)}
     for head, groups in sections:
         for title, calls in groups:
             for call in calls if head.strip("`") in WITH_ROWS else ():
                 name = re.search(r"fn (\w+)", call.written)
                 if name and name[1] not in named and call.of not in named:
-                    yield f"CLAIMS.md has no row for {title} {name[1]}"
+                    yield f"PROMISES.md has no row for {title} {name[1]}"
 
 
 def missing_takers():
