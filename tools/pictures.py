@@ -17,13 +17,15 @@ of Debian: graphviz, gnuplot-nox.
 """
 
 import hashlib
+import pathlib
 import re
 import subprocess
 import sys
+from collections.abc import Callable, Iterator
 
 sys.dont_write_bytecode = True
 
-from program import ROOT, uses
+from program import ROOT, sure, uses
 
 DOCS = ROOT / "docs"
 ARCHITECTURE, SPEED = DOCS / "ARCHITECTURE.md", DOCS / "SPEED.md"
@@ -46,11 +48,15 @@ MARKS = (None, 12, 8, 4, 2, 7, 1, 3)
 LEAST, MOST, UNMEASURED, STEP, END_OF_MARKS = 0.1, 40, 48, 1.28, 200
 
 
+# Where each box is in points, and how high and wide it is in inches.
+Places = dict[str, tuple[float, float, float, float]]
+
+
 class PictureFailed(Exception):
     """A picture can't be made; the text says why."""
 
 
-def run(command, given):
+def run(command: list[str], given: str) -> str:
     """Returns what a command prints."""
     try:
         ran = subprocess.run(command, input=given, capture_output=True, text=True, check=False)
@@ -61,44 +67,44 @@ def run(command, given):
     return ran.stdout
 
 
-def row_of(crate):
+def row_of(crate: str) -> str:
     return "programs" if PROGRAM.search(crate) else crate.split("_")[0]
 
 
-def label_of(crate):
+def label_of(crate: str) -> str:
     return crate.removeprefix(row_of(crate) + "_")
 
 
 class Crates:
     """The crates but those of tests: on which each stands, and on which a line passes."""
 
-    def __init__(self):
+    def __init__(self) -> None:
         used = uses()
         self.names = [it for it in used if not it.endswith("_tests")]
         self.used = {it: [below for below in used[it] if below in used] for it in self.names}
-        self.below = {}
-        way = re.search(r"^## The way of a line\n(.*?)^## ", ARCHITECTURE.read_text(), re.M | re.S)[1]
+        self.below: dict[str, set[str]] = {}
+        way = sure(re.search(r"^## The way of a line\n(.*?)^## ", ARCHITECTURE.read_text(), re.M | re.S))[1]
         self.way = [it for it in self.names if re.search(rf"`{it}/src/", way)]
 
-    def below_of(self, crate):
+    def below_of(self, crate: str) -> set[str]:
         """Returns all crates below one."""
         if crate not in self.below:
             self.below[crate] = set(self.used[crate]).union(*(self.below_of(it) for it in self.used[crate]))
         return self.below[crate]
 
-    def direct(self, crate, among):
+    def direct(self, crate: str, among: list[str]) -> list[str]:
         """Returns on which of some crates a crate stands, but those to which it stands by way of another of them."""
         stands = [it for it in self.used[crate] if it in among]
         return [it for it in stands if not any(it in self.below_of(other) for other in stands)]
 
-    def arrows(self):
+    def arrows(self) -> list[tuple[str, str, bool]]:
         """Returns the arrows, each with whether a line passes along it."""
         plain = {(it, below) for it in self.names for below in self.direct(it, self.names)}
         bold = {(it, below) for it in self.way for below in self.direct(it, self.way)}
         order = {it: at for at, it in enumerate(self.names)}
         return [(*it, it in bold) for it in sorted(plain | bold, key=lambda it: (order[it[0]], order[it[1]]))]
 
-    def place_row(self, row):
+    def place_row(self, row: str) -> tuple[Places, float]:
         """Returns where dot puts the boxes of a row, in points, and how high and wide they are, in inches."""
         mine = [it for it in self.names if row_of(it) == row]
         lines = [f"digraph {{ rankdir={'TB' if row == 'programs' else 'LR'}; {APART}; {BOX};"]
@@ -108,16 +114,16 @@ class Crates:
         places = {it[1]: (float(it[2]) * 72, float(it[3]) * 72, float(it[4]), float(it[5])) for it in words if it[0] == "node"}
         return places, float(words[0][3]) * 72
 
-    def given(self):
+    def given(self) -> str:
         """Returns what the picture is made of, whatever graphviz makes of it: crates, arrows, the way of a line."""
         return "\n".join([*self.names, *(" ".join(map(str, it)) for it in self.arrows()), *self.way, BOX, APART, KEPT])
 
 
-def programs_in_order(crates, places):
+def programs_in_order(crates: Crates, places: Places) -> Places:
     """Returns the places of the programs, so that those come first which stand on crates at the left."""
     mine = [it for it in crates.names if row_of(it) == "programs"]
     over = {it: [places[below][0] for below in crates.direct(it, crates.names)] for it in mine}
-    x, moved = LEFT, {}
+    x, moved = float(LEFT), {}
     for it in sorted(mine, key=lambda it: sum(over[it]) / len(over[it])):
         width = places[it][2] * 72
         moved[it] = (x + width / 2, *places[it][1:])
@@ -125,7 +131,7 @@ def programs_in_order(crates, places):
     return moved
 
 
-def points_of(path):
+def points_of(path: str) -> Iterator[complex]:
     """Returns points along an arrow of a picture, whose path is a chain of Bezier curves."""
     given = [complex(*map(float, it)) for it in re.findall(r"(-?[\d.]+),(-?[\d.]+)", path)]
     for at in range(0, len(given) - 3, 3):
@@ -134,7 +140,7 @@ def points_of(path):
             yield a * (1 - t) ** 3 + 3 * b * t * (1 - t) ** 2 + 3 * c * t * t * (1 - t) + d * t**3
 
 
-def crossed_boxes(picture):
+def crossed_boxes(picture: str) -> list[str]:
     """Returns what is said of each arrow of a picture that comes too near to a box which it neither leaves nor reaches."""
     boxes, crossed = {}, []
     parts = re.findall(r'class="(node|edge)">\s*<title>(.*?)</title>(.*?)</g>', picture, re.S)
@@ -150,13 +156,14 @@ def crossed_boxes(picture):
     return crossed
 
 
-def picture_of_crates(crates):
+def picture_of_crates(crates: Crates) -> str:
     """Returns the picture of the crates."""
-    places, height, labels = {}, 0, []
+    places: Places = {}
+    height, labels = 0.0, []
     for row in ROWS:
         placed, high = crates.place_row(row)
         height -= high
-        places |= {it: (LEFT + x, height + y, *size) for it, (x, y, *size) in placed.items()}
+        places |= {it: (LEFT + x, height + y, wide, tall) for it, (x, y, wide, tall) in placed.items()}
         labels.append(f'row_{row} [shape=plaintext label=<<b>{row}</b>> pos="45,{height + high / 2:.0f}!"];')
         height -= GAP
     places |= programs_in_order(crates, places)
@@ -174,7 +181,7 @@ def picture_of_crates(crates):
     return picture
 
 
-def text_of_crates(crates):
+def text_of_crates(crates: Crates) -> str:
     """Returns the arrows of the picture as text, a line for each crate; `*` is before those that a line passes."""
     wide = max(map(len, crates.names)) + 2
     lines = []
@@ -185,10 +192,11 @@ def text_of_crates(crates):
     return "\n".join([BEGIN, "", "```text", *lines, "```", "", END])
 
 
-def speeds():
+def speeds() -> tuple[list[str], list[tuple[str, list[str]]]]:
     """Returns the names of the programs, and for each file its name and the speeds of the programs on it, as SPEED.md has them."""
     tables = re.findall(r"^\| program \|.*\n\|[-|]+\n(?:\|.*\n)+", SPEED.read_text(), re.M)
-    names, files = [], []
+    names: list[str] = []
+    files: list[tuple[str, list[str]]] = []
     for table in tables:
         head, _, *rows = [[cell.strip() for cell in row.strip("|\n").split("|")] for row in table.strip().split("\n")]
         names = names or [re.sub(r"^the crate |`|, `.*", "", row[0]) for row in rows]
@@ -199,7 +207,7 @@ def speeds():
     return names, files
 
 
-def script_of_speeds():
+def script_of_speeds() -> str:
     """Returns what gnuplot is given: a row for each file, a mark for each program, on a logarithmic axis or beside it."""
     names, files = speeds()
     mine = names.index("instants")
@@ -224,31 +232,33 @@ def script_of_speeds():
     return "\n".join([*lines, f"plot {', '.join(plots)}", ""])
 
 
-def marked(made, given):
+def marked(made: str, given: str) -> str:
     """Returns a picture without what depends on the release that made it, after a line with the checksum of what was given."""
     made = re.sub(r"<!--.*?-->\s*|<desc>.*?</desc>\s*|<title>Gnuplot</title>\s*", "", made, flags=re.S)
     head, rest = made.split("<svg", 1)
     return f"{head.strip()}\n<!-- made by tools/pictures.py of {hashlib.sha256(given.encode()).hexdigest()[:16]} -->\n<svg{rest}"
 
 
-def is_of(picture, given):
+def is_of(picture: pathlib.Path, given: str) -> bool:
     """Returns whether a picture is there and was made of what is given."""
     return picture.exists() and f"tools/pictures.py of {hashlib.sha256(given.encode()).hexdigest()[:16]} -->" in picture.read_text()
 
 
-def page_with(text):
+def page_with(text: str) -> str:
     """Returns the page of the architecture with the text of the arrows in its place."""
     page = ARCHITECTURE.read_text()
     before, _, rest = page.partition(BEGIN)
     return before + text + rest.partition(END)[2]
 
 
-def main(words):
+def main(words: list[str]) -> int:
     if words not in ([], ["--check"]):
         sys.exit(__doc__)
     crates, script = Crates(), script_of_speeds()
-    pictures = {DOCS / "crates.svg": (crates.given(), lambda: picture_of_crates(crates)),
-                DOCS / "speed.svg": (script, lambda: run(["gnuplot"], script))}
+    pictures: dict[pathlib.Path, tuple[str, Callable[[], str]]] = {
+        DOCS / "crates.svg": (crates.given(), lambda: picture_of_crates(crates)),
+        DOCS / "speed.svg": (script, lambda: run(["gnuplot"], script)),
+    }
     old = [it for it, (given, _) in pictures.items() if not is_of(it, given)]
     page = page_with(text_of_crates(crates))
     if words == ["--check"]:
