@@ -101,6 +101,7 @@ How to read an entry:
 [DEFINITIONS.md](DEFINITIONS.md) explains the words of the clauses. [LIBRARIES.md](LIBRARIES.md) shows how a program uses these crates.
 """
 
+
 def crates_of(family: str) -> list[str]:
     """Returns the family's crates that have calls of a named crate, that one last."""
     others = re.compile(r"_(tests|rows|bench|check|program)$")

@@ -157,10 +157,10 @@ def asked_by(words: list[bytes]) -> Asked:
         named[name], rest = named_word(name, rest)
     if not rest:
         raise WrongWords(b"no source is named; there are " + SOURCES)
-    to, on, within = settings + [b"+00:00", b"-", b"1048576"][len(settings) :]
-    target = said(as_offset(to), offset_said, b"no target offset; it must be +HH:MM, -HH:MM, Z or UTC")
-    assumed = None if on == b"-" else said(as_offset(on), offset_said, b"no assumed offset; it must be +HH:MM, -HH:MM, Z, UTC or -")
-    limit = said(within, lambda it: number_said(1, 1_048_576, 7, it), b"no limit; it must be a number from 1 to 1048576")
+    target_word, assumed_word, limit_word = settings + [b"+00:00", b"-", b"1048576"][len(settings) :]
+    target = said(as_offset(target_word), offset_said, b"no target offset; it must be +HH:MM, -HH:MM, Z or UTC")
+    assumed = None if assumed_word == b"-" else said(as_offset(assumed_word), offset_said, b"no assumed offset; it must be +HH:MM, -HH:MM, Z, UTC or -")
+    limit = said(limit_word, lambda it: number_said(1, 1_048_576, 7, it), b"no limit; it must be a number from 1 to 1048576")
     year = maybe_said(named[b"year"], year_said, b"no year; it must be a number from 0 to 9999")
     minutes = maybe_said(named[b"time"], time_said, b"no time of day; it must be HH:MM")
     label = maybe_said(named[b"label"], lambda it: label_said(words[0], it), b"no label; modes key and carry take one, without tabs and line feeds")
