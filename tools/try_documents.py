@@ -93,8 +93,10 @@ LINKED = ("crates", "bindings", "include", "tools")
 # What stands in the source of a manual page for a byte.
 ESCAPES = {r"\e": "\\", r"\-": "-", r"\&": "", r"\(aq": "'", r"\(dq": '"', r"\(ha": "^", r"\(ti": "~"}
 
-# A piece of a document: the kind that its first line names, the number of the line after that, its lines, its section.
+
 class Piece(NamedTuple):
+    """A piece of a document: the kind that its first line names, the number of the line after that, its lines, its section."""
+
     kind: str
     line: int
     lines: list[str]
@@ -102,6 +104,8 @@ class Piece(NamedTuple):
 
 
 class Example(NamedTuple):
+    """An example: the number of its line, its command, what it is to print, its section."""
+
     line: int
     command: list[str]
     due: list[str]

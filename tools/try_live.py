@@ -42,6 +42,7 @@ FAR = 500
 # (each of the many lines that pass is not worth a line)
 report = functools.partial(tries.report, says_passed=False)
 
+
 class Live:
     """The program at work, its standard input and output in our hands."""
 

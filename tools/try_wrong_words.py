@@ -43,6 +43,7 @@ ROWS = (
     ("key v3 [year", "source 1: unclosed opening bracket at byte index 0"),
 )
 
+
 def call(program: str | pathlib.Path, words: list[str], **how: Any) -> subprocess.CompletedProcess[str]:
     how = {"stdout": subprocess.PIPE, **how} if "input" in how else {"stdin": subprocess.DEVNULL, "stdout": subprocess.PIPE, **how}
     return subprocess.run([program, *words], stderr=subprocess.PIPE, text=True, check=False, **how)
