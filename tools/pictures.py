@@ -135,9 +135,10 @@ def points_of(path: str) -> Iterator[complex]:
     """Returns points along an arrow of a picture, whose path is a chain of Bezier curves."""
     given = [complex(*map(float, it)) for it in re.findall(r"(-?[\d.]+),(-?[\d.]+)", path)]
     for at in range(0, len(given) - 3, 3):
-        a, b, c, d = given[at : at + 4]
-        for t in (step / STEPS for step in range(STEPS + 1)):
-            yield a * (1 - t) ** 3 + 3 * b * t * (1 - t) ** 2 + 3 * c * t * t * (1 - t) + d * t**3
+        begin, near_begin, near_end, end = given[at : at + 4]
+        for part in (step / STEPS for step in range(STEPS + 1)):
+            rest = 1 - part
+            yield begin * rest**3 + 3 * near_begin * part * rest**2 + 3 * near_end * part**2 * rest + end * part**3
 
 
 def crossed_boxes(picture: str) -> list[str]:
@@ -224,9 +225,10 @@ def script_of_speeds() -> str:
     plots = []
     # (the marks of others are drawn over the grey ones of `instants`)
     for at in sorted(range(1, len(names)), key=lambda it: it != mine):
-        beside = f"{UNMEASURED * STEP ** [it for it in range(1, len(names)) if it != mine].index(at):.1f}" if at != mine else "–"
-        places = ((beside if values[at] == "–" else values[at], row) for row, (_, values) in enumerate(files, 1))
-        lines += [f"$p{at} << EOD", *(f"{place} {row}" for place, row in places if place != "–"), "EOD"]
+        # (`instants` is measured with each file)
+        beside = f"{UNMEASURED * STEP ** (at - 1 - (at > mine)):.1f}"
+        places = (f"{beside if values[at] == '–' else values[at]} {row}" for row, (_, values) in enumerate(files, 1))
+        lines += [f"$p{at} << EOD", *places, "EOD"]
         style = 'ps 1.5 lc rgb "#888888"' if at == mine else 'ps 0.9 lw 1.5 lc rgb "#000000"'
         plots.append(f'$p{at} using 1:2 with points pt {MARKS[at]} {style} title "{names[at]}"')
     return "\n".join([*lines, f"plot {', '.join(plots)}", ""])
