@@ -24,6 +24,8 @@ import subprocess
 import sys
 import tempfile
 import time
+from collections.abc import Sequence
+from typing import Any
 
 import lines as bench_lines
 from compare_programs import machine, registry
@@ -34,6 +36,8 @@ OUT = ROOT / "crates" / "instants_c" / "out"
 # Debian's own, which has the modules of Debian's packages.
 PYTHON = "/usr/bin/python3"
 COUNTS = (1, 100, 100_000)
+# The nanoseconds for each length of a call, where they were measured.
+Cells = list[float | None]
 RUST = "bench/calls/rust"
 ALONE = ["+00:00", "-", "100", "rfc3339"]
 LOG = "%d/%b/%Y:%H:%M:%S %z"
@@ -41,12 +45,12 @@ THREE = [*ALONE, "rfc2822", "strftime", LOG]
 LOG_CALL = f"instant('+00:00', 'strftime', '{LOG}', line)"
 
 
-def printed(command, **how):
+def printed(command: list[str | pathlib.Path], **how: Any) -> float:
     """Returns the number that a command prints."""
     return float(subprocess.run(command, stdout=subprocess.PIPE, check=True, text=True, **how).stdout)
 
 
-def build(room):
+def build(room: pathlib.Path) -> None:
     """Builds what is measured in a folder."""
     flags = ["gcc", "-std=c11", "-O2", f"-I{ROOT / 'include'}"]
     subprocess.run([*flags, "-o", room / "calls", BENCH / "calls" / "calls.c", OUT / "libinstants.a"], check=True)
@@ -61,47 +65,63 @@ def build(room):
     subprocess.run(["cargo", "build", "--release", "--quiet", "--offline"], cwd=room / RUST, env=places, check=True)
 
 
-def of_sqlite(room, file, count, call):
+def of_sqlite(room: pathlib.Path, file: pathlib.Path, count: int, call: str) -> float:
     """Returns the nanoseconds that a row takes in SQLite by a call, less those of a query without it."""
-    def taken(call):
+    def taken(call: str) -> float:
         script = f".load {room}/instant\nCREATE TABLE lines (line TEXT);\n.import {file} lines\n.timer on\nSELECT count({call}) FROM lines;\n"
         said = subprocess.run(["sqlite3", "-batch", ":memory:"], input=script, stdout=subprocess.PIPE, text=True, check=True).stdout
-        return float(re.search(r"user (\S+)", said)[1]) + float(re.search(r"sys (\S+)", said)[1])
+        return sum(float(it) for it in re.findall(r"(?:user|sys) (\S+)", said)[:2])
 
     return (min(taken(call) for _ in range(9)) - min(taken("line") for _ in range(9))) / count * 1e9
 
 
-def rows(room, file, count):
+class Measured:
+    """What was built, and the file of lines that the calls are of, with how many these are."""
+
+    def __init__(self, room: pathlib.Path, file: pathlib.Path, count: int) -> None:
+        self.room, self.file, self.count = room, file, count
+
+    def in_c(self, how: str, words: list[str]) -> Cells:
+        return [printed([self.room / "calls", how, self.file, str(min(it, self.count)), *words]) for it in COUNTS]
+
+    def in_python(self, name: str, counts: Sequence[int]) -> Cells:
+        places = dict(os.environ, INSTANTS_LIBRARY=str(OUT / "libinstants.so.0"), PYTHONPATH=str(ROOT / "bindings" / "python"))
+        program = BENCH / "calls" / "calls.py"
+        return [printed([PYTHON, "-B", program, self.file, str(min(it, self.count)), name, *ALONE], env=places) for it in counts]
+
+    def in_rust(self, counts: Sequence[int | str], *wanted: str) -> Cells:
+        return [printed([self.room / RUST / "target" / "release" / "calls", str(it), self.file, *wanted]) for it in counts]
+
+    def in_sqlite(self, lines: pathlib.Path, call: str) -> Cells:
+        return [of_sqlite(self.room, lines, self.count, call), None, None]
+
+
+def rows(of: Measured) -> list[tuple[str, Cells]]:
     """Returns the rows: a title and a cell for each length of a call."""
-    places = dict(os.environ, INSTANTS_LIBRARY=str(OUT / "libinstants.so.0"), PYTHONPATH=str(ROOT / "bindings" / "python"))
-    in_c = lambda how, words: [printed([room / "calls", how, file, str(min(it, count)), *words]) for it in COUNTS]
-    in_python = lambda name, counts: [printed([PYTHON, "-B", BENCH / "calls" / "calls.py", file, str(min(it, count)), name, *ALONE], env=places) for it in counts]
-    in_rust = lambda counts, *wanted: [printed([room / RUST / "target" / "release" / "calls", str(it), file, *wanted]) for it in counts]
-    in_sqlite = lambda lines, call: [of_sqlite(room, lines, count, call), None, None]
     return [
-        ("C: `instants_answer_lines`, by words, RFC 3339 alone", in_c("words", ALONE)),
-        ("C: the same, three sources", in_c("words", THREE)),
-        ("C: `instants_answer`, by a handle, RFC 3339 alone", in_c("handle", ALONE)),
-        ("C: the same, three sources", in_c("handle", THREE)),
-        ("C: `instants_answer_moments`, by a handle, RFC 3339 alone", in_c("moments", ALONE)),
-        ("C: the same, three sources", in_c("moments", THREE)),
-        ("Rust: `Timeline::append_to`", in_rust(COUNTS)),
-        ("Rust: `Timeline::moments`", in_rust(COUNTS, "moments")),
-        ("Rust: the crate `time` 0.3.9, `parse`, `to_offset`, `format_into`", in_rust(["time"]) * 3),
-        ("Python: `Timeline.answer`", [*in_python("Timeline.answer", COUNTS[:1]), None, None]),
-        ("Python: `Timeline.answers`", in_python("Timeline.answers", COUNTS)),
-        ("Python: `answer_bytes`", in_python("answer_bytes", COUNTS)),
-        ("Python: `answers`", in_python("answers", COUNTS)),
-        ("Python: `datetimes`", in_python("datetimes", COUNTS)),
-        ("Python: `to_datetime64`, of bytes", in_python("to_datetime64", COUNTS)),
-        ("Python: `ciso8601`, `astimezone`, `isoformat`", in_python("ciso8601", COUNTS[2:]) * 3),
-        ("Python: `python-dateutil`, `isoparse`, `astimezone`, `isoformat`", in_python("dateutil", COUNTS[2:]) * 3),
-        ("SQLite: `instant('+00:00', 'rfc3339', line)`", in_sqlite(file, "instant('+00:00', 'rfc3339', line)")),
-        ("SQLite: the same by `'strftime', '%d/%b/%Y:%H:%M:%S %z'`, of a web server's lines", in_sqlite(file.with_name("log.txt"), LOG_CALL)),
+        ("C: `instants_answer_lines`, by words, RFC 3339 alone", of.in_c("words", ALONE)),
+        ("C: the same, three sources", of.in_c("words", THREE)),
+        ("C: `instants_answer`, by a handle, RFC 3339 alone", of.in_c("handle", ALONE)),
+        ("C: the same, three sources", of.in_c("handle", THREE)),
+        ("C: `instants_answer_moments`, by a handle, RFC 3339 alone", of.in_c("moments", ALONE)),
+        ("C: the same, three sources", of.in_c("moments", THREE)),
+        ("Rust: `Timeline::append_to`", of.in_rust(COUNTS)),
+        ("Rust: `Timeline::moments`", of.in_rust(COUNTS, "moments")),
+        ("Rust: the crate `time` 0.3.9, `parse`, `to_offset`, `format_into`", of.in_rust(["time"]) * 3),
+        ("Python: `Timeline.answer`", [*of.in_python("Timeline.answer", COUNTS[:1]), None, None]),
+        ("Python: `Timeline.answers`", of.in_python("Timeline.answers", COUNTS)),
+        ("Python: `answer_bytes`", of.in_python("answer_bytes", COUNTS)),
+        ("Python: `answers`", of.in_python("answers", COUNTS)),
+        ("Python: `datetimes`", of.in_python("datetimes", COUNTS)),
+        ("Python: `to_datetime64`, of bytes", of.in_python("to_datetime64", COUNTS)),
+        ("Python: `ciso8601`, `astimezone`, `isoformat`", of.in_python("ciso8601", COUNTS[2:]) * 3),
+        ("Python: `python-dateutil`, `isoparse`, `astimezone`, `isoformat`", of.in_python("dateutil", COUNTS[2:]) * 3),
+        ("SQLite: `instant('+00:00', 'rfc3339', line)`", of.in_sqlite(of.file, "instant('+00:00', 'rfc3339', line)")),
+        ("SQLite: the same by `'strftime', '%d/%b/%Y:%H:%M:%S %z'`, of a web server's lines", of.in_sqlite(of.file.with_name("log.txt"), LOG_CALL)),
     ]
 
 
-def main():
+def main() -> None:
     words = argparse.ArgumentParser(description=__doc__, formatter_class=argparse.RawDescriptionHelpFormatter)
     words.add_argument("--lines", type=int, default=100_000)
     given = words.parse_args()
@@ -111,7 +131,7 @@ def main():
         room = pathlib.Path(folder)
         build(room)
         bench_lines.write(room / "lines", given.lines)
-        found = rows(room, room / "lines" / "rfc3339.txt", given.lines)
+        found = rows(Measured(room, room / "lines" / "rfc3339.txt", given.lines))
     date = time.strftime("%Y-%m-%d %H:%M UTC", time.gmtime())
     print(f"{date}, {machine()}, load {os.getloadavg()[0]:.1f}, {given.lines:,} lines, nanoseconds a line:\n")
     print("| call | 1 line | 100 lines | 100,000 lines |\n|---|---|---|---|")

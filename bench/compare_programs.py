@@ -43,6 +43,8 @@ import subprocess
 import sys
 import tempfile
 import time
+from collections.abc import Sequence
+from typing import NamedTuple, NoReturn
 
 import lines
 
@@ -100,18 +102,26 @@ FORMS = {
 }
 
 # The peers in C, with the flags that they take.
-C_PEERS = {"c_peer": [], "c_vector_peer": ["-march=x86-64-v2"]}
+C_PEERS: dict[str, list[str]] = {"c_peer": [], "c_vector_peer": ["-march=x86-64-v2"]}
 
-# A program: its row's title, its command for each file that it reads, and whether it is a tool.
-Program = collections.namedtuple("Program", "title commands is_tool")
+# The figures of each program by its title, for each file.
+Figures = dict[str, dict[str, float]]
 
 
-def tell(text):
+class Program(NamedTuple):
+    """A program: its row's title, its command for each file that it reads, and whether it is a tool."""
+
+    title: str
+    commands: dict[str, list[str]]
+    is_tool: bool
+
+
+def tell(text: str) -> None:
     """Says on standard error how far this is."""
     print(text, file=sys.stderr, flush=True)
 
 
-def give_up(text):
+def give_up(text: str) -> NoReturn:
     """Ends with a sentence."""
     sys.exit(f"compare_programs.py: {text}")
 
@@ -119,14 +129,14 @@ def give_up(text):
 # What is made
 
 
-def registry():
+def registry() -> str:
     """Returns the folder in which Debian's packages put crates."""
     listed = subprocess.run(["dpkg", "-L", "librust-time-dev"], capture_output=True, text=True).stdout
     found = re.search(r"^(/.*/registry)/", listed, re.MULTILINE)
     return found[1] if found else give_up("the package librust-time-dev is not installed")
 
 
-def build_peers(build):
+def build_peers(build: pathlib.Path) -> tuple[pathlib.Path, dict[str, str]]:
     """Builds a copy of the peers, and returns the folder of those in Rust and the releases of the crates."""
     copy = build / "peers"
     shutil.rmtree(copy, ignore_errors=True)
@@ -142,7 +152,7 @@ def build_peers(build):
     return build / "target" / "release", dict(re.findall(r'^name = "(.*)"\nversion = "(.*)"$', locked, re.MULTILINE))
 
 
-def make_lines(build, count):
+def make_lines(build: pathlib.Path, count: int) -> pathlib.Path:
     """Makes the files of lines where there are none, or older ones than what makes them, and returns their folder."""
     folder = build / f"lines_{count}"
     made = folder / "made"
@@ -157,13 +167,13 @@ def make_lines(build, count):
     return folder
 
 
-def peer(title, path, sources):
+def peer(title: str, path: str | pathlib.Path, sources: dict[str, list[str]]) -> Program:
     """Returns a program that takes the words of `instants`."""
     commands = {file: [str(path), "+00:00", ASSUMED.get(file, "-"), "100", *words] for file, words in sources.items()}
     return Program(title, commands, False)
 
 
-def tools():
+def tools() -> list[Program]:
     """Returns the tools of the command line."""
     converter = shutil.which("dateutils.dconv") or give_up("the package dateutils is not installed")
     date = ["date", "-f", "-", f"+{TOOL_OUTPUT}"]
@@ -175,7 +185,7 @@ def tools():
     ]
 
 
-def programs(arguments):
+def programs(arguments: argparse.Namespace) -> list[Program]:
     """Builds the peers, and returns all programs, that over the crate `time` first."""
     rust, releases = build_peers(arguments.build)
     calls = "`parse`, `to_offset`, `format_into`"
@@ -192,13 +202,13 @@ def programs(arguments):
 # What is compared
 
 
-def answers(command, text, checked=True):
+def answers(command: list[str], text: bytes, checked: bool = True) -> list[bytes]:
     """Returns the answers to a text, one beginning with `!` as that alone."""
     run = subprocess.run(command, input=text, capture_output=True, env=ENVIRONMENT, check=checked)
     return [b"!" if answer.startswith(b"!") else answer for answer in run.stdout.splitlines()]
 
 
-def compare_tool(title, got, wanted):
+def compare_tool(title: str, got: list[bytes], wanted: list[bytes]) -> list[str]:
     """Returns a sentence on a tool's date-times where they are not those that are wanted, in order."""
     due = [answer for answer in wanted if answer != b"!"]
     if got == due:
@@ -208,7 +218,7 @@ def compare_tool(title, got, wanted):
     return [f"{title}: {missing} of {len(due):,} date-times are missing, and {others} others stand there."]
 
 
-def compare_peer(title, got, wanted, asked, first):
+def compare_peer(title: str, got: list[bytes], wanted: list[bytes], asked: list[bytes], first: list[str]) -> tuple[list[str], bool]:
     """Returns sentences on the answers that differ from those of the first program, and whether some may not."""
     if len(got) != len(wanted):
         return [f"{title}: {len(got):,} ANSWERS TO {len(wanted):,} LINES."], True
@@ -226,7 +236,7 @@ def compare_peer(title, got, wanted, asked, first):
     return said, bool(others)
 
 
-def compare(all_programs, folder):
+def compare(all_programs: list[Program], folder: pathlib.Path) -> tuple[list[str], bool]:
     """Compares all answers, and returns sentences on those that differ, and whether some may not."""
     said, bad = [], False
     for file, name in NAMES.items():
@@ -247,12 +257,12 @@ def compare(all_programs, folder):
 # What is measured
 
 
-def readers(all_programs, file):
+def readers(all_programs: list[Program], file: str) -> list[Program]:
     """Returns the programs that read a file."""
     return [program for program in all_programs if file in program.commands]
 
 
-def seconds_a_line(program, file, folder, count):
+def seconds_a_line(program: Program, file: str, folder: pathlib.Path, count: int) -> float:
     """Returns the processor time of a run, the user's and the system's, for each of so many lines."""
     path = folder / f"{file}.txt"
     if program.is_tool:
@@ -265,7 +275,7 @@ def seconds_a_line(program, file, folder, count):
     return (after.ru_utime - before.ru_utime + after.ru_stime - before.ru_stime) / count
 
 
-def measure(all_programs, file, folder, arguments):
+def measure(all_programs: list[Program], file: str, folder: pathlib.Path, arguments: argparse.Namespace) -> tuple[dict[str, float], list[float]]:
     """Returns each reader's speed against the first, by its title, and the loads of the machine."""
     ratios, loads = collections.defaultdict(list), []
     for at in range(arguments.rounds):
@@ -280,7 +290,7 @@ def measure(all_programs, file, folder, arguments):
     return {title: statistics.median(found) for title, found in ratios.items()}, loads
 
 
-def instructions(command, path):
+def instructions(command: Sequence[str | pathlib.Path], path: str | pathlib.Path) -> int:
     """Returns how many instructions a run takes."""
     with open(path, "rb") as read, tempfile.TemporaryDirectory() as place:
         counted = ["valgrind", "--tool=callgrind", f"--callgrind-out-file={place}/counts", *command]
@@ -289,7 +299,7 @@ def instructions(command, path):
     return int(found[1]) if found else give_up(run.stderr.decode(errors="replace"))
 
 
-def count(all_programs, file, folder, lines_counted):
+def count(all_programs: list[Program], file: str, folder: pathlib.Path, lines_counted: int) -> dict[str, float]:
     """Returns each reader's instructions a line, by its title."""
     found = {}
     for program in readers(all_programs, file):
@@ -303,14 +313,14 @@ def count(all_programs, file, folder, lines_counted):
 # What is printed
 
 
-def machine():
+def machine() -> str:
     """Returns the processor's name, how many there are, and the release of the Rust compiler."""
     found = re.search(r"^model name\s*: (.*)$", pathlib.Path("/proc/cpuinfo").read_text(), re.MULTILINE)
     rust = subprocess.run(["rustc", "--version"], capture_output=True, text=True, check=True).stdout.split()[1]
     return f"{found[1] if found else 'unknown processor'}, {os.cpu_count()} processors, rustc {rust}"
 
 
-def cells(title, counted, measured):
+def cells(title: str, counted: dict[str, float], measured: dict[str, float]) -> list[str]:
     """Returns the two cells of a program and a file; a speed below one has two digits after the point."""
     speed = measured.get(title)
     digits = 1 if speed is None or round(speed, 1) >= 1 else 2
@@ -320,7 +330,7 @@ def cells(title, counted, measured):
     ]
 
 
-def print_table(names, all_programs, counted, measured):
+def print_table(names: dict[str, str], all_programs: list[Program], counted: Figures, measured: Figures) -> None:
     """Prints a table of the files with these names."""
     print("| program | " + " | ".join(f"{name}, instructions | speed" for name in names.values()) + " |")
     print("|---" * (1 + 2 * len(names)) + "|")
@@ -330,7 +340,7 @@ def print_table(names, all_programs, counted, measured):
             print(f"| {program.title} | " + " | ".join(row) + " |")
 
 
-def words():
+def words() -> argparse.Namespace:
     """Returns the words of the command line."""
     parser = argparse.ArgumentParser(description="Measures the program beside others, and prints two tables.")
     folder = pathlib.Path(tempfile.gettempdir()) / "compare_programs"
@@ -343,7 +353,7 @@ def words():
     return parser.parse_args()
 
 
-def main():
+def main() -> int:
     arguments = words()
     arguments.program, arguments.build = arguments.program.resolve(), arguments.build.resolve()
     if not arguments.program.exists():

@@ -33,14 +33,15 @@ FILES = {"access": "access log", "dateless": "messages without a date", "trace":
 COUNTED = 20_000
 
 
-def instructions(program, text):
+def instructions(program: pathlib.Path, text: bytes) -> int:
     """Returns how many instructions a run takes."""
-    command = ["valgrind", "--tool=callgrind", "--callgrind-out-file=/dev/null", program, *WORDS]
+    command: list[str | pathlib.Path] = ["valgrind", "--tool=callgrind", "--callgrind-out-file=/dev/null", program, *WORDS]
     said = subprocess.run(command, input=text, stdout=subprocess.DEVNULL, stderr=subprocess.PIPE, check=True).stderr
-    return int(re.search(rb"Collected : (\d+)", said)[1])
+    found = re.search(rb"Collected : (\d+)", said)
+    return int(found[1]) if found else sys.exit(said.decode(errors="replace"))
 
 
-def seconds(command, file):
+def seconds(command: list[str | pathlib.Path], file: pathlib.Path) -> float:
     """Returns the processor time of a run on a file."""
     before = resource.getrusage(resource.RUSAGE_CHILDREN)
     with open(file, "rb") as given:
@@ -49,20 +50,20 @@ def seconds(command, file):
     return after.ru_utime + after.ru_stime - before.ru_utime - before.ru_stime
 
 
-def counted(program, file):
+def counted(program: pathlib.Path, file: pathlib.Path) -> str:
     """Returns what is printed of the instructions on the first lines of a file."""
     text = b"".join(file.read_bytes().splitlines(keepends=True)[:COUNTED])
     count = instructions(program, text) - instructions(program, b"")
     return f"{count / text.count(10):.0f} instructions a line, {count / len(text):.2f} a byte"
 
 
-def compared(program, other, file, rounds):
+def compared(program: pathlib.Path, other: str, file: pathlib.Path, rounds: int) -> str:
     """Returns what is printed of the speed against the other program."""
     times = [(seconds([program, *WORDS], file), seconds([other, *DATECONV], file)) for _ in range(rounds)]
     return f"{statistics.median(theirs / ours for ours, theirs in times):.1f} times `dateconv -S`"
 
 
-def main():
+def main() -> None:
     parser = argparse.ArgumentParser(description=__doc__, formatter_class=argparse.RawDescriptionHelpFormatter)
     parser.add_argument("--rounds", type=int, default=5)
     parser.add_argument("--lines", type=int, default=200_000)
@@ -80,4 +81,4 @@ def main():
 
 
 if __name__ == "__main__":
-    sys.exit(main())
+    main()

@@ -15,6 +15,7 @@ import re
 import subprocess
 import sys
 import tempfile
+from collections.abc import Callable
 
 TOP = pathlib.Path(__file__).resolve().parent.parent
 SIZES = [16 << 10, 64 << 10, 256 << 10, 1 << 20]
@@ -23,11 +24,11 @@ LEVELS = 127
 DEEP = "[optional [" * LEVELS + "x" + "]]" * LEVELS
 
 
-def repeated(part):
+def repeated(part: str) -> Callable[[int], str]:
     return lambda size: part * (size // len(part))
 
 
-def inside(before, part, after):
+def inside(before: str, part: str, after: str) -> Callable[[int], str]:
     return lambda size: before + part * ((size - len(before) - len(after)) // len(part)) + after
 
 
@@ -53,7 +54,7 @@ SHAPES = [
 ]
 
 
-def instructions(program, language, text):
+def instructions(program: str, language: str, text: str) -> int:
     with tempfile.TemporaryDirectory() as place:
         counts = pathlib.Path(place) / "counts"
         run = subprocess.run(
@@ -63,10 +64,11 @@ def instructions(program, language, text):
         )
         if run.returncode not in (0, 2):
             sys.exit(run.stderr.decode())
-        return int(re.search(r"^(?:summary|totals): (\d+)", counts.read_text(), re.MULTILINE).group(1))
+        found = re.search(r"^(?:summary|totals): (\d+)", counts.read_text(), re.MULTILINE)
+        return int(found[1]) if found else sys.exit("callgrind counted nothing")
 
 
-def main():
+def main() -> None:
     default = TOP / "crates/description_check/out/description_check"
     program = sys.argv[1] if len(sys.argv) > 1 else str(default)
     print("| shape | language | 16 KiB | 64 KiB | 256 KiB | 1 MiB | last by first |")

@@ -43,7 +43,7 @@ OFFSETS = [0] * 8 + [60, 120, 180, 330, 345, 480, 540, 570, 600, 765, 840,
 FIRST_SEED = 20261122
 
 
-def moment(rng):
+def moment(rng: random.Random) -> tuple[datetime.date, int, int, int, str, int]:
     """Returns a day, an hour, a minute, a second, the text of a fraction and an offset in minutes."""
     day = datetime.date.fromordinal(rng.randint(FIRST_DAY, LAST_DAY))
     second = rng.randrange(86400)
@@ -52,7 +52,7 @@ def moment(rng):
     return day, second // 3600, second // 60 % 60, second % 60, fraction, rng.choice(OFFSETS)
 
 
-def offset_text(minutes, colon, zulu):
+def offset_text(minutes: int, colon: str, zulu: bool) -> str:
     """Returns the text of an offset, with this between hours and minutes; `Z` for zero where that is asked for."""
     if minutes == 0 and zulu:
         return "Z"
@@ -60,14 +60,14 @@ def offset_text(minutes, colon, zulu):
     return f"{'-' if minutes < 0 else '+'}{size // 60:02}{colon}{size % 60:02}"
 
 
-def rfc3339(rng):
+def rfc3339(rng: random.Random) -> str:
     """Returns a line of RFC 3339."""
-    day, hour, minute, second, fraction, offset = moment(rng)
-    offset = offset_text(offset, ":", rng.random() < 0.9)
+    day, hour, minute, second, fraction, minutes = moment(rng)
+    offset = offset_text(minutes, ":", rng.random() < 0.9)
     return f"{day.year:04}-{day.month:02}-{day.day:02}T{hour:02}:{minute:02}:{second:02}{fraction}{offset}"
 
 
-def iso8601(rng):
+def iso8601(rng: random.Random) -> str:
     """Returns a line of ISO 8601: a half have a month, a quarter a week, a quarter a day of the year."""
     day, hour, minute, second, fraction, offset = moment(rng)
     dash, colon = ("-", ":") if rng.random() < 0.6 else ("", "")
@@ -82,7 +82,7 @@ def iso8601(rng):
     return f"{date}T{hour:02}{colon}{minute:02}{colon}{second:02}{fraction}{offset_text(offset, colon, True)}"
 
 
-def rfc2822(rng):
+def rfc2822(rng: random.Random) -> str:
     """Returns a line of RFC 2822. The weekday always stands: release 0.3.9 of the crate `time` asks for it."""
     day, hour, minute, second, _, offset = moment(rng)
     of_month = f"{day.day:02}" if rng.random() < 0.7 else str(day.day)
@@ -90,48 +90,48 @@ def rfc2822(rng):
     return f"{date} {hour:02}:{minute:02}:{second:02} {offset_text(offset, '', False)}"
 
 
-def log(rng):
+def log(rng: random.Random) -> str:
     """Returns a time as a web server logs it."""
     day, hour, minute, second, _, offset = moment(rng)
     date = f"{day.day:02}/{MONTHS[day.month - 1]}/{day.year:04}"
     return f"{date}:{hour:02}:{minute:02}:{second:02} {offset_text(offset, '', False)}"
 
 
-def clock(rng):
+def clock(rng: random.Random) -> tuple[datetime.date, str]:
     """Returns a day and the text of a time of day."""
     day, hour, minute, second, _, _ = moment(rng)
     return day, f"{hour:02}:{minute:02}:{second:02}"
 
 
-def postgres(rng):
+def postgres(rng: random.Random) -> str:
     """Returns a time as PostgreSQL logs it."""
     day, time = clock(rng)
     return f"{day} {time}.{rng.randrange(1000):03} UTC"
 
 
-def python(rng):
+def python(rng: random.Random) -> str:
     """Returns a time as Python's module `logging` writes it."""
     day, time = clock(rng)
     return f"{day} {time},{rng.randrange(1000):03}"
 
 
-def syslog(rng):
+def syslog(rng: random.Random) -> str:
     """Returns a time as a system's log has it, with its year before."""
     day, time = clock(rng)
     return f"{day.year} {MONTHS[day.month - 1]} {day.day:2} {time}"
 
 
-def unix(rng):
+def unix(rng: random.Random) -> str:
     """Returns seconds since 1970, of 2001 to 2099."""
     return str(rng.randint(1_000_000_000, 4_099_999_999))
 
 
-def unix_ms(rng):
+def unix_ms(rng: random.Random) -> str:
     """Returns milliseconds since 1970, of 2001 to 2099."""
     return str(rng.randint(1_000_000_000_000, 4_099_999_999_999))
 
 
-def asctime(rng):
+def asctime(rng: random.Random) -> str:
     """Returns a time as C's `asctime` writes it."""
     day, time = clock(rng)
     return f"{DAYS[day.weekday()]} {MONTHS[day.month - 1]} {day.day:2} {time} {day.year}"
@@ -144,12 +144,12 @@ AGENTS = ["Mozilla/5.0 (X11; Linux x86_64) AppleWebKit/537.36 (KHTML, like Gecko
           "Mozilla/5.0 (compatible; Googlebot/2.1; +http://www.google.com/bot.html)"]
 
 
-def address(rng):
+def address(rng: random.Random) -> str:
     """Returns a network address."""
     return ".".join(str(rng.randrange(256)) for _ in range(4))
 
 
-def access(rng):
+def access(rng: random.Random) -> str:
     """Returns a line of an access log in the combined format."""
     request = f"{rng.choice(['GET', 'GET', 'GET', 'POST'])} {rng.choice(PATHS)} HTTP/1.1"
     answer = f"{rng.choice([200, 200, 200, 304, 404, 500])} {rng.randrange(60_000)}"
@@ -162,7 +162,7 @@ loaded message opened pool queue read request retry row sent server session skip
 to user value worker write""".split()
 
 
-def dateless(rng):
+def dateless(rng: random.Random) -> str:
     """Returns a message without a date."""
     parts = []
     for _ in range(rng.randint(6, 16)):
@@ -180,7 +180,7 @@ def dateless(rng):
     return f"{rng.choice(['INFO', 'WARN', 'ERROR'])} " + " ".join(parts)
 
 
-def trace(rng):
+def trace(rng: random.Random) -> str:
     """Returns a line of a trace of Python."""
     kind = rng.randrange(8)
     if kind == 0:
@@ -193,7 +193,7 @@ def trace(rng):
     return f"    {rng.choice(WORDS)} = self.{rng.choice(WORDS)}({rng.choice(WORDS)}, timeout={rng.randrange(60)})"
 
 
-def garbage(rng):
+def garbage(rng: random.Random) -> str:
     """Returns a line that names no moment, but for those with `!` in place of `T`, which some programs read."""
     kind = rng.randrange(6)
     if kind == 0:
@@ -210,7 +210,7 @@ def garbage(rng):
     return "GET /index.html HTTP/1.1 200 -"
 
 
-def mixed(rng):
+def mixed(rng: random.Random) -> str:
     """Returns a line of any of these kinds."""
     share = rng.random()
     if share < 0.4:
@@ -223,7 +223,7 @@ def mixed(rng):
 FILES = (rfc3339, iso8601, rfc2822, mixed, log, postgres, python, syslog, unix, unix_ms, asctime, access, dateless, trace)
 
 
-def write(folder, count):
+def write(folder: pathlib.Path, count: int) -> None:
     """Writes the files of so many lines each to the folder."""
     folder.mkdir(parents=True, exist_ok=True)
     for seed, line in enumerate(FILES, FIRST_SEED):
@@ -232,7 +232,7 @@ def write(folder, count):
             file.writelines(line(rng) + "\n" for _ in range(count))
 
 
-def main():
+def main() -> None:
     parser = argparse.ArgumentParser()
     parser.add_argument("folder", type=pathlib.Path)
     parser.add_argument("lines", type=int, nargs="?", default=1_000_000)

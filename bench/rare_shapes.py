@@ -13,6 +13,7 @@ import pathlib
 import random
 import subprocess
 import tempfile
+from collections.abc import Callable
 
 import lines
 from compare_programs import PROGRAM, instructions
@@ -30,7 +31,7 @@ TEN = [word for text in ("[year]-[month]-[day] [hour]:[minute]:[second].[subseco
                          "[year]-[month]-[day]T[hour]:[minute]:[second]Z") for word in ("v3", text)]
 
 
-def parts(rng):
+def parts(rng: random.Random) -> tuple[datetime.date, tuple[str, str], tuple[str, str], tuple[str, str]]:
     """Returns a day, its names, a time of day in two lengths, and an offset with a colon and without."""
     day, hour, minute, second, _, offset = lines.moment(rng)
     names = lines.DAYS[day.weekday()], lines.MONTHS[day.month - 1]
@@ -38,95 +39,95 @@ def parts(rng):
     return day, names, clocks, (lines.offset_text(offset, ":", True), lines.offset_text(offset, "", False))
 
 
-def digits(rng):
+def digits(rng: random.Random) -> str:
     """Returns ten to twenty digits."""
     return "".join(rng.choices("0123456789", k=rng.randint(10, 20)))
 
 
-def comment(rng):
+def comment(rng: random.Random) -> str:
     day, names, clocks, offsets = parts(rng)
     return f"{names[0]}, {day.day} {names[1]} {day.year} {clocks[0]} {offsets[1]} (UTC)"
 
 
-def two_spaces(rng):
+def two_spaces(rng: random.Random) -> str:
     day, names, clocks, offsets = parts(rng)
     return f"{names[0]},  {day.day % 9 + 1} {names[1]} {day.year} {clocks[0]} {offsets[1]}"
 
 
-def no_seconds(rng):
+def no_seconds(rng: random.Random) -> str:
     day, names, clocks, offsets = parts(rng)
     return f"{names[0]}, {day.day:02} {names[1]} {day.year} {clocks[1]} {offsets[1]}"
 
 
-def short_year(rng):
+def short_year(rng: random.Random) -> str:
     day, names, clocks, offsets = parts(rng)
     return f"{names[0]}, {day.day:02} {names[1]} {day.year % 100:02} {clocks[0]} {offsets[1]}"
 
 
-def zone_name(rng):
+def zone_name(rng: random.Random) -> str:
     day, names, clocks, _ = parts(rng)
     return f"{names[0]}, {day.day:02} {names[1]} {day.year} {clocks[0]} GMT"
 
 
-def iso8601_no_seconds(rng):
+def iso8601_no_seconds(rng: random.Random) -> str:
     day, _, clocks, offsets = parts(rng)
     return f"{day}T{clocks[1]}{offsets[0]}"
 
 
-def short_offset(rng):
+def short_offset(rng: random.Random) -> str:
     day, _, clocks, offsets = parts(rng)
     return f"{day}T{clocks[0]}{offsets[1][:3]}"
 
 
-def plain_offset(rng):
+def plain_offset(rng: random.Random) -> str:
     day, _, clocks, offsets = parts(rng)
     return f"{day}T{clocks[0]}{offsets[1]}"
 
 
-def no_offset(rng):
+def no_offset(rng: random.Random) -> str:
     day, _, clocks, _ = parts(rng)
     return f"{day}T{clocks[0]}"
 
 
-def comma(rng):
+def comma(rng: random.Random) -> str:
     day, _, clocks, offsets = parts(rng)
     return f"{day}T{clocks[0]},{rng.randrange(1000):03}{offsets[0]}"
 
 
-def expanded(rng):
+def expanded(rng: random.Random) -> str:
     day, _, clocks, offsets = parts(rng)
     return f"+00{day}T{clocks[0]}{offsets[0]}"
 
 
-def many_digits(rng):
+def many_digits(rng: random.Random) -> str:
     day, _, clocks, offsets = parts(rng)
     return f"{day}T{clocks[0]}.{digits(rng)}{offsets[0]}"
 
 
-def optional(rng):
+def optional(rng: random.Random) -> str:
     day, _, clocks, offsets = parts(rng)
     return f"{day}T{clocks[0]}{rng.choice(['', f'.{rng.randrange(1000):03}'])}+00:00"
 
 
-def unpadded(rng):
+def unpadded(rng: random.Random) -> str:
     day, _, clocks, _ = parts(rng)
     return f"{day.day}.{day.month}.{day.year} {clocks[0]}"
 
 
-def twelve_hours(rng):
+def twelve_hours(rng: random.Random) -> str:
     day, _, clocks, _ = parts(rng)
     return f"{day:%m/%d/%Y} {rng.randint(1, 12):02}{clocks[0][2:]} {rng.choice(['AM', 'PM'])}"
 
 
-def long_names(rng):
+def long_names(rng: random.Random) -> str:
     day, _, clocks, _ = parts(rng)
     return f"{day:%d %B %Y} {clocks[0]}"
 
 
-def written(letters):
+def written(letters: str) -> Callable[[random.Random], str]:
     """Returns what makes a line by these letters of strftime."""
 
-    def line(rng):
+    def line(rng: random.Random) -> str:
         day, _, clocks, _ = parts(rng)
         hour, minute, second = (int(number) for number in clocks[0].split(":"))
         return datetime.datetime(day.year, day.month, day.day, hour, minute, second).strftime(letters)
@@ -134,33 +135,33 @@ def written(letters):
     return line
 
 
-def zulu_or_offset(rng):
+def zulu_or_offset(rng: random.Random) -> str:
     day, _, clocks, offsets = parts(rng)
     return f"{day}T{clocks[0]}{rng.choice(['Z', offsets[0]])}"
 
 
-def unix_nanoseconds(rng):
+def unix_nanoseconds(rng: random.Random) -> str:
     return f"{lines.unix(rng)}{rng.randrange(10 ** 9):09}"
 
 
-def unix_negative(rng):
+def unix_negative(rng: random.Random) -> str:
     return f"-{rng.randrange(10 ** 9):09}"
 
 
-def unix_short(rng):
+def unix_short(rng: random.Random) -> str:
     return f"{rng.randrange(10 ** 8, 10 ** 9)}"
 
 
-def unix_fraction(rng):
+def unix_fraction(rng: random.Random) -> str:
     return f"{lines.unix(rng)}.{rng.randrange(10 ** 6):06}"
 
 
-def fixed_before(rng):
+def fixed_before(rng: random.Random) -> str:
     day, _, clocks, _ = parts(rng)
     return f"{day}T{clocks[0]}Z"
 
 
-def garbage_of_digits(rng):
+def garbage_of_digits(rng: random.Random) -> str:
     day, _, clocks, _ = parts(rng)
     return f"{day}_{clocks[0]}?"
 
@@ -204,7 +205,7 @@ SHAPES = [
 ]
 
 
-def main():
+def main() -> None:
     parser = argparse.ArgumentParser()
     parser.add_argument("--program", type=pathlib.Path, default=PROGRAM)
     parser.add_argument("--lines", type=int, default=5_000)

@@ -15,8 +15,9 @@ import random
 import subprocess
 import sys
 import threading
+from typing import IO
 
-import psutil
+import psutil  # type: ignore[import]
 
 ROOT = pathlib.Path(__file__).resolve().parent.parent
 PROGRAM = ROOT / "crates" / "instants_program" / "out" / "instants_program"
@@ -25,7 +26,7 @@ BLOCK_LINES = 10_000
 MONTHS = "Jan Feb Mar Apr May Jun Jul Aug Sep Oct Nov Dec".split()
 
 
-def line(rng):
+def line(rng: random.Random) -> str:
     """Returns one line of one of four kinds."""
     year, month, day = rng.randint(1, 9998), rng.randint(1, 12), rng.randint(1, 28)
     hour, minute, second = rng.randint(0, 23), rng.randint(0, 59), rng.randint(0, 59)
@@ -43,19 +44,19 @@ def line(rng):
     return rng.choice(["", "yesterday", "2021-13-01T00:00:00Z", "x" * 101, f"{day:02}/Foo/{year:04}"])
 
 
-def resident(pid):
+def resident(pid: int) -> int:
     """Returns the resident memory of a process in KiB."""
-    return psutil.Process(pid).memory_info().rss // 1024
+    return int(psutil.Process(pid).memory_info().rss) // 1024
 
 
-def feed(pipe, block, times):
+def feed(pipe: IO[bytes], block: bytes, times: int) -> None:
     """Writes the block so many times, and closes the pipe."""
     with pipe:
         for _ in range(times):
             pipe.write(block)
 
 
-def main():
+def main() -> int:
     parser = argparse.ArgumentParser()
     parser.add_argument("--lines", type=int, default=100_000_000)
     parser.add_argument("--program", default=str(PROGRAM))
@@ -70,6 +71,7 @@ def main():
         return 1
     times = max(1, arguments.lines // BLOCK_LINES)
     process = subprocess.Popen(command, stdin=subprocess.PIPE, stdout=subprocess.PIPE)
+    assert process.stdin and process.stdout
     feeder = threading.Thread(target=feed, args=(process.stdin, block, times), daemon=True)
     feeder.start()
     passed, sizes = 0, []

@@ -20,6 +20,7 @@ import subprocess
 import sys
 import tempfile
 import time
+from collections.abc import Callable
 
 import lines as bench_lines
 from compare_programs import machine
@@ -49,7 +50,7 @@ with Client(scheduler_file=sys.argv[1]) as client:
 """
 
 
-def by_shell(room, command, after="true"):
+def by_shell(room: pathlib.Path, command: str, after: str = "true") -> float:
     """Returns the seconds that a command of the shell takes, without what comes after it."""
     taken = []
     for _ in range(ROUNDS):
@@ -60,17 +61,17 @@ def by_shell(room, command, after="true"):
     return min(taken)
 
 
-def by_dask(room, workers):
+def by_dask(room: pathlib.Path, workers: int) -> float:
     """Returns the seconds that workers of Dask take."""
     try_dask.WORKERS = workers
     with contextlib.ExitStack() as stack:
         cluster = try_dask.Cluster(room, stack)
-        command = [try_dask.PYTHON, "-c", DASK, room / "address", str(ROUNDS), room / "lines", room / "output", *shlex.split(COMMAND)]
+        command: list[str | pathlib.Path] = [try_dask.PYTHON, "-c", DASK, room / "address", str(ROUNDS), room / "lines", room / "output", *shlex.split(COMMAND)]
         said = subprocess.run(command, cwd=room, env=cluster.places, stdout=subprocess.PIPE, text=True, check=True).stdout
     return min(map(float, said.split()))
 
 
-def write_lines(file, megabytes):
+def write_lines(file: pathlib.Path, megabytes: int) -> int:
     """Writes mixed lines, and returns how many."""
     rng = random.Random(39)
     block = "".join(f"{bench_lines.mixed(rng)}\n" for _ in range(MADE)).encode()
@@ -81,7 +82,7 @@ def write_lines(file, megabytes):
     return MADE * times
 
 
-def main():
+def main() -> None:
     words = argparse.ArgumentParser(description=__doc__, formatter_class=argparse.RawDescriptionHelpFormatter)
     words.add_argument("--megabytes", type=int, default=1_000, metavar="N")
     given = words.parse_args()
@@ -90,10 +91,12 @@ def main():
         count = write_lines(room / "lines", given.megabytes)
         due = None
         rows = [("one process", [by_shell(room, f"{COMMAND} < lines > output"), None, None])]
-        ways = [("`split -n l/K/N`, parts left apart", lambda it: by_shell(room, SIDE_BY_SIDE.format(it, COMMAND), JOIN.format(it))),
-                ("`split -n l/K/N`, joined", lambda it: by_shell(room, f"{SIDE_BY_SIDE}; {JOIN}".format(it, COMMAND))),
-                ("`parallel --pipepart -k`", lambda it: by_shell(room, PARALLEL.format(it, shlex.quote(COMMAND)))),
-                ("Dask, workers over TCP", lambda it: by_dask(room, it))]
+        ways: list[tuple[str, Callable[[int], float]]] = [
+            ("`split -n l/K/N`, parts left apart", lambda it: by_shell(room, SIDE_BY_SIDE.format(it, COMMAND), JOIN.format(it))),
+            ("`split -n l/K/N`, joined", lambda it: by_shell(room, f"{SIDE_BY_SIDE}; {JOIN}".format(it, COMMAND))),
+            ("`parallel --pipepart -k`", lambda it: by_shell(room, PARALLEL.format(it, shlex.quote(COMMAND)))),
+            ("Dask, workers over TCP", lambda it: by_dask(room, it)),
+        ]
         for title, way in ways:
             due = due or subprocess.run(["cksum", room / "output"], stdout=subprocess.PIPE, check=True).stdout
             rows.append((title, [way(it) for it in WORKERS]))

@@ -14,6 +14,7 @@ many mutations the gate tries of all: pairs of an old and a new text, in `must-f
 A word that is reached and stands nowhere (tools/rattle_words.py says which words do) is told with its place, and the status is 1.
 """
 
+import pathlib
 import re
 import sys
 
@@ -28,6 +29,8 @@ PAGE, FRONT = ROOT / "docs" / "CLAIMS.md", ROOT / "README.md"
 TABLE = re.compile(r"(<!-- tools/believed_files.py begins(?: [a-z ]+)? -->\n).*?(\n<!-- tools/believed_files.py ends -->)", re.S)
 # The calls that the tables are of.
 CALLS = tuple((CRATES / crate / "src" / "program.rt", "run_words") for crate in ("instants_timeline", "instants_lines"))
+# The lines of what is reached, by its file and its name.
+Lines = dict[tuple[pathlib.Path, str], list[str]]
 LAYERS = {"instants": "lines and answers", "parsing": "reading", "description": "descriptions", "datetime": "date-times", "calendar": "calendar", "base": "bytes"}
 # How many lines are read in a minute, and the sentence with how long all of them take.
 PACE = 15
@@ -36,13 +39,13 @@ PASSED = re.compile(r"`\d+ passed, 0 failed`")
 TRIED = re.compile(r"\b\d+ of [\d,]+ mutations\b")
 
 
-def layer_of(crate):
+def layer_of(crate: str) -> str | None:
     return next((it for it in LAYERS if crate == it or crate.startswith(f"{it}_")), None)
 
 
-def counts_of(lines, part):
+def counts_of(lines: Lines, part: str) -> dict[str, dict[pathlib.Path, int]]:
     """Returns the files of each crate's specs/ or src/ that have some of the lines, each with how many."""
-    crates = {}
+    crates: dict[str, dict[pathlib.Path, int]] = {}
     for (file, _), text in lines.items():
         crate, folder, *_ = file.relative_to(CRATES).parts
         if folder == part:
@@ -51,16 +54,16 @@ def counts_of(lines, part):
     return crates
 
 
-def cell(files):
+def cell(files: dict[pathlib.Path, int]) -> str:
     """Returns the links to some files, each with its number of lines."""
     return ", ".join(f"[{it.stem}](../{it.relative_to(ROOT).as_posix()}) {files[it]}" for it in sorted(files))
 
 
-def told(files):
+def told(files: dict[pathlib.Path, int]) -> str:
     return f"{len(files)} files, {sum(files.values())} lines"
 
 
-def table(lines):
+def table(lines: Lines) -> str:
     """Returns the table of definitions and declarations."""
     rows = ["| layer | crate | `specs/`: files, with their lines of definitions | `src/`: files, with their lines of declarations |", "|---|---|---|---|"]
     specs, src = counts_of(lines, "specs"), counts_of(lines, "src")
@@ -72,10 +75,10 @@ def table(lines):
     return "\n".join([*rows, f"| all | {len(rows) - 2} crates | {' | '.join(sums)} |"])
 
 
-def counted(lines):
+def counted(lines: Lines) -> str:
     """Returns the sentence with how long some lines take to read."""
     sizes = [[size for files in counts_of(lines, part).values() for size in files.values()] for part in ("specs", "src")]
-    hours = max(1, round(sum(map(sum, sizes)) / PACE / 60))
+    hours = max(1, round(sum(sum(it) for it in sizes) / PACE / 60))
     (definitions, files), (declarations, others) = ((sum(it), len(it)) for it in sizes)
     return (
         f"{definitions} lines of definitions in {files} files and {declarations} lines of declarations in {others} files, "
@@ -83,12 +86,12 @@ def counted(lines):
     )
 
 
-def pairs_in(*folders):
+def pairs_in(*folders: str) -> int:
     """Returns how many pairs of an old and a new text the files of mutations have in some folders of all crates."""
     return sum(len(changes_of(file)) for folder in folders for file in CRATES.glob(f"*/{folder}/*.edit"))
 
 
-def pages(first, beyond):
+def pages(first: Lines, beyond: Lines) -> dict[pathlib.Path, str]:
     """Returns the pages as they are to be written, each with its file."""
     checks = len(program.uses()) + len([*CRATES.glob("*/must-fail/*")])
     tried = f"{pairs_in('must-fail')} of {pairs_in('must-fail', 'mutations'):,} mutations"
@@ -100,14 +103,14 @@ def pages(first, beyond):
     return {PAGE: claims, FRONT: TRIED.sub(tried, FRONT.read_text())}
 
 
-def lacking():
+def lacking() -> list[str]:
     """Returns which of the places that this tool writes a page does not have, or has more than once."""
     claims, front = PAGE.read_text(), FRONT.read_text()
     places = ((PAGE, "table", TABLE, 2), (PAGE, "sentence on reading", COUNTED, 1), (PAGE, "last line", PASSED, 1), (PAGE, "number of mutations", TRIED, 1), (FRONT, "number of mutations", TRIED, 1))
     return [f"{page.relative_to(ROOT)} has its {what} {found} times, not {due}" for page, what, pattern, due in places if (found := len(pattern.findall(claims if page == PAGE else front))) != due]
 
 
-def main(words):
+def main(words: list[str]) -> int:
     first, second = (reached_from_call(*it) for it in CALLS)
     beyond = {part: lines for part, lines in second.lines.items() if part not in first.lines}
     if words == ["--names"]:

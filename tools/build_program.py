@@ -7,7 +7,7 @@ The build is `rt ci` over a copy of the programs' crates alone, without tests an
 both compilers make each program, and compares what it writes with the stored run. The longest chain of crates, which no
 number of processors makes shorter, is proved beside it by runs of its own, and each proof there gets as many processors as
 it can use; the other run takes what they leave. What is proved is kept for the repository's own `rt ci` on this machine, and
-for later builds. tools/build_all.py builds both programs and the library for C in one such run.
+for later builds. tools/build_all.py builds all programs for users and the library for C in one such run.
 """
 
 import contextlib
@@ -23,6 +23,8 @@ import sys
 import tempfile
 import threading
 import time
+from collections.abc import Iterator, Sequence
+from typing import Any
 
 from program import ENDED_WITH_CALLER, PARTS, ROOT, BuildFailed, Program, lines_of_crates, uses
 
@@ -35,7 +37,7 @@ FOREKNOWN = 300
 USUAL, LARGE = 100, 0.03
 
 
-def build(*programs):
+def build(*programs: Program) -> None:
     """Proves and builds those of the programs that are not current in one run, one call at a time, or raises BuildFailed."""
     if not shutil.which("rt"):
         raise BuildFailed("there is something to build, and there is no command rt")
@@ -55,12 +57,12 @@ def build(*programs):
             shutil.rmtree(room, ignore_errors=True)
 
 
-def crates_of(programs):
+def crates_of(programs: Sequence[Program]) -> list[str]:
     """Returns the crates of these programs that `rt ci` proves, each after those that it uses."""
     return list(dict.fromkeys(crate for program in programs for crate in program.proved_first()))
 
 
-def room_of_checkout():
+def room_of_checkout() -> pathlib.Path:
     """Returns the folder where this checkout builds; what an ended build left there goes with the next one."""
     home = pathlib.Path(tempfile.gettempdir(), f"fuzhelik-{os.getuid()}")
     home.mkdir(mode=0o700, exist_ok=True)
@@ -70,7 +72,7 @@ def room_of_checkout():
 
 
 @contextlib.contextmanager
-def in_turn(programs, file):
+def in_turn(programs: Sequence[Program], file: pathlib.Path) -> Iterator[None]:
     """Waits while another call builds in this checkout."""
     with open(file, "w") as lock:
         try:
@@ -81,12 +83,12 @@ def in_turn(programs, file):
         yield
 
 
-def say(programs, text):
+def say(programs: Sequence[Program], text: str) -> None:
     """Says something of a build of these programs."""
     print(f"{', '.join(it.name for it in programs)}: {text}", file=sys.stderr, flush=True)
 
 
-def lay_out(crates, room):
+def lay_out(crates: list[str], room: pathlib.Path) -> None:
     """Copies the sources of the crates, and the stored run of each program."""
     shutil.rmtree(room, ignore_errors=True)
     # (rt ci wants the top of a repository)
@@ -98,7 +100,7 @@ def lay_out(crates, room):
         copy_crate(crate, room)
 
 
-def copy_crate(crate, room):
+def copy_crate(crate: str, room: pathlib.Path) -> None:
     """Copies the sources of a crate, and the stored run of a program."""
     for part in (*PARTS, *RUN):
         source, target = ROOT / "crates" / crate / part, room / "crates" / crate / part
@@ -108,13 +110,14 @@ def copy_crate(crate, room):
             shutil.copy(source, target)
 
 
-def prove(programs, room):
+def prove(programs: Sequence[Program], room: pathlib.Path) -> None:
     """Proves and builds what is laid out there, and tells of each crate."""
-    began, log, progress = time.monotonic(), [], Progress(programs)
-    how = {"cwd": room, "stdin": subprocess.DEVNULL, "stdout": subprocess.PIPE, "stderr": subprocess.STDOUT, "text": True}
+    began, progress = time.monotonic(), Progress(programs)
+    log: list[str] = []
+    how: dict[str, Any] = {"cwd": room, "stdin": subprocess.DEVNULL, "stdout": subprocess.PIPE, "stderr": subprocess.STDOUT, "text": True}
     whole = [*ENDED_WITH_CALLER, "nice", "-n", "10", "rt", "ci"]
     with hurrying(crates_of(programs), room), subprocess.Popen(whole, errors="replace", **how) as ran:
-        for line in ran.stdout:
+        for line in ran.stdout or ():
             log.append(line)
             proved = re.match(r"rt: (\w+) (?:proved$|is kept: )", line)
             if proved:
@@ -124,32 +127,36 @@ def prove(programs, room):
         raise BuildFailed("the build failed")
 
 
-def known_times():
+def known_times() -> dict[str, float]:
     """Returns how many seconds each crate's proof took for docs/gate.json."""
     crates = json.loads((ROOT / "docs" / "gate.json").read_text())["crates"]
     return {name: it["proof"] for name, it in crates.items()}
 
 
-def longest_chain(crates):
+def longest_chain(crates: list[str]) -> list[str]:
     """Returns those of the crates that stand on one another and take longest together, the lowest first."""
-    known, used, chains = known_times(), uses(), {}
-    lasts = lambda chain: sum(known.get(it, USUAL) for it in chain)
+    known, used = known_times(), uses()
+    chains: dict[str, list[str]] = {}
+
+    def lasts(chain: list[str]) -> float:
+        return sum(known.get(it, USUAL) for it in chain)
+
     for crate in crates:
         chains[crate] = [*max((chains[it] for it in used[crate] if it in chains), key=lasts, default=[]), crate]
     return max(chains.values(), key=lasts)
 
 
 @contextlib.contextmanager
-def hurrying(crates, room):
+def hurrying(crates: list[str], room: pathlib.Path) -> Iterator[None]:
     """Proves the longest chain meanwhile, up to each of its long proofs in turn."""
     known, is_over = known_times(), threading.Event()
     least = LARGE * sum(known.get(it, USUAL) for it in crates)
 
-    def hurry():
+    def hurry() -> None:
         for crate in longest_chain(crates):
             if known.get(crate, USUAL) < least:
                 continue
-            how = {"cwd": room, "stdin": subprocess.DEVNULL, "stdout": subprocess.DEVNULL, "stderr": subprocess.DEVNULL}
+            how: dict[str, Any] = {"cwd": room, "stdin": subprocess.DEVNULL, "stdout": subprocess.DEVNULL, "stderr": subprocess.DEVNULL}
             with subprocess.Popen([*ENDED_WITH_CALLER, "rt", "ci", crate], **how) as ran:
                 while ran.poll() is None and not is_over.wait(1):
                     pass
@@ -166,7 +173,7 @@ def hurrying(crates, room):
         thread.join()
 
 
-def put_in_place(program, room, began):
+def put_in_place(program: Program, room: pathlib.Path, began: int) -> None:
     """Puts what was made where it is looked for, as old as what it was made from."""
     folder = program.file.parent
     folder.mkdir(exist_ok=True)
@@ -177,12 +184,12 @@ def put_in_place(program, room, began):
         os.replace(arriving, folder / name)
 
 
-def told(seconds):
+def told(seconds: float) -> str:
     """Returns a length of time in words."""
     return f"{seconds:.0f} s" if seconds < 100 else f"{seconds / 60:.0f} min"
 
 
-def expected(*programs):
+def expected(*programs: Program) -> float:
     """Returns how many seconds a build of the programs from nothing takes on these processors, as the proofs took for docs/gate.json."""
     known = known_times()
     return sum(known.get(it, USUAL) for it in crates_of(programs)) / len(os.sched_getaffinity(0))
@@ -191,18 +198,18 @@ def expected(*programs):
 class Progress:
     """How far a build is, and how long the rest is likely to take: as the proofs took for docs/gate.json, at the pace so far."""
 
-    def __init__(self, programs):
+    def __init__(self, programs: Sequence[Program]) -> None:
         known = known_times()
-        self.programs, self.due, self.worked = programs, {it: known.get(it, USUAL) for it in crates_of(programs)}, 0
+        self.programs, self.due, self.worked = programs, {it: known.get(it, USUAL) for it in crates_of(programs)}, 0.0
         self.count = len(self.due)
         say(programs, f"proving and building {self.count} crates, in {told(expected(*programs))} or so, or less where they were proved here before")
 
-    def left(self, passed):
+    def left(self, passed: float) -> float:
         """Returns how many seconds the crates that are due are likely to take."""
         lanes = len(os.sched_getaffinity(0))
         return sum(self.due.values()) * (passed + FOREKNOWN) / (self.worked + FOREKNOWN * lanes)
 
-    def tell(self, crate, passed):
+    def tell(self, crate: str, passed: float) -> None:
         """Says that a crate is proved, so many seconds after the beginning."""
         self.worked += self.due.pop(crate)
         left = f", {told(self.left(passed))} or so left" if self.due else ""

@@ -1,6 +1,6 @@
 #!/usr/bin/env python3
 """Writes docs/CALLS.md: an index of names; then the public calls and constants of the five named crates, of the programs' crates,
-and of crates below those of which docs/CLAIMS.md speaks, type by type. Each has the first sentence of its doc comment, and the
+and of crates below those of which docs/PROMISES.md speaks, type by type. Each has the first sentence of its doc comment, and the
 clauses of its contract as its source has them.
 
     tools/calls_page.py            writes it
@@ -15,7 +15,7 @@ sys.dont_write_bytecode = True
 
 from page_links import slug
 from program import ROOT
-from rattle_files import calls_in, exported, name_of
+from rattle_files import Call, calls_in, exported, name_of
 
 PAGE = ROOT / "docs" / "CALLS.md"
 FAMILIES = ("calendar", "datetime", "description", "parsing", "instants")
@@ -31,7 +31,7 @@ ALONE = (
     "instants_memory",
     "instants_c",
 )
-# The calls of the crates below these of which CLAIMS.md speaks: all that a crate gives on, or some of them.
+# The calls of the crates below these of which PROMISES.md speaks: all that a crate gives on, or some of them.
 BELOW = {
     "parsing_combinator": {"digit_chunk", "nine_digits"},
     "parsing_shapes": {"read_long_numbers"},
@@ -75,6 +75,9 @@ MODULES = {
     "instants_memory::laws": ("instants_memory/src/laws.rt",),
 }
 
+# The titles of a section with their calls, and the sections by their headings.
+Groups = list[tuple[str, list[Call]]]
+Sections = list[tuple[str, Groups]]
 # The heading of the index.
 INDEX = "Index of names"
 # The lines of the index are a little longer than this.
@@ -83,7 +86,7 @@ WIDTH = 140
 HEAD = """\
 # The calls, with their contracts
 
-`tools/calls_page.py` writes this page from the sources. First comes the index of names. Then come the five named crates, each with what it re-exports from the crates below it. After them come the crates for dates inside lines, for `instants-lines`, for calls over memory and for C. At the end are those calls of crates below these that [CLAIMS.md](CLAIMS.md) names.
+`tools/calls_page.py` writes this page from the sources. First comes the index of names. Then come the five named crates, each with what it re-exports from the crates below it. After them come the crates for dates inside lines, for `instants-lines`, for calls over memory and for C. At the end are those calls of crates below these that [PROMISES.md](PROMISES.md) names.
 
 How to read an entry:
 
@@ -98,14 +101,15 @@ How to read an entry:
 [DEFINITIONS.md](DEFINITIONS.md) explains the words of the clauses. [LIBRARIES.md](LIBRARIES.md) shows how a program uses these crates.
 """
 
-def crates_of(family):
+
+def crates_of(family: str) -> list[str]:
     """Returns the family's crates that have calls of a named crate, that one last."""
     others = re.compile(r"_(tests|rows|bench|check|program)$")
     found = sorted(it.name for it in (ROOT / "crates").glob(f"{family}_*") if not others.search(it.name) and it.name not in ALONE)
     return [*found, family]
 
 
-def calls_of(crates, names):
+def calls_of(crates: list[str], names: set[str]) -> tuple[dict[str, list[Call]], list[Call]]:
     """Returns the calls of crates that are of the named types, by type, and the named calls that are of none."""
     by_type, free = collections.defaultdict(list), []
     for file in [it for crate in crates for it in sorted((ROOT / "crates" / crate / "src").rglob("*.rt"))]:
@@ -117,29 +121,29 @@ def calls_of(crates, names):
     return by_type, free
 
 
-def modules_of(crate):
+def modules_of(crate: str) -> Groups:
     """Returns the modules that a crate gives on, with their calls."""
     named = ((name, [ROOT / "crates" / it for it in places]) for name, places in MODULES.items() if name.split("::")[0] == crate)
     files = ((name, [file for it in places for file in (sorted(it.rglob("*.rt")) if it.is_dir() else [it])]) for name, places in named)
     return [(name, [call for it in found for call in calls_in(it)]) for name, found in files]
 
 
-def groups_of(family):
+def groups_of(family: str) -> Groups:
     """Returns the titles of a family with their calls: its types in order, the calls that are of none, its modules."""
     by_type, free = calls_of(crates_of(family), exported(family))
     groups = [(it, by_type[it]) for it in sorted(by_type)]
     return [*groups, *([(f"{family}::", free)] if free else []), *modules_of(family)]
 
 
-def groups_alone(crate):
+def groups_alone(crate: str) -> Groups:
     """Returns the same of a crate by itself, whose exports for C are its calls too."""
-    exports = {name_of(it) for it in calls_in(ROOT / "crates" / crate / "src" / "lib.rt")}
+    exports = {name for it in calls_in(ROOT / "crates" / crate / "src" / "lib.rt") if (name := name_of(it))}
     by_type, free = calls_of([crate], exported(crate) | exports)
     groups = [(f"{crate}::{it}", by_type[it]) for it in sorted(by_type)]
     return [*([(f"{crate}::", free)] if free else []), *groups, *modules_of(crate)]
 
 
-def groups_below():
+def groups_below() -> Groups:
     """Returns the same of the crates below, as far as they are spoken of."""
     groups = []
     for crate, names in BELOW.items():
@@ -148,19 +152,19 @@ def groups_below():
     return groups
 
 
-def sections():
+def sections() -> Sections:
     """Returns the page's sections in order, each with its groups."""
     named = [(f"`{it}`", groups_of(it)) for it in FAMILIES]
     alone = [(f"`{it}`", groups_alone(it)) for it in ALONE]
     return [*named, *alone, ("Below these crates", groups_below())]
 
 
-def entry_of(call):
+def entry_of(call: Call) -> list[str]:
     """Returns the page's lines for a call."""
     return [*([f"/// {call.doc}"] if call.doc else []), call.written, *call.clauses]
 
 
-def blocks_of(head, groups):
+def blocks_of(head: str, groups: Groups) -> list[str]:
     """Returns the page's lines for a section."""
     lines = [f"## {head}", ""]
     for title, calls in groups:
@@ -168,11 +172,12 @@ def blocks_of(head, groups):
     return lines
 
 
-def places_of(found):
+def places_of(found: Sections) -> dict[tuple[int, int], str]:
     """Returns where the link to each group leads, by the number of its section and its own, as the headings of the page are counted."""
-    taken, places = collections.Counter({slug(HEAD.split("\n")[0][2:]): 1, slug(INDEX): 1}), {}
+    taken = collections.Counter({slug(HEAD.split("\n")[0][2:]): 1, slug(INDEX): 1})
+    places: dict[tuple[int, int], str] = {}
 
-    def place(heading):
+    def place(heading: str) -> str:
         name = slug(heading)
         taken[name] += 1
         return name if taken[name] == 1 else f"{name}-{taken[name] - 1}"
@@ -183,21 +188,21 @@ def places_of(found):
     return places
 
 
-def index_of(found):
+def index_of(found: Sections) -> list[str]:
     """Returns the lines of the index: of each section the groups, and then each name with the groups that have it."""
     lines, places = [f"## {INDEX}", ""], places_of(found)
     for at, (head, groups) in enumerate(found):
         links = [f"[`{title}`](#{places[at, number]})" for number, (title, _) in enumerate(groups)]
-        having = collections.defaultdict(list)
+        having: dict[str, list[tuple[str, str]]] = collections.defaultdict(list)
         for number, (title, calls) in enumerate(groups):
-            for name in sorted({name_of(it) for it in calls} - {None}):
+            for name in sorted({name for it in calls if (name := name_of(it))}):
                 having[name].append((title, places[at, number]))
         names = [name_link(name, having[name]) for name in sorted(having)]
         lines += [f"**{head}**:", *filled(links, ","), "", *filled(names, " ·"), ""]
     return lines
 
 
-def filled(pieces, between):
+def filled(pieces: list[str], between: str) -> list[str]:
     """Returns pieces in lines of some length, so that a search shows few of them."""
     lines = [""]
     for at, piece in enumerate(pieces, 1):
@@ -207,20 +212,20 @@ def filled(pieces, between):
     return lines if lines[-1] else lines[:-1]
 
 
-def name_link(name, having):
+def name_link(name: str, having: list[tuple[str, str]]) -> str:
     """Returns the links of a name: itself where one group has it, and otherwise those of the groups after it."""
     if len(having) == 1:
         return f"[{name}](#{having[0][1]})"
     return f"{name} ({', '.join(f'[{title}](#{place})' for title, place in having)})"
 
 
-def page():
+def page() -> str:
     found = sections()
     lines = [*index_of(found), *(line for it in found for line in blocks_of(*it))]
     return HEAD + "\n" + "\n".join(lines).rstrip() + "\n"
 
 
-def main(words):
+def main(words: list[str]) -> int:
     written = page()
     if words == ["--check"]:
         is_current = PAGE.exists() and PAGE.read_text() == written

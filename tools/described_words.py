@@ -4,11 +4,14 @@ component its modifiers and their values; the letters, flags and refused signs o
 can be written, not the examples. The status is 1 where a word is missing."""
 
 import collections
-import pathlib
 import re
 import sys
+from collections.abc import Iterator
 
-ROOT = pathlib.Path(__file__).resolve().parent.parent
+sys.dont_write_bytecode = True
+
+from program import ROOT, sure
+
 TABLES = ROOT / "crates" / "description_tables" / "src"
 LETTERS = ROOT / "crates" / "description_strftime" / "src"
 PAGE = ROOT / "docs" / "DESCRIPTIONS.md"
@@ -28,21 +31,22 @@ VALUES = {
 }
 
 
-def named(file, kind):
+def named(file: str, kind: str) -> dict[str, str]:
     """Returns the word of each variant of a table, by the variant."""
     return {variant: word for word, variant in re.findall(rf'\("([^"]+)", {kind}::(\w+)\)', (TABLES / file).read_text())}
 
 
-def values_of(component, key):
+def values_of(component: str, key: str) -> list[str]:
     """Returns the words that a component's modifier can have."""
     variant = "".join(it.capitalize() for it in component.split("_"))
     begins = rf"Name::{variant} => &\[" if key == "repr" else rf"static {VALUES[key]}: [^=]*= \["
-    return re.findall(r'\("([^"]+)", ', re.search(rf"{begins}.*?\](?:,\n|;)", (TABLES / "values.rt").read_text(), re.S)[0])
+    return re.findall(r'\("([^"]+)", ', sure(re.search(rf"{begins}.*?\](?:,\n|;)", (TABLES / "values.rt").read_text(), re.S))[0])
 
 
-def modifiers():
+def modifiers() -> dict[str, list[str]]:
     """Returns the modifiers of each component."""
-    names, keys, found = named("names.rt", "Name"), named("keys.rt", "Key"), {}
+    names, keys = named("names.rt", "Name"), named("keys.rt", "Key")
+    found: dict[str, list[str]] = {}
     body = (TABLES / "keys.rt").read_text().partition("pub fn has_key")[2]
     for key, listed in re.findall(r"Key::(\w+) => matches!\(\s*name,([^)]*)\)", body):
         for name in re.findall(r"Name::(\w+)", listed):
@@ -50,9 +54,10 @@ def modifiers():
     return {it: found.get(it, []) for it in names.values()}
 
 
-def rows_of(text):
+def rows_of(text: str) -> list[dict[str, str]]:
     """Returns the rows of the page's tables, each by its columns, without the examples."""
-    rows, head = [], None
+    rows: list[dict[str, str]] = []
+    head: list[str] | None = None
     for line in text.split("\n"):
         cells = [it.strip() for it in re.split(r"(?<!\\)\|", line)[1:-1]]
         if not cells or re.fullmatch(r"[-|]+", line):
@@ -64,13 +69,14 @@ def rows_of(text):
     return rows
 
 
-def words_in(text):
+def words_in(text: str) -> set[str]:
     """Returns the words of a text's spans of code."""
     return {word for span in re.findall(r"`([^`]+)`", text) for word in re.findall(r"[a-z_0-9+]+", span)}
 
 
-def missing_words(rows):
-    told, component = collections.defaultdict(str), None
+def missing_words(rows: list[dict[str, str]]) -> Iterator[str]:
+    told: dict[str, str] = collections.defaultdict(str)
+    component = ""
     for row in rows:
         if "component" in row:
             component = row["component"].strip("`[]") or component
@@ -88,7 +94,7 @@ def missing_words(rows):
             yield from (f"value {it} of {key} of {name}" for it in due if it not in (paddings if key == "padding" else there))
 
 
-def missing_letters(rows):
+def missing_letters(rows: list[dict[str, str]]) -> Iterator[str]:
     told = " ".join(it.get("letter", "") + it.get("written", "") for it in rows)
     flags = {it["flag"].strip("`") for it in rows if "flag" in it}
     for file in ("letters.rt", "numbers.rt"):
@@ -97,13 +103,13 @@ def missing_letters(rows):
                 yield f"letter %{letter}"
 
 
-def missing_nesting(rows):
+def missing_nesting(rows: list[dict[str, str]]) -> list[str]:
     told = " ".join(it.get("written", "") for it in rows)
     heads = (ROOT / "crates" / "description_grammar" / "specs" / "Spelling.antt").read_text()
     return [f"nesting {it}" for it in re.findall(r'SpellsNesting v \(codes "(\w+)"\)', heads) if f"[{it} " not in told]
 
 
-def main():
+def main() -> int:
     rows = rows_of(PAGE.read_text())
     missing = [*missing_words(rows), *missing_nesting(rows), *missing_letters(rows)]
     print("\n".join([*missing, f"{len(missing)} words missing"]))

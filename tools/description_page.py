@@ -32,12 +32,12 @@ The program's own page is
 """
 
 
-def escaped(text):
+def escaped(text: str) -> str:
     """Returns a text as a manual page writes it."""
     return text.replace("\\", r"\e").replace("-", r"\-").replace("'", r"\(aq").replace("^", r"\(ha").replace("~", r"\(ti").replace("…", "...")
 
 
-def quoted(text):
+def quoted(text: str) -> str:
     """Returns text as the argument of a macro."""
     text = escaped(text).replace('"', r"\(dq")
     # (a word as %A is a macro's name)
@@ -46,10 +46,10 @@ def quoted(text):
     return f'"{text}{chr(92)}&"' if text[-1:] in ".,:;)]?!" else f'"{text}"'
 
 
-def prose(text):
+def prose(text: str) -> list[str]:
     """Returns the lines of a paragraph, each span of code as a literal of its own."""
     text = re.sub(r"\[([^\]]*)\]\([^)]*\)", r"\1", text.replace("**", "")) if "`[" not in text else text.replace("**", "")
-    lines = []
+    lines: list[str] = []
     pieces = re.split(r"`([^`]+)`", text)
     for at, piece in enumerate(pieces):
         if at % 2:
@@ -65,11 +65,11 @@ def prose(text):
     return [re.sub(r"^([.'])", r"\\&\1", it) if not it.startswith(".Ql") else it for it in lines]
 
 
-def cells_of(row):
+def cells_of(row: str) -> list[str]:
     return [it.strip() for it in re.split(r"(?<!\\)\|", row.strip())[1:-1]]
 
 
-def table(rows):
+def table(rows: list[list[str]]) -> list[str]:
     """Returns a table as a list: a row's first cells as the tag, then what is read, then its example."""
     head, *rows = rows
     lines = [".Bl -tag -width Ds"]
@@ -85,9 +85,9 @@ def table(rows):
     return [*lines, ".El"]
 
 
-def page(text):
+def page(text: str) -> str:
     """Returns the page that a text of Markdown makes."""
-    lines, rows = [], []
+    lines: list[str] = []
     for block in re.split(r"\n\n+", text.strip())[1:]:
         first = block.split("\n")[0]
         if first.startswith("## "):
@@ -101,7 +101,7 @@ def page(text):
     return HEAD.removeprefix("\\\n") + "\n".join(lines) + TAIL
 
 
-def main(words):
+def main(words: list[str]) -> int:
     written = page(SOURCE.read_text())
     if words == ["--check"]:
         is_current = PAGE.exists() and PAGE.read_text() == written

@@ -12,6 +12,7 @@ stands for. `\\t` in a line is a tab.
 import pathlib
 import re
 import sys
+from collections.abc import Iterator
 
 ROOT = pathlib.Path(__file__).resolve().parent.parent
 PAGE = ROOT / "docs" / "FORMATS.md"
@@ -41,7 +42,7 @@ LACKING = {
 }
 
 
-def entries():
+def entries() -> Iterator[tuple[str, str, str, str, str, str, str]]:
     """Returns of each format its programs, a line, its key, its name, its language, its description, and what its lines lack."""
     text = TABLE.read_text()
     found = ENTRY.findall(text)
@@ -54,12 +55,12 @@ def entries():
         yield " ".join(lines).removesuffix("."), line, key, name, language, description, lacks
 
 
-def cell(text):
+def cell(text: str) -> str:
     """Returns a text as code in a cell of a table."""
     return "`" + text.replace("|", "\\|") + "`"
 
 
-def tables():
+def tables() -> str:
     """Returns the two tables."""
     by_line = ["| format | arguments | line | key |", "|---|---|---|---|"]
     by_name = ["| name | language and description | what its lines do not say |", "|---|---|---|"]
@@ -70,16 +71,15 @@ def tables():
     return "\n".join(by_line) + "\n\nA name is the same as the two words that it stands for:\n\n" + "\n".join(by_name) + "\n"
 
 
-def main(words):
+def main(words: list[str]) -> int:
     text = PAGE.read_text()
     if text.count(BEGINS) != 1 or text.count(ENDS) != 1:
         sys.exit(f"{PAGE.name}: there is no place for the tables")
     before, rest = text.split(BEGINS)
     new = f"{before}{BEGINS}\n\n{tables()}\n{ENDS}{rest.split(ENDS)[1]}"
     if words == ["--check"]:
-        if new != text:
-            print("docs/FORMATS.md is not as tools/formats_page.py writes it")
-        return new != text
+        print(f"docs/FORMATS.md is {'as' if new == text else 'not as'} the table of formats has it")
+        return int(new != text)
     PAGE.write_text(new)
     return 0
 

@@ -22,7 +22,6 @@ all, so it has no star and lacks no crate; its minutes are kept in docs/gate.jso
 """
 
 import argparse
-import collections
 import datetime
 import hashlib
 import json
@@ -34,6 +33,7 @@ import subprocess
 import sys
 import threading
 import time
+from typing import Any
 
 sys.dont_write_bytecode = True
 
@@ -50,9 +50,20 @@ TICKS = os.sysconf("SC_CLK_TCK")
 WORK = ("proof", "tests", "mutations")
 # The bounds, in minutes of a processor: for everything, and for a crate with its tests and mutations.
 BOUND, CRATE_BOUND = 85, 6
+# What docs/gate.json has; a crate and what is done of it; what each process works on, with its seconds, by its number and its beginning.
+Figures = dict[str, Any]
+Work = tuple[str, str]
+Seen = dict[tuple[str, str], tuple[Work | None, float]]
 
 
-def work_of(words, folder):
+class Parts(dict[Work, float]):
+    """The seconds of each part of the gate, 0 where nothing was done."""
+
+    def __missing__(self, part: Work) -> float:
+        return 0.0
+
+
+def work_of(words: list[str], folder: str) -> Work | None:
     """Returns the crate and the part of the gate that a command of the prover works on, if it is one."""
     if not any(it.endswith("/rattle") for it in words[:1]) or "--crate-name" not in words:
         return None
@@ -62,7 +73,7 @@ def work_of(words, folder):
     return crate, "tests" if "--test" in words else "proof"
 
 
-def look(session, seen):
+def look(session: int, seen: Seen) -> None:
     """Notes the processor seconds that each process of the session has taken, and what it works on."""
     for entry in os.scandir("/proc"):
         if not entry.name.isdigit():
@@ -73,7 +84,7 @@ def look(session, seen):
             if int(fields[3]) != session:
                 continue
             key = entry.name, fields[19]
-            work = seen.get(key, (None,))[0]
+            work = seen[key][0] if key in seen else None
             if work is None:
                 words = pathlib.Path(entry.path, "cmdline").read_text(errors="replace").split("\0")
                 work = work_of(words, os.readlink(f"{entry.path}/cwd"))
@@ -82,33 +93,34 @@ def look(session, seen):
             continue
 
 
-def run_gate(command):
+def run_gate(command: list[str]) -> tuple[int, str, float, float, Parts]:
     """Runs the command and returns its status, its last line, its processor and wall seconds, and the seconds of each part."""
-    seen, began, last, is_over = {}, time.monotonic(), "", threading.Event()
-    how = {"cwd": ROOT, "stdout": subprocess.PIPE, "text": True, "errors": "replace"}
+    seen: Seen = {}
+    began, last, is_over = time.monotonic(), "", threading.Event()
+    how: dict[str, Any] = {"cwd": ROOT, "stdout": subprocess.PIPE, "text": True, "errors": "replace"}
     child = subprocess.Popen([*ENDED_WITH_CALLER, *command], start_new_session=True, **how)
 
-    def watch():
+    def watch() -> None:
         while not is_over.wait(EVERY):
             look(child.pid, seen)
 
     watching = threading.Thread(target=watch, daemon=True)
     watching.start()
-    for line in child.stdout:
+    for line in child.stdout or ():
         print(line, end="", flush=True)
         last = line.strip() or last
     is_over.set()
     watching.join()
     status = child.wait()
     used = resource.getrusage(resource.RUSAGE_CHILDREN)
-    parts = collections.Counter()
+    parts = Parts()
     for work, seconds in seen.values():
-        parts[work] += seconds
-    parts.pop(None, None)
+        if work:
+            parts[work] += seconds
     return status, last, used.ru_utime + used.ru_stime, time.monotonic() - began, parts
 
 
-def sum_of(crate):
+def sum_of(crate: str) -> str:
     """Returns a short sum of all that the prover reads of a crate."""
     files = sorted(it for part in PARTS for it in (ROOT / "crates" / crate / part).rglob("*") if it.is_file())
     found = hashlib.sha256()
@@ -117,12 +129,12 @@ def sum_of(crate):
     return found.hexdigest()[:8]
 
 
-def mutations_of(crate):
+def mutations_of(crate: str) -> int:
     """Returns how many files of mutations the gate tries of a crate."""
     return len(list((ROOT / "crates" / crate / "must-fail").glob("*.edit")))
 
 
-def kept_of(before, parts, times):
+def kept_of(before: Figures, parts: Parts, times: float) -> dict[Work, float]:
     """Returns what this run did not do of the crates whose sources are as they were, so many times as long as it took then."""
     listed = uses()
     return {
@@ -134,7 +146,7 @@ def kept_of(before, parts, times):
     }
 
 
-def pace_of(before, parts):
+def pace_of(before: Figures, parts: Parts) -> tuple[Figures, float]:
     """Returns how this run's pace compares with the first one's and with that of the run before, by all that both did of the
     crates that are the same as they were then (proofs alone tell too little: a machine's pace changes while a run goes on),
     with a sentence on it."""
@@ -153,7 +165,12 @@ def pace_of(before, parts):
     return {"first": pace["first"], "times": times, "said": said}, now / was
 
 
-def figures_of(before, last, total, wall, parts, is_anew):
+def printed(*words: str) -> str:
+    """Returns what a command prints."""
+    return subprocess.run(words, cwd=ROOT, capture_output=True, text=True, check=True).stdout.strip()
+
+
+def figures_of(before: Figures, last: str, total: float, wall: float, parts: Parts, is_anew: bool) -> Figures:
     """Returns the figures of a run from nothing: this run, if it did all anew, and else this run with what was kept."""
     pace, times = pace_of(before, parts)
     kept = {} if is_anew else kept_of(before, parts, times)
@@ -163,13 +180,12 @@ def figures_of(before, last, total, wall, parts, is_anew):
         name: {**{work: round(parts[name, work]) for work in WORK}, "kept": [work for work in WORK if (name, work) in kept], "files": mutations_of(name), "sources": sum_of(name)}
         for name in sorted({name for name, _ in parts} | (set(uses()) if is_anew else set()), key=lambda it: -sum(parts[it, work] for work in WORK))
     }
-    said = lambda *words: subprocess.run(words, cwd=ROOT, capture_output=True, text=True, check=True).stdout.strip()
-    date, commit = str(datetime.date.today()), said("git", "rev-parse", "--short", "HEAD")
+    date, commit = str(datetime.date.today()), printed("git", "rev-parse", "--short", "HEAD")
     anew = {"date": date, "commit": commit, "minutes": round(wall / 60), "processor_minutes": round(run / 60)}
     return {
         "date": date,
         "commit": commit,
-        "kit": said("rt", "version"),
+        "kit": printed("rt", "version"),
         "last_line": last,
         "minutes": round(wall / 60),
         "processors": len(os.sched_getaffinity(0)),
@@ -185,16 +201,16 @@ def figures_of(before, last, total, wall, parts, is_anew):
     }
 
 
-def minutes_at_first_pace(figures, seconds):
-    return seconds / figures["pace"]["times"] / 60
+def minutes_at_first_pace(figures: Figures, seconds: float) -> float:
+    return seconds / float(figures["pace"]["times"]) / 60
 
 
-def bounds_told(figures):
+def bounds_told(figures: Figures) -> str:
     """Returns the sentences on the bounds, at the pace of the first run."""
     minutes = minutes_at_first_pace(figures, figures["seconds_from_nothing"])
     dear = {name: minutes_at_first_pace(figures, sum(crate[work] for work in WORK)) for name, crate in figures["crates"].items()}
     over = sorted((it for it in dear if dear[it] > CRATE_BOUND), key=lambda it: -dear[it])
-    longest = max(dear, key=dear.get, default="none")
+    longest = max(dear, key=lambda it: dear[it], default="none")
     found = ", ".join(f"`{it}` {dear[it]:.1f}" for it in over)
     return (
         f"Pace: {figures['pace']['said']} At the pace of {figures['pace']['first']} a run from nothing takes {minutes:.0f} processor minutes, "
@@ -203,7 +219,7 @@ def bounds_told(figures):
     )
 
 
-def table_of(figures):
+def table_of(figures: Figures) -> list[str]:
     """Returns the table's lines, the dearest crate first. A star stands after what the run did not do."""
     lines = ["| crate | proof | tests | mutations | files of mutations | together | sources |", "|---|---|---|---|---|---|---|"]
     for name, crate in figures["crates"].items():
@@ -216,7 +232,7 @@ def table_of(figures):
     return lines
 
 
-def minutes_told(figures):
+def minutes_told(figures: Figures) -> str:
     """Returns the minutes of the last run from nothing, as all pages have them."""
     anew = figures.get("from_nothing")
     if not anew:
@@ -224,7 +240,7 @@ def minutes_told(figures):
     return f"{anew['minutes']} minutes by the clock, {anew['processor_minutes']} of a processor"
 
 
-def page_of(figures):
+def page_of(figures: Figures) -> str:
     """Returns the page that the figures make."""
     run, whole = figures["seconds_of_the_run"], figures["seconds_from_nothing"]
     stars = f" What is marked by a star was kept from earlier runs on this machine: {(whole - run) / 60:.0f} processor minutes more, told as they took in the run before, at this run's pace." if whole > run else ""
@@ -241,18 +257,18 @@ Processor seconds of one `rt ci`, crate by crate, from `docs/gate.json`, both wr
     return head + "\n" + bounds_told(figures) + "\n\n" + "\n".join(table_of(figures)) + "\n"
 
 
-def pages_of(figures):
+def pages_of(figures: Figures) -> dict[pathlib.Path, str]:
     """Returns the pages as the figures have them, each with its file."""
     told = {page: MINUTES.sub(minutes_told(figures), page.read_text()) for page in TOLD}
     return {PAGE: page_of(figures), **told}
 
 
-def write_pages(figures):
+def write_pages(figures: Figures) -> None:
     for page, text in pages_of(figures).items():
         page.write_text(text)
 
 
-def check_pages(figures):
+def check_pages(figures: Figures) -> int:
     """Says which pages are not as the figures have them, and returns the status."""
     wrong = [f"{page.relative_to(ROOT)} is not as docs/gate.json has it" for page, text in pages_of(figures).items() if page.read_text() != text]
     wrong += [f"{page.relative_to(ROOT)} does not have the minutes of the gate once" for page in TOLD if len(MINUTES.findall(page.read_text())) != 1]
@@ -260,7 +276,7 @@ def check_pages(figures):
     return int(bool(wrong))
 
 
-def time_gate(command, is_written):
+def time_gate(command: list[str], is_written: bool) -> int:
     """Runs the gate, prints the page on it, and writes it where that is asked for. Returns the gate's status."""
     status, last, total, wall, parts = run_gate(command)
     try:
@@ -276,7 +292,7 @@ def time_gate(command, is_written):
     return status
 
 
-def main():
+def main() -> int:
     words = argparse.ArgumentParser(description=__doc__, formatter_class=argparse.RawDescriptionHelpFormatter)
     words.add_argument("--anew", action="store_true", help="time rt ci --anew")
     words.add_argument("--write", action="store_true")

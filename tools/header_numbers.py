@@ -7,11 +7,14 @@ their names, order and types, and what each call returns.
 """
 
 import ast
-import pathlib
 import re
 import sys
+from typing import Any
 
-ROOT = pathlib.Path(__file__).resolve().parent.parent
+sys.dont_write_bytecode = True
+
+from program import ROOT, sure
+
 HEADER = ROOT / "include" / "instants.h"
 NUMBER = r"(\d[\d_]*)"
 FAULTS = ("LITERAL", "COMPONENT", "TRAILING", "INSUFFICIENT", "RANGE", "YEAR", "LONG")
@@ -74,16 +77,18 @@ C_OF_PYTHON = {
     "ctypes.c_uint32": ("uint32_t",),
     "None": ("void",),
 }
+# Types and names of fields or arguments.
+Parts = list[tuple[str, str]]
 SIZES = {"int64_t": 8, "uint32_t": 4, "void *": 8}
 
 
-def in_header(name):
+def in_header(name: str) -> int | None:
     """Returns a number of the header, or None where it has none of this name."""
     found = re.search(rf"^#define INSTANTS_{name} {NUMBER}$", HEADER.read_text(), re.M)
     return int(found[1]) if found else None
 
 
-def wrong_numbers():
+def wrong_numbers() -> list[str]:
     """Returns what is said of each number that is not as the header has it."""
     wrong = []
     for name, file, around in PLACES:
@@ -95,7 +100,7 @@ def wrong_numbers():
     return wrong + wrong_names()
 
 
-def component_names():
+def component_names() -> list[str]:
     """Returns the names of components in the header, as the texts of faults have them, in the order of their numbers from 1 on."""
     found = re.findall(rf"^#define INSTANTS_COMPONENT_(\w+) {NUMBER}(?: +/\* `([a-z_ ]+)` \*/)?$", HEADER.read_text(), re.M)
     if [int(number) for _, number, _ in found] != list(range(1, len(found) + 1)):
@@ -103,7 +108,7 @@ def component_names():
     return [told or name.lower() for name, _, told in found]
 
 
-def wrong_names():
+def wrong_names() -> list[str]:
     """Returns what is said of each list of names that is not as the header has them."""
     due, wrong = component_names(), []
     for file, around in LISTS:
@@ -116,13 +121,13 @@ def wrong_names():
 # ---- structs and calls
 
 
-def c_parts(text, sign):
+def c_parts(text: str, sign: str) -> Parts:
     """Returns the types and names of fields or arguments as C has them."""
-    parts = [re.fullmatch(r"(.+?)(\w+)", re.sub(r"\s+", " ", it).strip()) for it in text.split(sign) if it.strip() not in ("", "void")]
+    parts = [sure(re.fullmatch(r"(.+?)(\w+)", re.sub(r"\s+", " ", it).strip())) for it in text.split(sign) if it.strip() not in ("", "void")]
     return [(it[1].strip(), it[2]) for it in parts]
 
 
-def of_header():
+def of_header() -> tuple[dict[str, Parts], dict[str, tuple[Parts, str]]]:
     """Returns the structs of the header, each with its fields, and the calls, each with its arguments and what it returns."""
     text = re.sub(r"/\*.*?\*/", "", HEADER.read_text(), flags=re.S).split("static __inline__")[0]
     structs = {name: c_parts(fields, ";") for name, fields in re.findall(r"^struct (\w+) \{(.*?)^\};", text, re.M | re.S)}
@@ -130,7 +135,7 @@ def of_header():
     return structs, calls
 
 
-def rust_parts(text, call=None):
+def rust_parts(text: str, call: str = "") -> Parts:
     """Returns the types and names of fields or arguments of Rust as C has them."""
     parts = []
     for name, it in re.findall(r"(?:^|,)\s*(?:pub )?(\w+): ([^,]+?)\s*(?=,|$)", text.strip()):
@@ -142,7 +147,7 @@ def rust_parts(text, call=None):
     return parts
 
 
-def of_rust(text):
+def of_rust(text: str) -> tuple[dict[str, Parts], dict[str, tuple[Parts, str]]]:
     """Returns the structs and the calls of a text of Rust as C has them."""
     text = re.sub(r"//[^\n]*", "", text)
     structs = {}
@@ -154,46 +159,61 @@ def of_rust(text):
     return structs, calls
 
 
-def of_python(text):
+def items_of(node: ast.expr) -> list[ast.expr]:
+    """Returns the items of a list or a tuple."""
+    return node.elts if isinstance(node, (ast.List, ast.Tuple)) else []
+
+
+def constant(node: ast.expr) -> Any:
+    return node.value if isinstance(node, ast.Constant) else None
+
+
+def of_python(text: str) -> tuple[dict[str, Parts], dict[str, tuple[list[str], str]], int | None]:
     """Returns the fields of each structure of ctypes, the types of each call's arguments with what it returns, and the bytes of an
     entry."""
-    tree, structs, calls, values, size = ast.parse(text), {}, {}, {}, None
+    tree, structs, calls, size = ast.parse(text), {}, {}, None
+    values: dict[str, str] = {}
 
-    def said(node):
+    def said(node: ast.expr) -> str:
         return ast.unparse(node) if not isinstance(node, ast.Name) else values.get(node.id, node.id)
 
     for node in ast.walk(tree):
         if isinstance(node, ast.ClassDef):
             fields = [it.value for it in node.body if isinstance(it, ast.Assign) and ast.unparse(it.targets[0]) == "_fields_"]
-            structs.update({STRUCTS.get(node.name, node.name): [(said(it.elts[1]), it.elts[0].value) for it in list.elts] for list in fields})
+            pairs = [[items_of(it) for it in items_of(field)] for field in fields]
+            structs.update({STRUCTS.get(node.name, node.name): [(said(kind), constant(name)) for name, kind in it] for it in pairs})
         elif isinstance(node, ast.Assign) and isinstance(node.targets[0], ast.Tuple) and isinstance(node.value, ast.Tuple):
             values.update({ast.unparse(name): ast.unparse(it) for name, it in zip(node.targets[0].elts, node.value.elts)})
         elif isinstance(node, ast.Assign) and ast.unparse(node.targets[0]) == "ENTRY":
-            size = node.value.value
+            size = constant(node.value)
     for row in (row for node in ast.walk(tree) if isinstance(node, ast.For) and isinstance(node.iter, ast.Tuple) for row in node.iter.elts):
-        name, takes, returns = row.elts
-        calls[name.value] = [said(it) for it in takes.elts], said(returns)
+        called, takes, returns = items_of(row)
+        calls[constant(called)] = [said(it) for it in items_of(takes)], said(returns)
     return structs, calls, size
 
 
-def told(parts):
+def told(parts: Parts) -> str:
     return ", ".join(f"{kind} {name}" for kind, name in parts) or "nothing"
 
 
-def wrong_in_rust(where, text, is_whole):
+def told_of(structs: dict[str, Parts], calls: dict[str, tuple[Parts, str]]) -> dict[str, str]:
+    """Returns each struct and each call by its name, as it is told."""
+    fields = {f"the struct {name}": told(it) for name, it in structs.items()}
+    return {**fields, **{f"the call {name}": f"{told(takes)} -> {returns}" for name, (takes, returns) in calls.items()}}
+
+
+def wrong_in_rust(where: str, text: str, is_whole: bool) -> list[str]:
     """Returns what a text of Rust has other than the header, and what it lacks, if it has to have all."""
-    wrong = []
-    for kind, due, found in zip(("struct", "call"), of_header(), of_rust(text)):
-        for name in {**found, **(due if is_whole else {})}:
-            if name not in found or name not in due:
-                wrong.append(f"{where if name not in found else HEADER.relative_to(ROOT)} does not have the {kind} {name}")
-            elif found[name] != due[name]:
-                shown = [told(it) if kind == "struct" else f"{told(it[0])} -> {it[1]}" for it in (found[name], due[name])]
-                wrong.append(f"{where} has {name} with {shown[0]}; the header has {shown[1]}")
+    wrong, due, found = [], told_of(*of_header()), told_of(*of_rust(text))
+    for name in {**found, **(due if is_whole else {})}:
+        if name not in found or name not in due:
+            wrong.append(f"{where if name not in found else HEADER.relative_to(ROOT)} does not have {name}")
+        elif found[name] != due[name]:
+            wrong.append(f"{where} has {name} with {found[name]}; the header has {due[name]}")
     return wrong
 
 
-def wrong_in_python(text):
+def wrong_in_python(text: str) -> list[str]:
     """Returns what a text of Python has other than the header."""
     wrong, (structs, calls) = [], of_header()
     found, found_calls, size = of_python(text)
@@ -201,17 +221,17 @@ def wrong_in_python(text):
         due = structs.get(name, [])
         if [it for _, it in fields] != [it for _, it in due] or any(c not in C_OF_PYTHON.get(kind, ()) for (kind, _), (c, _) in zip(fields, due)):
             wrong.append(f"{PYTHON} has {name} with {told(fields)}; the header has {told(due)}")
-    if not found or not found_calls or size != sum(SIZES[kind] for kind, _ in structs["instants_moment"]):
+    if not found or not found_calls or size != sum(SIZES.get(kind, 0) for kind, _ in structs["instants_moment"]):
         wrong.append(f"{PYTHON} has {len(found)} structures, {len(found_calls)} calls, and entries of {size} bytes")
     for name, (takes, returns) in found_calls.items():
-        due, result = calls.get(name, ([], None))
+        due, result = calls[name] if name in calls else ([], "nothing")
         kinds = [*(it for it, _ in due), result]
         if len(takes) != len(due) or any(c not in C_OF_PYTHON.get(kind, ()) for kind, c in zip([*takes, returns], kinds)):
             wrong.append(f"{PYTHON} has {name} with {', '.join(takes)} -> {returns}; the header has {told(due)} -> {result}")
     return wrong
 
 
-def wrong_declarations():
+def wrong_declarations() -> list[str]:
     """Returns what is said of each struct and each call that is not as the header has it."""
     structs = "\n".join(it.read_text() for it in sorted((ROOT / "crates").glob("*/src/**/*.rt")) if "repr(C)" in it.read_text() and EXPORTS not in it.parents)
     exports = "\n".join(it.read_text() for it in sorted(EXPORTS.rglob("*.rt")))
@@ -222,12 +242,12 @@ def wrong_declarations():
     ]
 
 
-def wrong_places():
+def wrong_places() -> list[str]:
     """Returns all that is not as the header has it."""
     return wrong_numbers() + wrong_declarations()
 
 
-def main(words):
+def main(words: list[str]) -> int:
     if words != ["--check"]:
         sys.exit(__doc__)
     wrong = wrong_places()

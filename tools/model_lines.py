@@ -15,7 +15,7 @@ sys.dont_write_bytecode = True
 from model.lines import answer
 
 
-def main():
+def main() -> int:
     written, said, status = answer([os.fsencode(it) for it in sys.argv[1:]], sys.stdin.buffer.read() if sys.argv[1:] else b"")
     sys.stdout.buffer.write(written)
     sys.stdout.buffer.flush()

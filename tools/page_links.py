@@ -28,16 +28,17 @@ LINK = re.compile(r"!?\[([^\]]*)\]\(([^)#\s]*)(#[^)\s]*)?\)")
 FENCE = re.compile(r"^```.*?^```$", re.M | re.S)
 
 
-def slug(heading):
+def slug(heading: str) -> str:
     """Returns the name by which a link leads to a heading, before equal ones are counted."""
     words = re.sub(r"\[([^\]]*)\]\([^)]*\)", r"\1", heading).strip().lower()
     return re.sub(r"[^\w\- ]", "", words).replace(" ", "-")
 
 
 @functools.cache
-def headings_of(page):
+def headings_of(page: pathlib.Path) -> set[str]:
     """Returns the names of a page's headings."""
-    taken, names = collections.Counter(), set()
+    taken: collections.Counter[str] = collections.Counter()
+    names = set()
     for heading in re.findall(r"^#+ (.*)$", FENCE.sub("", page.read_text()), re.M):
         name = slug(heading)
         names.add(f"{name}-{taken[name]}" if taken[name] else name)
@@ -45,13 +46,13 @@ def headings_of(page):
     return names
 
 
-def links_of(text):
+def links_of(text: str) -> list[tuple[str, str]]:
     """Returns the links of a page, outside of fences and of code: pairs of a file and a heading, either of which may be empty."""
     outside = re.sub(r"`[^`\n]+`", "code", FENCE.sub("", text))
     return [(to, at or "") for _, to, at in LINK.findall(outside) if ":" not in to]
 
 
-def lost_in(folder, pages):
+def lost_in(folder: pathlib.Path, pages: list[pathlib.Path]) -> list[str]:
     """Returns what is wrong with the links of some pages of a folder."""
     lost = []
     for page in pages:
@@ -64,7 +65,7 @@ def lost_in(folder, pages):
     return lost
 
 
-def lost_files():
+def lost_files() -> list[str]:
     """Returns which files of crates the page of the architecture names that are not there, and which functions they do not have."""
     text = (ROOT / "docs" / "ARCHITECTURE.md").read_text()
     named = set(re.findall(r"`(\w+/(?:src|specs|proofs)/[\w/]+\.(?:rt|antt))`", text))
@@ -75,14 +76,14 @@ def lost_files():
     return lost
 
 
-def pages_of_repository():
+def pages_of_repository() -> list[pathlib.Path]:
     """Returns the pages of the repository that git knows, or would take."""
     listed = ["git", "ls-files", "--cached", "--others", "--exclude-standard", "*.md"]
     names = subprocess.run(listed, cwd=ROOT, capture_output=True, text=True, check=True).stdout.splitlines()
     return [ROOT / it for it in sorted(set(names)) if (ROOT / it).exists()]
 
 
-def lost_where_installed():
+def lost_where_installed() -> tuple[list[str], int]:
     """Returns what is wrong with the links of the pages that are installed, and how many pages these are."""
     import make_packages
 
@@ -93,7 +94,7 @@ def lost_where_installed():
         return lost_in(folder, pages), len(pages)
 
 
-def main(words):
+def main(words: list[str]) -> int:
     if words not in ([], ["--check"]):
         sys.exit(__doc__)
     pages = pages_of_repository()

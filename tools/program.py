@@ -2,6 +2,7 @@
 
 import os
 import pathlib
+import re
 import sys
 
 ROOT = pathlib.Path(__file__).resolve().parent.parent
@@ -10,26 +11,34 @@ PARTS = ("src", "specs", "proofs")
 ENDED_WITH_CALLER = ("setpriv", "--pdeathsig", "TERM")
 
 
+def sure(found: re.Match[str] | None) -> re.Match[str]:
+    """Returns a match that has to be there."""
+    if found is None:
+        raise LookupError("a text does not have the form that it has to have")
+    return found
+
+
 class BuildFailed(Exception):
     """Something can't be built; the text says why."""
 
 
-def lines_of_crates():
+def lines_of_crates() -> dict[str, str]:
     """Returns each crate's line of crates.txt."""
     lines = (ROOT / "crates.txt").read_text().splitlines(keepends=True)
     return {it.split(":")[0].split()[0]: it for it in lines if ":" in it and not it.startswith("#")}
 
 
-def uses():
+def uses() -> dict[str, list[str]]:
     """Returns what each crate uses, by crates.txt."""
     return {name: it.partition(":")[2].split() for name, it in lines_of_crates().items()}
 
 
-def crates_for(name):
+def crates_for(name: str) -> list[str]:
     """Returns the crate and those that it is made of, each after those that it uses."""
-    used, taken = uses(), []
+    used = uses()
+    taken: list[str] = []
 
-    def take(it):
+    def take(it: str) -> None:
         if it in used and it not in taken:
             for below in used[it]:
                 take(below)
@@ -43,37 +52,41 @@ class Program:
     """A program, or what else is made of a crate: by the name of the crate, the name that it goes by, and that of its file; and
     whether what it writes has each line in it."""
 
-    def __init__(self, crate, name, made=None, repeats_lines=False):
+    def __init__(self, crate: str, name: str, made: str | None = None, repeats_lines: bool = False) -> None:
         self.crate, self.name, self.repeats_lines = crate, name, repeats_lines
         self.file = ROOT / "crates" / crate / "out" / (made or crate)
 
-    def say(self, text):
+    def say(self, text: object) -> None:
         print(f"{self.name}: {text}", file=sys.stderr, flush=True)
 
-    def proved_first(self):
+    def proved_first(self) -> list[str]:
         """Returns the crates that `rt ci` proves for it, each after those that it uses."""
         return self.crates()
 
-    def made_in(self, room):
+    def made_in(self, room: pathlib.Path) -> dict[str, pathlib.Path]:
         """Returns what `rt ci` made of it in a copy of the crates, by name."""
         return {self.file.name: room / "crates" / self.crate / "out" / self.crate}
 
-    def crates(self):
+    def crates(self) -> list[str]:
         """Returns the crates that the program is made of, each after those that it uses."""
         return crates_for(self.crate)
 
-    def is_current(self):
+    def is_current(self) -> bool:
         """Returns whether the program is there and none of its sources is newer."""
         try:
             made = self.file.stat().st_mtime_ns
         except FileNotFoundError:
             return False
-        files = [ROOT / "crates.txt"]
+        files: list[str | pathlib.Path] = [ROOT / "crates.txt"]
         for folder in (ROOT / "crates" / crate / part for crate in self.crates() for part in PARTS):
             files += [os.path.join(at, it) for at, _, names in os.walk(folder) for it in names]
         return all(os.stat(it).st_mtime_ns <= made for it in files)
 
-    def keep_folders(self):
+    def why_not_run(self) -> str:
+        """Returns why the program, which is not current, is not run."""
+        return "the program that is built is older than its sources" if self.file.exists() else "the program is not built"
+
+    def keep_folders(self) -> None:
         """Writes beside the program, which is current, the folders of the code that it is made of, for the next call."""
         folders = " ".join(f"crates/{it}/src" for it in self.crates())
         arriving = self.file.with_name(f"{self.file.name}.arriving-{os.getpid()}")

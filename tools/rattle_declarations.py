@@ -2,8 +2,11 @@
 what of it is read, and which names of its text are its own."""
 
 import functools
+import pathlib
 import re
+from collections.abc import Sequence
 
+from program import sure
 from rattle_files import CRATES, closing
 
 # What Rust has: words that a declaration may have, its own types, and those of std that are there without a `use`.
@@ -16,6 +19,8 @@ OF_RUST = set(
 OF_TYPES = ("TheVariants", "TheOpen", "TheFolds", "TheInside", "TheConstants")
 # What a word stands for that is of the kit.
 OF_KIT = "the kit"
+# What a name is: a file with the name there, or OF_KIT.
+Part = tuple[pathlib.Path, str] | str
 RUST_ITEM = r"^(?:pub(?:\([a-z]+\))? )?(?:const |unsafe )?(struct|enum|trait|const|static|type) {}\b"
 
 
@@ -23,7 +28,7 @@ class Lost(Exception):
     """A word stands nowhere; the text says why."""
 
 
-def declared(crate, path, name):
+def declared(crate: str, path: Sequence[str], name: str) -> tuple[pathlib.Path, str]:
     """Returns the declaration by the path of its module and its type, or of its module where it is a constant."""
     *modules, of = [it for it in path if it not in OF_TYPES] or [name]
     if "TheConstants" in path and of[:1].islower():
@@ -35,11 +40,11 @@ def declared(crate, path, name):
 
 
 @functools.cache
-def rust_uses(file):
+def rust_uses(file: pathlib.Path) -> dict[str, str]:
     """Returns the path of each name that a file of src/ brings in by `use`."""
-    found = {}
+    found: dict[str, str] = {}
 
-    def take(path, rest):
+    def take(path: str, rest: str) -> None:
         for it in split_list(rest):
             front, brace, inner = it.partition("{")
             if brace:
@@ -55,7 +60,7 @@ def rust_uses(file):
     return found
 
 
-def split_list(text):
+def split_list(text: str) -> list[str]:
     """Returns the items of a list that is separated by commas, where an item may have a list in braces."""
     items, depth, at = [], 0, 0
     for place, sign in enumerate(text):
@@ -66,23 +71,23 @@ def split_list(text):
     return [it.strip() for it in (*items, text[at:]) if it.strip()]
 
 
-def module_file(crate, modules):
+def module_file(crate: str, modules: Sequence[str]) -> pathlib.Path | None:
     """Returns the file of a module of src/, by the names of the modules from the root, or None."""
     folder = CRATES / crate / "src"
     files = [folder / f"{'/'.join(modules)}.rt", folder / "/".join(modules) / "mod.rt"] if modules else [folder / "lib.rt", folder / "main.rt"]
     return next((it for it in files if it.exists()), None)
 
 
-def declares_in(text, name):
+def declares_in(text: str, name: str) -> re.Match[str] | None:
     return re.search(RUST_ITEM.format(re.escape(name)), text, re.M)
 
 
-def declares(file, name):
+def declares(file: pathlib.Path, name: str) -> re.Match[str] | None:
     return declares_in(file.read_text(), name)
 
 
 @functools.cache
-def rust_named(crate, path):
+def rust_named(crate: str, path: tuple[str, ...]) -> Part:
     """Returns the declaration that a path of Rust from the root of a crate is, or that it is of the kit."""
     *modules, name = path
     file = module_file(crate, modules)
@@ -97,13 +102,14 @@ def rust_named(crate, path):
     raise Lost(f"src/ of {crate} does not declare it")
 
 
-def rust_at(crate, full):
+def rust_at(crate: str, full: str) -> Part:
     """Returns the declaration that a path of Rust in a file of a crate is, or that it is of the kit."""
     first, *rest = full.split("::")
     if first in ("crate", "self", "super"):
         return rust_named(crate, tuple(rest))
     # (a module of the crate may be called as another crate is)
-    if module_file(crate, [first]) or module_file(crate, []) and re.search(rf"^(?:pub )?mod {first}\b", module_file(crate, []).read_text(), re.M):
+    root = module_file(crate, [])
+    if module_file(crate, [first]) or root and re.search(rf"^(?:pub )?mod {first}\b", root.read_text(), re.M):
         return rust_named(crate, (first, *rest))
     if first in ("std", "core", "alloc"):
         return OF_KIT
@@ -112,14 +118,14 @@ def rust_at(crate, full):
     raise Lost(f"{first} is no crate")
 
 
-def without_notes(text):
+def without_notes(text: str) -> list[str]:
     """Returns the lines of a text of src/ but comments, attributes and what it brings in."""
     plain = re.sub(r"^ *(?:pub )?(?:ghost )?use [^;]*;", "", re.sub(r"//[^\n]*", "", text), flags=re.M)
     plain = re.sub(r"^ *#!?\[[^\n]*\]$", "", plain, flags=re.M)
     return [it.rstrip() for it in plain.split("\n") if it.strip()]
 
 
-def end_of_item(text, at):
+def end_of_item(text: str, at: int) -> int:
     """Returns where a declaration ends that begins at a place."""
     brace, dot = text.find("{", at), text.find(";", at)
     if brace < 0 or 0 <= dot < brace:
@@ -127,7 +133,7 @@ def end_of_item(text, at):
     return closing(text, brace)
 
 
-def without_bodies(trait):
+def without_bodies(trait: str) -> str:
     """Returns a trait without those of its calls that have a body."""
     kept, at = "", 0
     for begun in re.finditer(r"^    (?:final )?fn ", trait, re.M):
@@ -142,13 +148,14 @@ def without_bodies(trait):
 
 
 @functools.cache
-def declaration(file, name):
+def declaration(file: pathlib.Path, name: str) -> tuple[list[str], list[str], list[str]]:
     """Returns the lines of a declaration, those of its model apart, and what each of the latter says."""
     text = re.sub(r"//[^\n]*", "", file.read_text())
-    begun = declares_in(text, name)
+    begun = sure(declares_in(text, name))
     item = text[begun.start() : end_of_item(text, begun.start())]
     rust = without_notes(without_bodies(item) if begun[1] == "trait" else item)
-    model, said = [], []
+    model: list[str] = []
+    said: list[str] = []
     for head in re.finditer(rf"^impl(?:<[^{{]*?>)? Model for {name}\b[^{{]*\{{", text, re.M):
         block = text[head.start() : closing(text, head.end() - 1)]
         for member in re.finditer(r"^    ghost (?:Value|view|invariant) = \{", block, re.M):
@@ -158,7 +165,7 @@ def declaration(file, name):
     return rust, model, said
 
 
-def without_own_names(text):
+def without_own_names(text: str) -> str:
     """Returns a declaration without the names that it gives: those of variants, fields, arguments, calls and clauses."""
     if re.match(r"(?:pub(?:\([a-z]+\))? )?enum ", text):
         text = re.sub(r"^    (\w+)", "", text, flags=re.M)
@@ -166,7 +173,7 @@ def without_own_names(text):
     return re.sub(r"\b\w+: ", "", text)
 
 
-def rust_name(path, file, crate):
+def rust_name(path: str, file: pathlib.Path, crate: str) -> Part:
     """Returns the declaration that a name of a file of src/ is."""
     head, *rest = path.split("::")
     if declares(file, head):
@@ -178,7 +185,7 @@ def rust_name(path, file, crate):
     raise Lost("it is neither declared nor brought in there")
 
 
-def generics_in(text):
+def generics_in(text: str) -> set[str]:
     """Returns the parameters of a declaration's types and calls."""
     found = set()
     for listed in re.findall(r"(?:struct|enum|trait|fn|type|impl) ?\w*<([^({]*?)>(?=[\s({;:]|$)", text):

@@ -1,21 +1,37 @@
 """Reads the files of Rattle of this repository: the calls of a file of src/ with their contracts, the definitions of a file of
 specs/, the functions of a crate by their lines, and the changes of a mutation."""
 
-import collections
 import functools
+import pathlib
 import re
+from collections.abc import Iterable
+from typing import NamedTuple
 
-from program import ROOT
+from program import ROOT, sure
 
 CRATES = ROOT / "crates"
 
 # ---- calls and their contracts
 
-# A call: the type or trait that it is of, or none; how it is written; its clauses; the file where it stands; the first sentence of
-# its doc comment, or an empty text. A constant is one too, without clauses.
-Call = collections.namedtuple("Call", "of written clauses file doc")
-# A file: its path, and its text.
-Source = collections.namedtuple("Source", "path text")
+
+class Call(NamedTuple):
+    """A call: the type or trait that it is of, or none; how it is written; its clauses; the file where it stands; the first sentence
+    of its doc comment, or an empty text. A constant is one too, without clauses."""
+
+    of: str | None
+    written: str
+    clauses: list[str]
+    file: pathlib.Path
+    doc: str
+
+
+class Source(NamedTuple):
+    """A file: its path, and its text."""
+
+    path: pathlib.Path
+    text: str
+
+
 # How a call that is of no type begins, an export for C among them.
 FREE = r'pub (?:unsafe )?(?:extern "C" )?fn '
 
@@ -23,9 +39,9 @@ FREE = r'pub (?:unsafe )?(?:extern "C" )?fn '
 SHORT = 40
 
 
-def doc_before(text, at):
+def doc_before(text: str, at: int) -> str:
     """Returns the first sentence of the doc comment that ends right before a place of a text, or an empty text."""
-    lines = []
+    lines: list[str] = []
     for line in reversed(text[:at].split("\n")[:-1]):
         if line.strip().startswith("///"):
             lines.insert(0, line.strip()[3:].strip())
@@ -36,7 +52,7 @@ def doc_before(text, at):
     return sentence[0] if sentence else first
 
 
-def exported(crate):
+def exported(crate: str) -> set[str]:
     """Returns the names that a crate's page gives on."""
     text = re.sub(r"//.*", "", (ROOT / "crates" / crate / "src" / "lib.rt").read_text())
     names = set()
@@ -47,7 +63,7 @@ def exported(crate):
     return names
 
 
-def closing(text, at):
+def closing(text: str, at: int) -> int:
     """Returns the place after the bracket that closes the one at a place."""
     depth = 0
     for place in range(at, len(text)):
@@ -57,7 +73,7 @@ def closing(text, at):
     raise ValueError(f"no end of {text[at : at + 60]}")
 
 
-def clauses_in(text):
+def clauses_in(text: str) -> list[str]:
     """Returns the clauses that a text begins with, each on a line of its own."""
     clauses, at = [], 0
     while found := re.compile(r"(?:\s|//[^\n]*\n)*(requires\*?|ensures\*?|ghost)\s*(\w*)\s*:?\s*\{").match(text, at):
@@ -67,23 +83,23 @@ def clauses_in(text):
     return clauses
 
 
-def owner(head):
+def owner(head: str) -> str | None:
     """Returns the type or the trait of which the calls after a line are, if they are listed there, or none."""
     if head.startswith("pub trait "):
-        return re.match(r"pub trait (\w+)", head)[1]
-    return re.match(r"impl(?:<[^{]*?>)? (\w+)(?:<.*>)? \{$", head)[1] if " for " not in head else None
+        return sure(re.match(r"pub trait (\w+)", head))[1]
+    return sure(re.match(r"impl(?:<[^{]*?>)? (\w+)(?:<.*>)? \{$", head))[1] if " for " not in head else None
 
 
-def operator_in(block, at, source):
+def operator_in(block: str, at: int, source: Source) -> list[Call]:
     """Returns what an operator asks and gives, what is printed, or what a wall clock is, as a call of its type, if the block is of one."""
     head = re.match(r"impl(?:<[^{]*?>)? ((?:fmt::)?\w+(?:<.*>)?) for (\w+)(?:<.*>)? \{$", block.split("\n")[0])
     begun = re.finditer(r"^    ghost (can_\w+|\w+_gives|output|styled_output|wall_of|with_wall) = \{", block, re.M) if head else ()
     members = [(it[1], re.sub(r"\s+", " ", block[it.end() : closing(block, it.end() - 1) - 1]).strip()) for it in begun]
     clauses = [f"  {name}: {what}" for name, what in members]
-    return [Call(head[2], f"impl {head[1]} for {head[2]}", clauses, source.path, doc_before(source.text, at))] if members else []
+    return [Call(head[2], f"impl {head[1]} for {head[2]}", clauses, source.path, doc_before(source.text, at))] if head and members else []
 
 
-def call_at(block, begun, of, at, source, of_impl=""):
+def call_at(block: str, begun: re.Match[str], of: str | None, at: int, source: Source, of_impl: str = "") -> Call:
     """Returns the call whose head begins at a place of a block, which begins at a place of its file."""
     end = closing(block, block.index("(", begun.end()))
     gives = re.compile(r"\s*->(?:\[[^\]\n]*\]|[^{;\n\[])*").match(block, end)
@@ -93,15 +109,16 @@ def call_at(block, begun, of, at, source, of_impl=""):
     return Call(of, of_impl + written, clauses_in(block[end:]), source.path, doc_before(source.text, at + begun.start()))
 
 
-def own_promises_in(block, at, source):
+def own_promises_in(block: str, at: int, source: Source) -> list[Call]:
     """Returns the calls of a trait that promise more for a type than the trait does for all, if the block is of such a type."""
     head = re.match(r"impl(?:<[^{]*?>)? (\w+)(?:<.*>)? for (\w+)(?:<.*>)? \{$", block.split("\n")[0])
-    begun = re.finditer(r"^    fn ", block, re.M) if head else ()
-    found = [call_at(block, it, head[2], at, source, f"impl {head[1]} for {head[2]}: ") for it in begun]
+    if not head:
+        return []
+    found = [call_at(block, it, head[2], at, source, f"impl {head[1]} for {head[2]}: ") for it in re.finditer(r"^    fn ", block, re.M)]
     return [it for it in found if it.clauses]
 
 
-def constants_in(block, of, at, source):
+def constants_in(block: str, of: str | None, at: int, source: Source) -> list[Call]:
     """Returns the public constants of a block."""
     found = []
     for begun in re.finditer(r"^ *pub (const (\w+): [^=]+?) = ([^;]+);", block, re.M):
@@ -111,10 +128,11 @@ def constants_in(block, of, at, source):
     return found
 
 
-def calls_in(file):
+def calls_in(file: pathlib.Path) -> list[Call]:
     """Returns the public calls and constants of a file, in order."""
     source = Source(file, file.read_text())
-    found, at = [], 0
+    found: list[Call] = []
+    at = 0
     for block in re.split(rf"^(?=impl\b|pub trait |pub const |{FREE}|fn |mod )", source.text, flags=re.M):
         head = block.split("\n")[0]
         of = owner(head) if head.startswith(("impl", "pub trait ")) else None
@@ -128,7 +146,7 @@ def calls_in(file):
     return found
 
 
-def name_of(call):
+def name_of(call: Call) -> str | None:
     """Returns the name of a call or of a constant, or none of an operator."""
     name = re.search(r"(?:fn|const) (\w+)", call.written)
     return name[1] if name else None
@@ -141,7 +159,7 @@ FIXITY = re.compile(r"\s*(?:infix[lr]?|prefix|postfix) \d+ +\S*◌")
 WORD = r"[^\s(){}\[\].,;=:λ→]+(?:\.[^\s(){}\[\].,;=:λ→]+)*|◌[^\s(){},;]*◌"
 
 
-def file_of(path):
+def file_of(path: str) -> pathlib.Path | None:
     """Returns the file of a module of specs/, or none where it is not of this repository or tells what src/ declares."""
     parts = path.split(".")
     if parts[0] != "Rattle" or len(parts) < 4 or parts[2] != "specs" or "declared" in parts:
@@ -155,23 +173,27 @@ def file_of(path):
     return file_of(given_on[1]) if given_on else None
 
 
-def imports_in(text, keyword):
+def imports_in(text: str, keyword: str) -> dict[str, tuple[pathlib.Path, str | None]]:
     """Returns what each name that is brought in stands for: a file, and the name there."""
-    found = {}
+    found: dict[str, tuple[pathlib.Path, str | None]] = {}
     for path, names, alias in re.findall(rf"^ *{keyword} (Rattle[\w.]+?)(?:\.\{{([^}}]*)\}})?(?: as (\w+))?;?$", text, re.M):
         file = file_of(path)
-        if file and alias:
+        if not file:
+            continue
+        if alias:
             found[f"{alias}."] = (file, None)
-        for name in (it.strip() for it in names.split(",")) if file and names else ():
+        for name in (it.strip() for it in names.split(",")) if names else ():
             there, _, here = name.partition(" as ")
             found[here or there] = (file, there)
     return found
 
 
-def outside_of_modules(lines):
+def outside_of_modules(lines: list[str]) -> tuple[list[str], dict[int, str]]:
     """Returns lines with what stands in a module without a name as it would stand outside of it, and the head of its module
     for the number of each such line."""
-    plain, heads, head = [], {}, None
+    plain: list[str] = []
+    heads: dict[int, str] = {}
+    head: str | None = None
     for line in lines:
         if re.match(r"module _ .*\bwhere$", line):
             head = line
@@ -184,7 +206,7 @@ def outside_of_modules(lines):
 
 
 @functools.cache
-def definitions_in(file):
+def definitions_in(file: pathlib.Path) -> dict[str, list[str]]:
     """Returns the definitions of a file by name, each with its lines. The head of a module without a name is one too, by the
     name that it is as a whole: what stands in the module rests on it."""
     found = {}
@@ -207,7 +229,7 @@ def definitions_in(file):
 
 
 @functools.cache
-def module_heads(file):
+def module_heads(file: pathlib.Path) -> dict[str, str]:
     """Returns the head of the module without a name in which each definition of a file stands, for those that stand in one."""
     lines = [it for it in file.read_text().split("\n") if not it.strip().startswith("--")]
     plain, heads = outside_of_modules(lines)
@@ -215,7 +237,7 @@ def module_heads(file):
     return {it[1]: heads[at] for at, it in begun.items() if it}
 
 
-def words_of(text, names):
+def words_of(text: str, names: Iterable[str]) -> set[str]:
     """Returns the words of a text, and those operators among the names whose parts it has."""
     found = set(re.findall(WORD, text))
     tokens = set(re.split(r"[\s(){},;]+", text))
@@ -228,27 +250,41 @@ def words_of(text, names):
 FUNCTION = re.compile(r'( *)(pub(?:\(\w+\))? )?(?:const |final |unsafe )?(?:extern "C" )?fn (\w+)')
 IMPL = re.compile(r"impl\b(.*) \{$")
 COMMENT = re.compile(r"//[^\n]*|/\*.*?\*/", re.S)
-Function = collections.namedtuple("Function", "file name trait path is_public first last")
+# What a mutation changes: file, old text, new text. What some of them change: each file as it is, and as they leave it.
+Change = tuple[str, str, str]
+Texts = dict[str, tuple[str, str]]
 
 
-def without_comments(text):
+class Function(NamedTuple):
+    """A function: its file, its name, the trait that it is of, its path for the prover, its first line and its last one."""
+
+    file: str
+    name: str
+    trait: str
+    path: str
+    is_public: bool
+    first: int
+    last: int
+
+
+def without_comments(text: str) -> str:
     """Returns the text with spaces in the place of its comments, line for line."""
     return COMMENT.sub(lambda it: re.sub(r"[^\n]", " ", it[0]), text)
 
 
-def name_of_type(text):
+def name_of_type(text: str) -> str:
     """Returns a type as the prover writes it in the name of an impl: `&'a [Item<'a>]` as `RefSliceItem`."""
     text = re.sub(r"'\w+\b", "", text).replace("&", " Ref ").replace("[", " Slice ")
     words = [it for it in re.findall(r"[A-Za-z_]\w*", text.replace("::", ".").replace("fmt.", "")) if it != "mut"]
     return "".join(it[0].upper() + it[1:] for it in words)
 
 
-def name_of_impl(head):
+def name_of_impl(head: str) -> tuple[str, str]:
     """Returns what the prover calls an impl by its head, as `DateDisplay`, and its trait; or the type's name, and no trait."""
-    generic, _, head = re.match(r"\s*(<[^<>]*(?:<[^<>]*>[^<>]*)*>)?(\s*)(.*)", head).groups()
+    generic, _, head = sure(re.match(r"\s*(<[^<>]*(?:<[^<>]*>[^<>]*)*>)?(\s*)(.*)", head)).groups()
     trait, is_of_trait, of = head.partition(" for ")
     if not is_of_trait:
-        return re.match(r"\w+", head)[0], ""
+        return sure(re.match(r"\w+", head))[0], ""
     bare = re.sub(r"<.*", "", of) if not of.startswith("&") else of
     # (a parameter is not named, nor an argument that is the type itself)
     parameters = re.findall(r"[<,]\s*(\w+)", generic or "")
@@ -259,26 +295,28 @@ def name_of_impl(head):
     return name_of_type(bare) + name_of_type(shown), trait
 
 
-def functions_of(crate):
+def functions_of(crate: pathlib.Path) -> list[Function]:
     """Returns the crate's functions, each with its lines from its attributes to its end, counted from 1; none of a crate
     of tests, and of a program, which has no callers, only those that promise something.
 
     The first function of an impl of a trait begins at the impl, whose ghost members speak of it."""
-    found, is_program = [], (crate / "src" / "main.rt").exists()
+    found: list[Function] = []
+    is_program = (crate / "src" / "main.rt").exists()
     for path in sorted((crate / "src").rglob("*.rt") if not crate.name.endswith("_tests") else []):
         if any(it.endswith("tests") for it in path.relative_to(crate / "src").with_suffix("").parts):
             continue
         lines = path.read_text().split("\n")
         file = str(path.relative_to(crate))
         module = "::".join(it for it in path.relative_to(crate / "src").with_suffix("").parts if it not in ("lib", "main"))
-        within, trait, opened = "", "", None
+        within, trait = "", ""
+        opened: int | None = None
         for at, line in enumerate(lines):
             implemented, named = IMPL.match(line), FUNCTION.match(line)
             if implemented:
                 within, trait = name_of_impl(implemented[1])
                 opened = at if trait else None
             if re.match(r"(pub )?trait (\w+)", line):
-                within = re.match(r"(?:pub )?trait (\w+)", line)[1]
+                within = sure(re.match(r"(?:pub )?trait (\w+)", line))[1]
             if line == "}":
                 within, trait, opened = "", "", None
             if not named:
@@ -299,9 +337,10 @@ def functions_of(crate):
     return found
 
 
-def changes_of(mutation):
+def changes_of(mutation: pathlib.Path) -> list[Change]:
     """Returns what a mutation changes: file, old text, new text."""
-    file, old, changes = None, None, []
+    file, old = "", None
+    changes: list[Change] = []
     for line in mutation.read_text().split("\n"):
         word, _, text = line.partition(": ")
         if word == "file":
@@ -314,20 +353,21 @@ def changes_of(mutation):
     return changes
 
 
-def edited(crate, changes):
+def edited(crate: pathlib.Path, changes: Iterable[Change]) -> Texts:
     """Returns the files that the changes touch, each as it is and as they leave it."""
-    texts = {}
+    texts: Texts = {}
     for file, old, new in changes:
-        was, now = texts.setdefault(file, [(crate / file).read_text()] * 2)
+        text = (crate / file).read_text()
+        was, now = texts.get(file, (text, text))
         if now.count(old) != 1:
             raise ValueError(f"stands {now.count(old)} times in {file}: {old}")
         texts[file] = was, now.replace(old, new)
     return texts
 
 
-def turned_by(texts, functions):
+def turned_by(texts: Texts, functions: list[Function]) -> list[Function]:
     """Returns the innermost functions whose text changes, comments aside."""
-    turned = []
+    turned: list[Function] = []
     for file, (was, now) in texts.items():
         lines = zip(without_comments(was).split("\n"), without_comments(now).split("\n"))
         for at, (before, after) in enumerate(lines, 1):

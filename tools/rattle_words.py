@@ -12,9 +12,12 @@ with the trait has to write, with their clauses: its other calls follow from the
 
 import collections
 import functools
+import pathlib
 import re
+from collections.abc import Callable, Iterable, Mapping, Sequence
 
-from rattle_declarations import OF_KIT, OF_RUST, Lost, declaration, declared, declares, generics_in, rust_name, rust_uses, without_own_names
+from program import sure
+from rattle_declarations import OF_KIT, OF_RUST, Lost, Part, declaration, declared, declares, generics_in, rust_name, rust_uses, without_own_names
 from rattle_files import CRATES, closing, definitions_in, module_heads
 
 # What the language has: its reserved words, those of a kit's `Prim`, and what stands for a part of a text.
@@ -24,6 +27,11 @@ LANGUAGE = set(
 )
 # What a word stands for that is bound in the text.
 BOUND = "bound"
+# What a path of a `use` is: a file of specs/, a crate with a path in its src/, the kit, or none. What is brought in: for each name its
+# module and its name there; for each other name of a module that module. A token: a word, or the indentation of a line.
+Module = pathlib.Path | tuple[str, tuple[str, ...]] | str | None
+Uses = tuple[dict[str, tuple[str, str]], dict[str, str]]
+Token = int | str
 # The crates of the kit that definitions use.
 KIT = ("std",)
 TOKEN = re.compile(r'"(?:\\.|[^"\\])*"|\.?[^\s(){}.;,@"«»]+(?:\.[^\s(){}.;,@"«»]+)*|[(){}.;,@]')
@@ -32,7 +40,7 @@ TOKEN = re.compile(r'"(?:\\.|[^"\\])*"|\.?[^\s(){}.;,@"«»]+(?:\.[^\s(){}.;,@"�
 # ---- modules and the names that they have
 
 
-def module_at(path):
+def module_at(path: str) -> Module:
     """Returns what a path of a `use` is: a file of specs/, or a crate with the path of what its src/ declares, or the kit."""
     parts = path.split(".")
     if parts[0] != "Rattle" or parts[1] in KIT:
@@ -50,25 +58,26 @@ def module_at(path):
 
 
 @functools.cache
-def uses_in(text, keyword):
+def uses_in(text: str, keyword: str) -> Uses:
     """Returns what is brought in: for each name its module and its name there; for each other name of a module that module."""
-    names, modules = {}, {}
+    names: dict[str, tuple[str, str]] = {}
+    modules: dict[str, str] = {}
     for path, listed, alias in re.findall(rf"^ *{keyword} ((?:\w+\.)*[\w\-]+?)(?:\.\{{([^}}]*)\}})?(?: as (\w+))?;?$", text, re.M):
         if alias or not listed:
             modules[alias or path.split(".")[-1]] = path
-        for it in filter(None, (it.strip() for it in listed.split(","))):
+        for it in [word for part in listed.split(",") if (word := part.strip())]:
             there, _, here = it.partition(" as ")
             names[here or there] = path, there
     return names, modules
 
 
 @functools.cache
-def spec_uses(file):
+def spec_uses(file: pathlib.Path) -> Uses:
     return uses_in(file.read_text(), "(?:pub )?use")
 
 
 @functools.cache
-def own_names(file):
+def own_names(file: pathlib.Path) -> dict[str, str]:
     """Returns the definition that each name of a file is, or is a case of."""
     found = {}
     for name, lines in definitions_in(file).items():
@@ -81,15 +90,15 @@ def own_names(file):
 
 
 @functools.cache
-def given_on_by(file):
+def given_on_by(file: pathlib.Path) -> dict[str, tuple[str, str]]:
     """Returns the names that a file of specs/ gives on, each with its module and its name there."""
     return uses_in(file.read_text(), "pub use")[0]
 
 
-def part_named(module, name):
+def part_named(module: Module, name: str) -> Part:
     """Returns the part that a name of a module is, or that it is of the kit."""
-    if module == OF_KIT:
-        return OF_KIT
+    if isinstance(module, str):
+        return module
     if module is None:
         raise Lost("its module is not there")
     if isinstance(module, tuple):
@@ -105,9 +114,9 @@ def part_named(module, name):
 # ---- the words of a text
 
 
-def tokens_of(text):
+def tokens_of(text: str) -> list[Token]:
     """Returns the tokens of a text without comments and strings; a number stands at the start of a line, for its indentation."""
-    tokens = []
+    tokens: list[Token] = []
     for line in text.split("\n"):
         plain = re.sub(r"(?<!\S)--.*", "", line)
         if plain.strip():
@@ -115,9 +124,9 @@ def tokens_of(text):
     return tokens
 
 
-def clauses_of(lines):
+def clauses_of(lines: list[str]) -> list[str]:
     """Returns the texts of a definition: its signature and its clauses, each with the lines that go on with it."""
-    texts = []
+    texts: list[str] = []
     for line in lines:
         if line.startswith(" ") and texts:
             texts[-1] += f"\n{line}"
@@ -126,7 +135,7 @@ def clauses_of(lines):
     return texts
 
 
-def end_of_pattern(tokens):
+def end_of_pattern(tokens: list[Token]) -> int:
     """Returns where the patterns of a clause end, before its `=`; 0 where the text is no clause."""
     depth = 0
     for at, token in enumerate(tokens):
@@ -141,27 +150,29 @@ class Binding:
     line of a `do` block, a field or a case binds, from the next line on that is not indented deeper; what a `let` binds, from
     its `in` on. A word of a pattern is bound unless it is a case of a type."""
 
-    def __init__(self, text, is_case):
+    def __init__(self, text: str, is_case: Callable[[str], bool]) -> None:
         self.tokens, self.is_case = tokens_of(text), is_case
-        self.free, self.frames, self.waiting = set(), [("", set())], []
+        self.free: set[str] = set()
+        self.frames: list[tuple[Token, set[str]]] = [("", set())]
+        self.waiting: list[tuple[Token, list[Token]]] = []
 
-    def bind(self, words, frame=-1):
+    def bind(self, words: Iterable[Token], frame: int = -1) -> None:
         for it in words:
             if isinstance(it, str) and it not in "(){}.;,@:":
                 (self.free if self.is_case(it) else self.frames[frame][1]).add(it)
 
-    def ahead(self, at, signs):
+    def ahead(self, at: int, signs: Sequence[str]) -> int:
         """Returns the place of the first of some signs on the same line, or that of the line's end."""
         return next((it for it in range(at, len(self.tokens)) if self.tokens[it] in signs or isinstance(self.tokens[it], int)), len(self.tokens))
 
-    def names_before(self, at, sign):
+    def names_before(self, at: int, sign: str) -> tuple[list[Token], int]:
         """Returns the names from a place on that a sign stands behind, and where it stands; or none, and the place before."""
         end = self.ahead(at, (sign,))
         names = self.tokens[at:end]
-        is_list = end < len(self.tokens) and self.tokens[end] == sign and all(re.fullmatch(r"[^(){}.;,@→=]+", it) for it in names)
+        is_list = end < len(self.tokens) and self.tokens[end] == sign and all(re.fullmatch(r"[^(){}.;,@→=]+", str(it)) for it in names)
         return (names, end) if is_list and names else ([], at - 1)
 
-    def wait_over(self, mark):
+    def wait_over(self, mark: Token) -> None:
         """Binds what waited for this."""
         over = [it for it in self.waiting if it[0] == mark or isinstance(mark, int) and isinstance(it[0], int) and it[0] >= mark]
         # (an `in` is that of the last `let`)
@@ -169,7 +180,7 @@ class Binding:
             self.waiting.remove(it)
             self.bind(it[1])
 
-    def begin_line(self, at):
+    def begin_line(self, at: int) -> int:
         indentation = self.tokens[at]
         self.wait_over(indentation)
         arrow = self.ahead(at + 1, ("←",))
@@ -181,18 +192,18 @@ class Binding:
         self.waiting.append((indentation, [it for it in names if it not in LANGUAGE]))
         return end
 
-    def begin_bracket(self, at):
+    def begin_bracket(self, at: int) -> int:
         self.frames.append((self.tokens[at], set()))
         names, end = self.names_before(at + 1, ":")
         self.waiting.append(("(" * (len(self.frames) - 1), names))
         return end
 
-    def end_bracket(self):
+    def end_bracket(self) -> None:
         if len(self.frames) > 1:
             self.frames.pop()
             self.wait_over("(" * len(self.frames))
 
-    def step(self, at):
+    def step(self, at: int) -> int:
         """Reads the token at a place, and returns the place of the last token that was read with it."""
         token = self.tokens[at]
         behind = self.tokens[at + 1] if at + 1 < len(self.tokens) else ""
@@ -218,12 +229,12 @@ class Binding:
             self.take(token)
         return at
 
-    def take(self, token):
+    def take(self, token: str) -> None:
         if not any(token.partition(".")[0] in names for _, names in self.frames):
             self.free.add(token)
 
 
-def heads_in(pattern, scope):
+def heads_in(pattern: list[str], scope: "Scope") -> set[str]:
     """Returns the words of a pattern that are given something there, as `Some` in `(Some x)`, and are no case of a type."""
     found = set()
     for bracket, head, behind in zip(pattern, pattern[1:], pattern[2:]):
@@ -232,7 +243,7 @@ def heads_in(pattern, scope):
     return found
 
 
-def free_words(text, scope):
+def free_words(text: str, scope: "Scope") -> tuple[set[str], set[str]]:
     """Returns the words of a text that it does not bind, and those that have to be cases of a type and are not."""
     binding = Binding(text, scope.is_case)
     at = end_of_pattern(binding.tokens)
@@ -244,28 +255,28 @@ def free_words(text, scope):
     return binding.free, heads
 
 
-def is_of_language(word):
+def is_of_language(word: str) -> bool:
     return word in LANGUAGE or re.match(r"\d", word) is not None or word == "◌"
 
 
 class Scope:
     """What the words of a text stand for."""
 
-    def __init__(self, names, modules, own, file, crate=None):
+    def __init__(self, names: Mapping[str, tuple[str, str]], modules: Mapping[str, str], own: Mapping[str, tuple[pathlib.Path, str]], file: pathlib.Path, crate: str | None = None) -> None:
         self.names, self.modules, self.own, self.file, self.crate = names, modules, own, file, crate
         self.operators = collections.defaultdict(set)
         for name in (*names, *own):
             for part in name.split("◌") if "◌" in name else ():
                 self.operators[part].add(name)
 
-    def of(self, name):
+    def of(self, name: str) -> Part:
         """Returns the part that a name is."""
         if name in self.names:
             path, there = self.names[name]
             return part_named(module_at(path), there)
         return self.own[name]
 
-    def is_case(self, word):
+    def is_case(self, word: str) -> bool:
         """Returns whether a word is no name of its own where it stands in a pattern: it is a case of a type, or not of specs/."""
         head = word.partition(".")[0]
         if head != word or is_of_language(word):
@@ -276,9 +287,9 @@ class Scope:
             return word in self.operators
         path, there = self.names[word]
         part = part_named(module_at(path), there)
-        return part == OF_KIT or part[1] != there or part[0].suffix == ".rt"
+        return isinstance(part, str) or part[1] != there or part[0].suffix == ".rt"
 
-    def parts(self, word, bound):
+    def parts(self, word: str, bound: set[str]) -> list[Part]:
         """Returns the parts that a word is of, with OF_KIT and BOUND for what is none."""
         head, _, tail = word.partition(".")
         if word in self.names or word in self.own:
@@ -302,11 +313,12 @@ class Scope:
 class Reached:
     """All that clauses rest on, and the words that stand nowhere."""
 
-    def __init__(self):
-        self.lines, self.lost = {}, []
+    def __init__(self) -> None:
+        self.lines: dict[tuple[pathlib.Path, str], list[str]] = {}
+        self.lost: list[str] = []
 
-    def take(self, part):
-        if part in (OF_KIT, BOUND) or part in self.lines:
+    def take(self, part: Part) -> None:
+        if isinstance(part, str) or part in self.lines:
             return
         file, name = part
         if file.suffix == ".antt":
@@ -314,7 +326,7 @@ class Reached:
         else:
             self.take_declaration(file, name)
 
-    def take_definition(self, file, name):
+    def take_definition(self, file: pathlib.Path, name: str) -> None:
         body = definitions_in(file)[name]
         self.lines[file, name] = body
         names, modules = spec_uses(file)
@@ -326,7 +338,7 @@ class Reached:
             self.follow(scope, [head.removesuffix(" where").removeprefix("module _ ")], bound, file, "module _")
         self.follow(scope, clauses_of(body), bound, file, name)
 
-    def take_declaration(self, file, name):
+    def take_declaration(self, file: pathlib.Path, name: str) -> None:
         crate = file.relative_to(CRATES).parts[0]
         rust, model, said = declaration(file, name)
         self.lines[file, name] = rust + model
@@ -342,7 +354,7 @@ class Reached:
         self.follow_rust(without_own_names(plain + text[at:]), file, crate, own)
         self.follow(scope, [*(text[at:end] for at, end in braces), *said], bound, file, name)
 
-    def follow(self, scope, texts, bound, file, name):
+    def follow(self, scope: Scope, texts: Iterable[str], bound: set[str], file: pathlib.Path, name: str) -> None:
         """Takes all that the words of some texts are."""
         words = set()
         for text in texts:
@@ -364,7 +376,7 @@ class Reached:
             except Lost as fault:
                 self.lose(word, file, name, fault)
 
-    def follow_rust(self, text, file, crate, bound):
+    def follow_rust(self, text: str, file: pathlib.Path, crate: str, bound: set[str]) -> None:
         """Takes all that the names of a text of Rust are."""
         for path in sorted(set(re.findall(r"(?<![\w'.])[A-Za-z_]\w*(?:::[A-Za-z_]\w*)*", re.sub(r"'\w+", "", text)))):
             head = path.split("::")[0]
@@ -375,28 +387,28 @@ class Reached:
             except Lost as fault:
                 self.lose(path, file, "", fault)
 
-    def lose(self, word, file, name, why):
+    def lose(self, word: str, file: pathlib.Path, name: str, why: object) -> None:
         said = f"{file.relative_to(CRATES)}{f' {name}' if name else ''}: `{word}` stands nowhere: {why}"
         if said not in self.lost:
             self.lost.append(said)
 
 
 @functools.cache
-def ghost_uses(file):
+def ghost_uses(file: pathlib.Path) -> Uses:
     text = re.sub(r"ghost use [^;]*;", lambda it: re.sub(r"\s*\n\s*", " ", it[0]), file.read_text())
     return uses_in(text, "ghost use")
 
 
-def rust_scope(file, crate):
+def rust_scope(file: pathlib.Path, crate: str) -> Scope:
     names, modules = ghost_uses(file)
     return Scope(names, modules, {}, file, crate)
 
 
-def reached_from_call(file, call):
+def reached_from_call(file: pathlib.Path, call: str) -> Reached:
     """Returns all that the clauses of a function rest on, its arguments' types among them."""
     crate = file.relative_to(CRATES).parts[0]
     text = re.sub(r"//[^\n]*", "", file.read_text())
-    begun = re.search(rf"^pub fn {call}\b", text, re.M)
+    begun = sure(re.search(rf"^pub fn {call}\b", text, re.M))
     place = closing(text, text.index("(", begun.end()))
     clauses, at = [], place
     while found := re.compile(r"[^{;]*?\b(?:requires\*?|ensures\*?)\s*\w*\s*\{").match(text, at):

@@ -18,7 +18,7 @@ PROGRAMS = {
 }
 
 
-def main(name, words):
+def main(name: str, words: list[str]) -> int:
     program = PROGRAMS[name]
     if words != ["--build"] and program.is_current():
         program.keep_folders()

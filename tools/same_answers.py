@@ -17,6 +17,7 @@ import random
 import subprocess
 import sys
 import tempfile
+from collections.abc import Iterator
 
 sys.dont_write_bytecode = True
 sys.path.insert(0, str(pathlib.Path(__file__).resolve().parent.parent / "bench"))
@@ -55,7 +56,7 @@ FINDERS = [["rfc3339"], ["rfc3339", *WEB], ["rfc2822"], ["iso8601"], ["strftime"
 MODES = ["key", "carry", "replace", "explain"]
 
 
-def varied(rng):
+def varied(rng: random.Random) -> str:
     """Returns a line of a shape that few have."""
     day, hour, minute, second, fraction, offset = bench.moment(rng)
     clock = f"{hour:02}:{minute:02}:{second:02}"
@@ -82,7 +83,7 @@ def varied(rng):
     ])
 
 
-def changed(rng, line):
+def changed(rng: random.Random, line: str) -> str:
     """Returns the line with a mistake or two."""
     for _ in range(rng.randint(1, 2)):
         at = rng.randrange(len(line) + 1)
@@ -102,7 +103,7 @@ def changed(rng, line):
     return line
 
 
-def answered_lines(rng, count):
+def answered_lines(rng: random.Random, count: int) -> Iterator[str]:
     """Gives lines of all kinds, half of them changed."""
     kinds = [*bench.FILES[:11], varied, varied, varied, bench.garbage]
     for number in range(count):
@@ -110,7 +111,7 @@ def answered_lines(rng, count):
         yield changed(rng, line) if number % 2 else line
 
 
-def dated_lines(rng, count):
+def dated_lines(rng: random.Random, count: int) -> Iterator[str]:
     """Gives lines of text with a date in them or none, half of them changed."""
     kinds = [bench.access, bench.dateless, bench.trace]
     for number in range(count):
@@ -121,7 +122,7 @@ def dated_lines(rng, count):
         yield changed(rng, line) if number % 2 else line
 
 
-def first_difference(lines, before, after):
+def first_difference(lines: pathlib.Path, before: pathlib.Path, after: pathlib.Path) -> tuple[bytes, bytes, bytes]:
     """Returns the first line that has two answers, with both."""
     for line, one, other in zip(lines.open("rb"), before.open("rb"), after.open("rb")):
         if one != other:
@@ -129,7 +130,7 @@ def first_difference(lines, before, after):
     return b"(the end)", b"", b""
 
 
-def is_alike(programs, words, lines, folder):
+def is_alike(programs: list[str], words: list[str], lines: pathlib.Path, folder: pathlib.Path) -> bool:
     """Says whether both programs give the same output and the same status for the lines."""
     outputs = [folder / "before", folder / "after"]
     ends = []
@@ -144,7 +145,7 @@ def is_alike(programs, words, lines, folder):
     return False
 
 
-def all_words(is_lines, rng):
+def all_words(is_lines: bool, rng: random.Random) -> Iterator[list[str]]:
     """Gives the words of runs, in a new order each time."""
     if is_lines:
         runs = [[mode, target, assumed, "65536", *sources] for mode, target, assumed, sources
@@ -157,7 +158,7 @@ def all_words(is_lines, rng):
         yield from runs
 
 
-def main():
+def main() -> int:
     parser = argparse.ArgumentParser()
     parser.add_argument("before")
     parser.add_argument("after")
@@ -170,8 +171,8 @@ def main():
     make = dated_lines if arguments.lines_programs else answered_lines
     words = all_words(arguments.lines_programs, rng)
     answers, differences = 0, 0
-    with tempfile.TemporaryDirectory() as folder:
-        folder = pathlib.Path(folder)
+    with tempfile.TemporaryDirectory() as place:
+        folder = pathlib.Path(place)
         while answers < arguments.answers and differences < 10:
             lines = folder / "lines"
             lines.write_text("".join(line + "\n" for line in make(rng, arguments.lines)), encoding="latin-1")

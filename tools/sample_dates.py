@@ -2,6 +2,8 @@
 those of descriptions that are made at random too."""
 
 import datetime
+import random
+from collections.abc import Callable, Sequence
 from typing import NamedTuple
 
 MONTHS = "January February March April May June July August September October November December".split()
@@ -21,26 +23,31 @@ class Moment(NamedTuple):
     nanosecond: int
     offset: int  # in minutes
 
-    def date(self):
+    def date(self) -> datetime.date:
         """Returns a day of Python's calendar that is near it."""
         return datetime.date(min(max(self.year, 1), 9999), self.month, min(self.day, 28)) + datetime.timedelta(days=max(self.day - 28, 0) * (self.year < 9999))
 
-    def digits(self, count):
+    def digits(self, count: int) -> str:
         return f"{self.nanosecond:09}000"[:count]
 
-    def offset_text(self, colon):
+    def offset_text(self, colon: str) -> str:
         minutes = abs(self.offset)
         return f"{'-' if self.offset < 0 else '+'}{minutes // 60:02}{colon}{minutes % 60:02}"
 
-    def clock(self, colon=":"):
+    def clock(self, colon: str = ":") -> str:
         return f"{self.hour:02}{colon}{self.minute:02}{colon}{self.second:02}"
 
-    def unix(self):
+    def unix(self) -> int:
         since = (self.date() - datetime.date(1970, 1, 1)).days * 86_400
         return since + self.hour * 3600 + self.minute * 60 + self.second
 
 
-def some_moment(rng):
+# What writes a moment in some way; and keys of modifiers with their values.
+Write = Callable[[random.Random, Moment], str]
+Pairs = Sequence[tuple[str, str | int]]
+
+
+def some_moment(rng: random.Random) -> Moment:
     kind = rng.random()
     year = rng.randint(2019, 2026)
     if kind < 0.08:
@@ -59,13 +66,13 @@ def some_moment(rng):
 # ---- fixed ways
 
 
-def rfc3339(rng, m):
+def rfc3339(rng: random.Random, m: Moment) -> str:
     fraction = rng.choice(["", "", "", ".", f".{m.digits(rng.randint(1, 12))}", f".{m.digits(3)}", f",{m.digits(3)}"])
     offset = rng.choice(["Z", "Z", "z", m.offset_text(":"), m.offset_text(":"), m.offset_text(""), ""])
     return f"{m.year:04}-{m.month:02}-{m.day:02}{rng.choice('TTTTt _ x')}{m.clock()}{fraction}{offset}"
 
 
-def iso8601(rng, m):
+def iso8601(rng: random.Random, m: Moment) -> str:
     dash, colon = rng.choice([("-", ":"), ("-", ":"), ("", ""), ("-", ""), ("", ":")])
     week, date = m.date().isocalendar(), m.date()
     year = rng.choice([f"{m.year:04}", f"{m.year:04}", f"{m.year:04}", f"+{m.year:06}", f"-{m.year:06}", f"{rng.choice('+-')}{rng.choice([999_999, rng.randrange(10**6)]):06}"])
@@ -82,7 +89,7 @@ def iso8601(rng, m):
     return f"{day}{rng.choice('TTTT t')}{time}{offset}"
 
 
-def some_comment(rng, levels=3):
+def some_comment(rng: random.Random, levels: int = 3) -> str:
     """Returns a comment of RFC 2822, or what is nearly one."""
     parts = ["a", " ", "  ", "\t", "\r", "\0", "\x7f", "\x0b", "\u00e9", "\\)", "\\(", "\\\\", "\\\0", "\\\r", "\\\u00e9", "\\", ")", "(", "x y"]
     inside = "".join(rng.choice(parts) for _ in range(rng.choice([0, 1, 2, 4])))
@@ -92,7 +99,7 @@ def some_comment(rng, levels=3):
     return "(" * depth + inside + ")" * depth
 
 
-def rfc2822(rng, m):
+def rfc2822(rng: random.Random, m: Moment) -> str:
     space = rng.choice([" ", " ", " ", " ", "  ", "\t", " (a comment) ", "(b)", " ((c) \\) d) ", "\r", "\r ", some_comment(rng), f" {some_comment(rng)}"])
     day = rng.choice([f"{m.day:02}", f"{m.day}"])
     weekday = rng.choice([f"{WEEKDAYS[m.date().weekday()][:3]},{space}", f"{WEEKDAYS[rng.randrange(7)][:3].upper()}, ", "", f"{WEEKDAYS[0]}, "])
@@ -103,10 +110,10 @@ def rfc2822(rng, m):
     return f"{weekday}{day}{space}{rng.choice([month, month, month.upper()])} {year}{rng.choice([' ', space])}{clock} {zone}{rng.choice(['', '', ' (CET)', ' (a'])}"
 
 
-def of(pattern):
+def of(pattern: str) -> Write:
     """Returns a way by a pattern of Python, of the parts of a moment and of what it computes."""
 
-    def write(rng, m):
+    def write(rng: random.Random, m: Moment) -> str:
         date = m.date()
         parts = m._asdict()
         parts.update(
@@ -124,9 +131,9 @@ def of(pattern):
 class Way(NamedTuple):
     """A source's words, and how its dates are written. What it does not say is `lacks`: an `offset`, a `year`, a `time`."""
 
-    words: tuple
-    write: object
-    lacks: tuple = ()
+    words: tuple[str, ...]
+    write: Write
+    lacks: tuple[str, ...] = ()
 
 
 OFFSET = ("offset",)
@@ -189,26 +196,26 @@ class Piece(NamedTuple):
     """A piece of a description, and what it writes."""
 
     text: str
-    write: object
+    write: Write
 
 
-def modifiers_of(rng, pairs):
+def modifiers_of(rng: random.Random, pairs: "Pairs") -> str:
     """Returns some of the modifiers, as they are written in brackets."""
     return "".join(f"{rng.choice([' ', ' ', '  '])}{key}:{value}" for key, value in pairs if value)
 
 
-def padded(value, padding, width):
+def padded(value: int, padding: str, width: int) -> str:
     return str(value).rjust(width) if padding == "space" else str(value) if padding == "none" else str(value).zfill(width)
 
 
-def number(rng, name, width, value, pairs=()):
+def number(rng: random.Random, name: str, width: int, value: Callable[[Moment], int], pairs: "Pairs" = ()) -> Piece:
     padding = rng.choice(["", "", "zero", "space", "none"])
     return Piece(f"[{name}{modifiers_of(rng, [*pairs, ('padding', padding)])}]", lambda r, m: padded(value(m), padding, width))
 
 
-def some_year(rng, is_iso=False):
+def some_year(rng: random.Random, is_iso: bool = False) -> Piece:
     base = [("base", "iso_week")] if is_iso else []
-    value = (lambda m: m.date().isocalendar()[0]) if is_iso else (lambda m: m.year)
+    value: Callable[[Moment], int] = (lambda m: m.date().isocalendar()[0]) if is_iso else (lambda m: m.year)
     if rng.random() < 0.15:
         century = number(rng, "year", 2, lambda m: value(m) // 100, [*base, ("repr", "century")])
         last_two = number(rng, "year", 2, lambda m: value(m) % 100, [*base, ("repr", "last_two")])
@@ -217,7 +224,7 @@ def some_year(rng, is_iso=False):
     padding = rng.choice(["", "", "", "zero", "space", "none"])
     text = f"[year{modifiers_of(rng, [*base, ('sign', sign), ('range', span), ('padding', padding)])}]"
 
-    def write(r, m):
+    def write(r: random.Random, m: Moment) -> str:
         mark = r.choice("++-") if sign == "mandatory" or r.random() < 0.1 else ""
         year = r.randrange(10**6) if mark and r.random() < 0.1 else value(m)
         return mark + padded(year, padding, r.choice([4, 4, 4, 6]) if mark else 4)
@@ -225,7 +232,7 @@ def some_year(rng, is_iso=False):
     return Piece(text, write)
 
 
-def some_day(rng):
+def some_day(rng: random.Random) -> tuple[list[Piece], bool]:
     """Returns the pieces of a date but the year's, and whether its year is that of weeks."""
     kind = rng.random()
     day = number(rng, "day", 2, lambda m: m.day)
@@ -243,11 +250,11 @@ def some_day(rng):
     return [week, some_weekday(rng)], form == "iso"
 
 
-def of_case(rng, text):
+def of_case(rng: random.Random, text: str) -> str:
     return rng.choice([text, text, text, text.upper(), text.lower()])
 
 
-def some_weekday(rng):
+def some_weekday(rng: random.Random) -> Piece:
     form = rng.choice(["long", "short", "sunday", "monday"])
     if form in ("long", "short"):
         cased = rng.choice(["", "", "true", "false"])
@@ -258,25 +265,30 @@ def some_weekday(rng):
     return Piece(text, lambda r, m: str((m.date().weekday() + (form == "sunday")) % 7 + (first != "false")))
 
 
-def some_time(rng):
+def part_named(name: str) -> Callable[[Moment], int]:
+    return lambda m: int(getattr(m, name))
+
+
+def some_time(rng: random.Random) -> list[Piece]:
     pieces = [number(rng, "hour", 2, lambda m: m.hour)]
     if rng.random() < 0.2:
         case, cased = rng.choice(["", "upper", "lower"]), rng.choice(["", "true", "false"])
         period = Piece(f"[period{modifiers_of(rng, [('case', case), ('case_sensitive', cased)])}]", lambda r, m: of_case(r, "PM" if m.hour >= 12 else "AM"))
         pieces = [number(rng, "hour", 2, lambda m: (m.hour + 11) % 12 + 1, [("repr", "12")]), period]
     for name in ("minute", "second")[: rng.choice([0, 1, 2, 2, 2])]:
-        pieces.append(number(rng, name, 2, lambda m, name=name: getattr(m, name)))
+        pieces.append(number(rng, name, 2, part_named(name)))
     if len(pieces) >= 3 and rng.random() < 0.4:
-        count = rng.choice(["", "1+", 1, 2, 3, 6, 9])
+        counts: list[str | int] = ["", "1+", 1, 2, 3, 6, 9]
+        count = rng.choice(counts)
         pieces.append(Piece(f"[subsecond{modifiers_of(rng, [('digits', count)])}]", lambda r, m: m.digits(count if isinstance(count, int) else r.randint(1, 9))))
     return pieces
 
 
-def some_offset(rng):
+def some_offset(rng: random.Random) -> list[Piece]:
     sign = rng.choice(["", "automatic", "mandatory", "mandatory"])
     hour = number(rng, "offset_hour", 2, lambda m: abs(m.offset) // 60, [("sign", sign)])
 
-    def write(r, m):
+    def write(r: random.Random, m: Moment) -> str:
         return ("" if sign != "mandatory" and r.random() < 0.3 else "-" if m.offset < 0 else "+") + hour.write(r, m)
 
     pieces = [Piece(hour.text, write)]
@@ -285,16 +297,20 @@ def some_offset(rng):
     return pieces
 
 
-def joined(rng, pieces, version, between):
+def always(text: str) -> Write:
+    return lambda r, m: text
+
+
+def joined(rng: random.Random, pieces: list[Piece], version: int, between: list[str]) -> Piece:
     """Returns the pieces one after another, with text between them."""
     parts = [pieces[0]]
     for piece in pieces[1:]:
         text = rng.choice(between)
-        parts += [Piece({1: text.replace("[", "[["), 2: text.replace("[", "\\["), 3: text.replace("[", "\\[")}[version], lambda r, m, text=text: text), piece]
+        parts += [Piece(text.replace("[", "[[" if version == 1 else "\\["), always(text)), piece]
     return Piece("".join(it.text for it in parts), lambda r, m: "".join(it.write(r, m) for it in parts))
 
 
-def nested(rng, piece):
+def nested(rng: random.Random, piece: Piece) -> Piece:
     """Returns a piece that may be missing, or that is one of two."""
     if rng.random() < 0.5:
         return Piece(f"[optional [{piece.text}]]", lambda r, m: piece.write(r, m) if r.random() < 0.8 else "")
@@ -304,7 +320,7 @@ def nested(rng, piece):
     return Piece(f"[first {' '.join(others)}]", piece.write)
 
 
-def some_way(rng):
+def some_way(rng: random.Random) -> Way:
     """Returns a way with a description of version 1, 2 or 3 that is made at random."""
     version, lacks = rng.choice([1, 2, 3, 3]), []
     days, is_iso = some_day(rng)
@@ -334,7 +350,7 @@ def some_way(rng):
 LETTERS = "YmdHMSbBaAejyCgGVuUwWIplkPszcDxFrRTXhnt%"
 
 
-def some_letters(rng):
+def some_letters(rng: random.Random) -> Way:
     """Returns a way with letters of strftime that are drawn at random, and lines that are not meant for it."""
     parts = [f"%{rng.choice(['', '', '', '-', '_', '0'])}{rng.choice(LETTERS)}" for _ in range(rng.randint(1, 7))]
     return Way(("strftime", rng.choice(["-", "/", " ", ":", ""]).join(parts)), rng.choice(WAYS).write, ("offset",))

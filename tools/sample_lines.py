@@ -1,6 +1,9 @@
 """Lines of logs, made at random, for tools/try_model.py: with dates of all kinds in all places, and changed bytes."""
 
-from sample_dates import MONTHS, WAYS, some_moment
+import random
+from collections.abc import Sequence
+from sample_dates import MONTHS, WAYS, Way, some_moment
+from sample_words import Words
 
 FIRST = "the a order user request until since at from to by retry port size took GET POST error warning host session job".split()
 # What a message has beside words: numbers, clocks, addresses, other dates, quotation marks, colours.
@@ -36,17 +39,17 @@ HEADS = [
 BYTES = [*range(256), *b"0123456789:.,-+ TZW\"" * 6, 0, 9, 13, 27, 27, 40, 41, 92]
 
 
-def some_text(rng):
+def some_text(rng: random.Random) -> str:
     return " ".join(rng.choice(LAST if rng.random() < 0.3 else FIRST) for _ in range(rng.randint(0, 7)))
 
 
-def some_date(rng, ways):
+def some_date(rng: random.Random, ways: Sequence[Way]) -> str:
     """Returns a date in one of these ways, or now and then in another one."""
     way = rng.choice(ways) if rng.random() < 0.85 else rng.choice(WAYS)
     return way.write(rng, some_moment(rng))
 
 
-def plain_line(rng, ways):
+def plain_line(rng: random.Random, ways: Sequence[Way]) -> str:
     """Returns a line as a program writes it."""
     date, text = some_date(rng, ways), some_text(rng)
     number = rng.randrange(1, 5000)
@@ -62,7 +65,7 @@ def plain_line(rng, ways):
     ])
 
 
-def odd_line(rng, ways):
+def odd_line(rng: random.Random, ways: Sequence[Way]) -> str:
     """Returns a line with something odd before the date and after it."""
     line = f"{rng.choice(HEADS)}{some_date(rng, ways)}{rng.choice(TAILS)}"
     for _ in range(rng.choice([0, 0, 1, 1, 2])):
@@ -70,7 +73,7 @@ def odd_line(rng, ways):
     return line + rng.choice(["", f" {some_text(rng)}", f"{rng.choice(TAILS)}{some_date(rng, ways)}"])
 
 
-def changed(rng, line):
+def changed(rng: random.Random, line: bytes) -> bytes:
     """Returns a line, as bytes, with some bytes changed."""
     line = bytearray(line)
     for _ in range(rng.choice([1, 1, 2, 3, 8])):
@@ -92,7 +95,7 @@ def changed(rng, line):
     return bytes(line).replace(b"\n", b" ")
 
 
-def lengthened(rng, line, limit):
+def lengthened(rng: random.Random, line: bytes, limit: int) -> bytes:
     """Returns a line with bytes put before its date, in it or after it, so that it meets the limit and what is looked at beyond it."""
     near = limit + rng.choice([0, 0, 0, 256, 320, 321]) + rng.randint(-40, 4)
     fill = rng.choice([b" ", b"x", b"-", b"1", b". ", b"ab ", b"(", b"0", b"\xc3\xa9", b"10:00:00 "])
@@ -102,7 +105,7 @@ def lengthened(rng, line, limit):
     return line[:at] + fill * min(count, 4000) + line[at:]
 
 
-def some_line(rng, ways, limit, is_whole):
+def some_line(rng: random.Random, ways: Sequence[Way], limit: int, is_whole: bool) -> bytes:
     """Returns a line as bytes, without its line feed; mostly a date alone, where lines are read as a whole."""
     kind = rng.random()
     if is_whole and kind < 0.7:
@@ -122,7 +125,7 @@ def some_line(rng, ways, limit, is_whole):
     return line.replace(b"\n", b" ")
 
 
-def some_stream(rng, asked, count):
+def some_stream(rng: random.Random, asked: Words, count: int) -> bytes:
     """Returns so many lines for a run's words as one stream, of which the last now and then has no line feed."""
     lines = [some_line(rng, asked.ways, asked.limit, asked.words[:1] == ("explain",)) for _ in range(count)]
     if rng.random() < 0.05:

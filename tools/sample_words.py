@@ -1,5 +1,6 @@
 """Words of runs of `instants-lines`, made at random, for tools/try_model.py: right ones and wrong ones."""
 
+import random
 from typing import NamedTuple
 
 from model.words import SYNONYMS
@@ -49,22 +50,22 @@ PATTERNS = {
 class Words(NamedTuple):
     """The words of a run, the ways of its sources, and its limit."""
 
-    words: tuple
-    ways: tuple
+    words: tuple[str, ...]
+    ways: tuple[Way, ...]
     limit: int
 
 
-def offset_of(rng, is_needed):
+def offset_of(rng: random.Random, is_needed: bool) -> str:
     return rng.choice(OFFSETS) if is_needed or rng.random() < 0.35 else "-"
 
 
-def named_formats():
+def named_formats() -> list[Way]:
     """Returns the ways that have a name: a name is written where its language and description would be."""
     lacking = {"year": ("klog", "logcat", "syslog"), "time": ("ledger", "date")}
     whole = ("access-log", "go-time", "serilog", "jenkins", "psql", "git-log", "auditd")
     ways = []
-    for name, (language, description) in SYNONYMS.items():
-        name = name.decode()
+    for word, (language, description) in SYNONYMS.items():
+        name = word.decode()
         lacks = tuple(part for part, names in lacking.items() if name in names)
         lacks += () if name in whole or name.startswith("unix") else ("offset",)
         alike = [it for it in WAYS if it.words == (language.decode(), description.decode())]
@@ -72,7 +73,7 @@ def named_formats():
     return ways
 
 
-def sources(rng):
+def sources(rng: random.Random) -> list[Way]:
     """Returns one way or more; most runs have few."""
     count = rng.choice([1, 1, 1, 1, 2, 2, 3, 5])
     kind = rng.random()
@@ -91,7 +92,7 @@ def sources(rng):
 NAMED = named_formats()
 
 
-def right_words(rng, mode=None):
+def right_words(rng: random.Random, mode: str | None = None) -> Words:
     """Returns words that are accepted, and mostly with all that their sources lack."""
     ways, mode = sources(rng), mode or rng.choice(MODES)
     lacks = {it for way in ways for it in way.lacks} if rng.random() < 0.97 else set()
@@ -130,7 +131,7 @@ ODD = [
 ]
 
 
-def wrong_words(rng):
+def wrong_words(rng: random.Random) -> Words:
     """Returns words of which most are wrong: right ones with some changed, left out, put in, or exchanged."""
     words = list(right_words(rng).words)
     for _ in range(rng.choice([1, 1, 1, 2, 3])):
@@ -148,7 +149,7 @@ def wrong_words(rng):
     return Words(tuple(words), tuple(WAYS[:3]), 64)
 
 
-def with_other_bytes(rng, word):
+def with_other_bytes(rng: random.Random, word: str) -> str:
     if not word:
         return "x"
     at = rng.randrange(len(word))

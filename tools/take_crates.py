@@ -18,7 +18,7 @@ sys.dont_write_bytecode = True
 from program import PARTS, ROOT, Program, uses
 
 
-def take(top, crates):
+def take(top: pathlib.Path, crates: list[str]) -> int:
     """Copies the crates, each after those that it uses, and returns how many they are."""
     used = uses()
     wanted = list(dict.fromkeys(it for crate in crates for it in Program(crate, crate).crates()))
@@ -36,7 +36,7 @@ def take(top, crates):
     return len(wanted)
 
 
-def main(words):
+def main(words: list[str]) -> int:
     unknown = [it for it in words[1:] if it not in uses()]
     if len(words) < 2 or unknown or not pathlib.Path(words[0]).is_dir():
         print(f"no such crate: {unknown[0]}" if unknown else __doc__.strip(), file=sys.stderr)

@@ -3,17 +3,17 @@
 _counts = {True: 0, False: 0}
 
 
-def report(what, is_well, why="", says_passed=True):
+def report(what: str, is_well: object, why: object = "", says_passed: bool = True) -> bool:
     """Counts a try and says how it went, one that passed only where that is asked for. Returns whether it passed."""
     _counts[bool(is_well)] += 1
     if not is_well:
         print(f"FAILED: {what}{f': {why}' if why else ''}", flush=True)
     elif says_passed:
         print(f"passed: {what}", flush=True)
-    return is_well
+    return bool(is_well)
 
 
-def summary():
+def summary() -> int:
     """Prints how many tries passed and failed, and returns the status for both."""
     print(f"{_counts[True]} passed, {_counts[False]} failed")
     return int(_counts[False] > 0)

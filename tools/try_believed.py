@@ -124,7 +124,7 @@ PLANTED = (
 )
 
 
-def laid_out(room):
+def laid_out(room: pathlib.Path) -> None:
     """Lays out the crates and the pages, with this repository's tools."""
     (room / "tools").mkdir()
     for name in TOOLS:
@@ -134,13 +134,13 @@ def laid_out(room):
         (room / name).write_text(text)
 
 
-def believed(room, *words):
+def believed(room: pathlib.Path, *words: str) -> tuple[int, str]:
     """Returns the status of the tool, and what it prints."""
     ran = subprocess.run([sys.executable, "-B", room / "tools" / "believed_files.py", *words], capture_output=True, text=True, check=False)
     return ran.returncode, ran.stdout + ran.stderr
 
 
-def main():
+def main() -> int:
     with tempfile.TemporaryDirectory(prefix="believed-") as folder:
         room = pathlib.Path(folder)
         laid_out(room)

@@ -15,6 +15,7 @@ import pathlib
 import subprocess
 import sys
 import tempfile
+from collections.abc import Sequence
 
 sys.dont_write_bytecode = True
 
@@ -26,7 +27,7 @@ WRAPPED = "-Wl,--wrap=malloc,--wrap=realloc,--wrap=free"
 PROGRAMS = (("calls", ()), ("memory", (WRAPPED,)))
 
 
-def try_program(name, link, room):
+def try_program(name: str, link: Sequence[str], room: str) -> bool:
     """Compiles a program in C with the library, and runs it."""
     made = pathlib.Path(room, name)
     source, library = ROOT / "bindings" / "c" / f"{name}.c", build_library.out() / build_library.ARCHIVE
@@ -38,7 +39,7 @@ def try_program(name, link, room):
     return report(f"bindings/c/{name}.c", True)
 
 
-def main(words):
+def main(words: list[str]) -> int:
     if words:
         sys.exit(__doc__)
     try:

@@ -38,7 +38,6 @@ each example that differs, and ends with status 1 if there is any.
 """
 
 import argparse
-import collections
 import os
 import pathlib
 import re
@@ -47,6 +46,8 @@ import shutil
 import subprocess
 import sys
 import tempfile
+from collections.abc import Iterable, Iterator
+from typing import NamedTuple
 
 ROOT = pathlib.Path(__file__).resolve().parent.parent
 DOCUMENTS = (
@@ -92,33 +93,49 @@ LINKED = ("crates", "bindings", "include", "tools")
 # What stands in the source of a manual page for a byte.
 ESCAPES = {r"\e": "\\", r"\-": "-", r"\&": "", r"\(aq": "'", r"\(dq": '"', r"\(ha": "^", r"\(ti": "~"}
 
-# A piece of a document: the kind that its first line names, the number of the line after that, its lines, its section.
-Piece = collections.namedtuple("Piece", "kind line lines section")
-Example = collections.namedtuple("Example", "line command due section")
+
+class Piece(NamedTuple):
+    """A piece of a document: the kind that its first line names, the number of the line after that, its lines, its section."""
+
+    kind: str
+    line: int
+    lines: list[str]
+    section: int
 
 
-def pieces_of(lines, opens, closes, heads):
+class Example(NamedTuple):
+    """An example: the number of its line, its command, what it is to print, its section."""
+
+    line: int
+    command: list[str]
+    due: list[str]
+    section: int
+
+
+def pieces_of(lines: list[str], opens: re.Pattern[str], closes: re.Pattern[str], heads: re.Pattern[str]) -> list[Piece]:
     """Returns the pieces between the lines that open and close one; a heading outside of them begins a section."""
-    found, kind, first, section = [], None, 0, 0
+    found: list[Piece] = []
+    kind: str | None = None
+    first, section = 0, 0
     for at, line in enumerate([*lines, None]):
         if kind is not None and (line is None or closes.match(line)):
             found.append(Piece(kind, first + 1, lines[first:at], section))
             kind = None
-        elif kind is None and line is not None and opens.match(line):
-            kind, first = opens.match(line)[1].strip(), at + 1
+        elif kind is None and line is not None and (opened := opens.match(line)):
+            kind, first = opened[1].strip(), at + 1
         elif kind is None and line is not None and heads.match(line):
             section += 1
     return found
 
 
-def written(file, lines):
+def written(file: re.Match[str], lines: list[str]) -> list[str]:
     """Returns the commands that write a file of a crate, and lay it out."""
     path, crate = file.groups()
     put = [f"mkdir -p {pathlib.Path(path).parent}", f"cat > {path} <<'END_OF_FILE'", *lines, "END_OF_FILE"]
     return [*put, f"cp {path} as_written && (cd crates/{crate} && rt fmt) && cmp as_written {path}"]
 
 
-def passed_over(pieces):
+def passed_over(pieces: Iterable[Piece]) -> Iterator[Piece]:
     """Yields the pieces without those that need a program which is not installed, each with the printed text after it."""
     is_passed = False
     for piece in pieces:
@@ -128,8 +145,9 @@ def passed_over(pieces):
             yield piece._replace(kind="sh") if needed else piece
 
 
-def pieces_in(name, lines):
+def pieces_in(name: str, lines: list[str]) -> tuple[list[tuple[Piece, bool]], list[str]]:
     """Returns the commands and the printed texts of a document, in order, and what is wrong with its other pieces."""
+    passed: tuple[str, ...] = ()
     if name.endswith(".md"):
         pieces = pieces_of(lines, re.compile(r"```(.*)"), re.compile(r"```$"), re.compile(r"#+ "))
         commands, printed, passed = "sh", "text", NOT_RUN
@@ -137,18 +155,18 @@ def pieces_in(name, lines):
         escaped = re.compile("|".join(map(re.escape, ESCAPES)))
         lines = [escaped.sub(lambda it: ESCAPES[it[0]], line) for line in lines]
         pieces = pieces_of(lines, re.compile(r"\.Bd(.*)"), re.compile(r"\.Ed$"), re.compile(r"\.S[hs] "))
-        commands, printed, passed = "-literal -offset indent", "-literal -offset indent-two", ()
-    pieces = [Piece(commands, it.line, written(FILE.fullmatch(it.kind), it.lines), it.section) if FILE.fullmatch(it.kind) else it for it in pieces]
+        commands, printed = "-literal -offset indent", "-literal -offset indent-two"
+    pieces = [it._replace(kind=commands, lines=written(file, it.lines)) if (file := FILE.fullmatch(it.kind)) else it for it in pieces]
     pieces = [*passed_over(pieces)]
     wrong = [f"{name}:{it.line}: a piece of a kind that is not known: {it.kind}" for it in pieces if it.kind not in (commands, printed, *passed)]
     wrong += [f"{name}:{it.line}: a prompt, which can't be copied" for it in pieces if it.kind == commands and any(row.startswith("$ ") for row in it.lines)]
     return [(it, it.kind == commands) for it in pieces if it.kind in (commands, printed)], wrong
 
 
-def examples_of(name, lines):
+def examples_of(name: str, lines: list[str]) -> tuple[list[Example], list[str]]:
     """Returns the examples of a document's fences or displays, and what is wrong with them."""
     pieces, wrong = pieces_in(name, lines)
-    found = []
+    found: list[Example] = []
     for piece, is_command in pieces:
         if is_command:
             found.append(Example(piece.line, piece.lines, [], piece.section))
@@ -159,15 +177,17 @@ def examples_of(name, lines):
     return found, wrong
 
 
-def cells_of(row):
+def cells_of(row: str) -> list[str]:
     """Returns the cells of a table's row, those that are one span of code without their backquotes."""
     cells = [it.strip().replace("\\|", "|") for it in re.split(r"(?<!\\)\|", row.strip())[1:-1]]
     return [it[1:-1] if re.fullmatch(r"`[^`]+`", it) else it for it in cells]
 
 
-def examples_of_tables(lines):
+def examples_of_tables(lines: list[str]) -> list[Example]:
     """Returns the examples of the tables that have a line and its answer in each row."""
-    found, head, section = [], None, 0
+    found: list[Example] = []
+    head: list[str] | None = None
+    section = 0
     for at, row in enumerate(lines, 1):
         section += bool(re.match(r"#+ ", row))
         if not row.startswith("|"):
@@ -183,17 +203,18 @@ def examples_of_tables(lines):
     return found
 
 
-def printed_by(command, folder):
+def printed_by(command: str, folder: str) -> bytes:
     """Returns what a command prints in a folder."""
     places = dict(os.environ, PATH=f"{folder}{os.pathsep}{os.environ['PATH']}")
-    how = {"stdin": subprocess.DEVNULL, "stdout": subprocess.PIPE, "stderr": subprocess.STDOUT, "timeout": SECONDS}
+    shell = ["sh", "-c", command]
     try:
-        return subprocess.run(["sh", "-c", command], cwd=folder, env=places, check=False, **how).stdout
+        ran = subprocess.run(shell, cwd=folder, env=places, stdin=subprocess.DEVNULL, stdout=subprocess.PIPE, stderr=subprocess.STDOUT, timeout=SECONDS, check=False)
+        return ran.stdout
     except subprocess.TimeoutExpired:
         return f"(it still ran after {SECONDS} s)\n".encode()
 
 
-def copy_crates(folder):
+def copy_crates(folder: pathlib.Path) -> None:
     """Copies the sources of the crates, and crates.txt, into a folder."""
     listed = subprocess.run(["git", "ls-files", "crates", "crates.txt"], cwd=ROOT, capture_output=True, text=True, check=True).stdout
     for name in listed.splitlines():
@@ -201,15 +222,15 @@ def copy_crates(folder):
         shutil.copyfile(ROOT / name, folder / name)
 
 
-def try_section(name, examples):
+def try_section(name: str, examples: list[Example]) -> list[str]:
     """Runs the examples of a section, and returns what is said of each that differs."""
     differ = []
     with tempfile.TemporaryDirectory(prefix="documents-") as folder:
         os.symlink(PROGRAM, pathlib.Path(folder, "instants"))
         os.symlink(LINES_PROGRAM, pathlib.Path(folder, "instants-lines"))
         has_files = any("<<'END_OF_FILE'" in line for it in examples for line in it.command)
-        for it in LINKED[has_files:]:
-            os.symlink(ROOT / it, pathlib.Path(folder, it))
+        for linked in LINKED[has_files:]:
+            os.symlink(ROOT / linked, pathlib.Path(folder, linked))
         if has_files:
             copy_crates(pathlib.Path(folder))
         for it in examples:
@@ -217,13 +238,13 @@ def try_section(name, examples):
             due = "".join(line + "\n" for line in it.due).encode()
             if printed != due:
                 told = [f"{name}:{it.line}: $ {it.command[0]}", "  the document says:"]
-                told += [f"    {line}" for line in due.splitlines(keepends=True)]
-                told += ["  the command prints:", *(f"    {line}" for line in printed.splitlines(keepends=True))]
+                told += [f"    {line!r}" for line in due.splitlines(keepends=True)]
+                told += ["  the command prints:", *(f"    {line!r}" for line in printed.splitlines(keepends=True))]
                 differ.append("\n".join(told))
     return differ
 
 
-def try_document(name):
+def try_document(name: str) -> tuple[int, list[str]]:
     """Returns how many examples a document has, and what is said of those that differ."""
     lines = (ROOT / name).read_text().split("\n")
     examples, wrong = examples_of(name, lines)
@@ -235,14 +256,14 @@ def try_document(name):
     return len(examples), wrong
 
 
-def fences_of_page(crate):
+def fences_of_page(crate: str) -> list[list[str]]:
     """Returns the lines of each fence on a crate's page, without their indentation."""
     rows = (ROOT / "crates" / crate / "src" / "lib.rt").read_text().split("\n")
     page = [row[3:].strip() for row in rows if row.startswith("//!")]
     return [it.lines for it in pieces_of(page, re.compile(r"```(.*)"), re.compile(r"```$"), re.compile(r"# "))]
 
 
-def try_page(crate):
+def try_page(crate: str) -> list[str]:
     """Returns what is wrong with a crate's page."""
     test = ROOT / "crates" / f"{crate}_tests" / "src" / "page.rt"
     rows = [row.strip() for row in test.read_text().split("\n")] if test.exists() else []
@@ -255,7 +276,7 @@ def try_page(crate):
     return []
 
 
-def main():
+def main() -> bool:
     words = argparse.ArgumentParser(description=__doc__, formatter_class=argparse.RawDescriptionHelpFormatter)
     words.add_argument("files", nargs="*", metavar="FILE", help="from the top of the repository")
     given = words.parse_args()

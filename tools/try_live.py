@@ -24,6 +24,7 @@ import select
 import subprocess
 import sys
 import time
+from collections.abc import Callable
 
 sys.dont_write_bytecode = True
 
@@ -41,36 +42,39 @@ FAR = 500
 # (each of the many lines that pass is not worth a line)
 report = functools.partial(tries.report, says_passed=False)
 
+
 class Live:
     """The program at work, its standard input and output in our hands."""
 
-    def __init__(self, program, words, behind):
+    def __init__(self, program: pathlib.Path, words: list[str], behind: Callable[[bytes], bytes]) -> None:
         self.behind = behind
         self.program = subprocess.Popen([program, *words], stdin=subprocess.PIPE, stdout=subprocess.PIPE, bufsize=0)
+        assert self.program.stdin and self.program.stdout
+        self.stdin, self.stdout = self.program.stdin, self.program.stdout
 
-    def write(self, text):
-        self.program.stdin.write(text)
+    def write(self, text: bytes) -> None:
+        self.stdin.write(text)
 
-    def read(self, count, patience=PATIENCE):
+    def read(self, count: int, patience: float = PATIENCE) -> bytes:
         """Returns as many bytes, or those that came in time or before the end."""
         until, taken = time.monotonic() + patience, b""
-        while len(taken) < count and select.select([self.program.stdout], [], [], max(until - time.monotonic(), 0))[0]:
-            piece = os.read(self.program.stdout.fileno(), count - len(taken))
+        while len(taken) < count and select.select([self.stdout], [], [], max(until - time.monotonic(), 0))[0]:
+            piece = os.read(self.stdout.fileno(), count - len(taken))
             if not piece:
                 break
             taken += piece
         return taken
 
-    def answers(self, what, lines, wanted):
+    def answers(self, what: str, lines: bytes, wanted: bytes) -> bool:
         """Writes lines, and says whether exactly these answers come."""
         self.write(lines)
         came = self.read(len(wanted))
         return report(what, came == wanted, f"{came!r} in place of {wanted!r}")
 
-    def end(self, what, last, wanted):
+    def end(self, what: str, last: bytes, wanted: bytes) -> None:
         """Writes a last line and the end, and says whether exactly this and the status 0 come."""
         self.write(last)
-        self.program.stdin.close()
+        self.stdin.close()
         came = self.read(len(wanted) + 1)
         report(what, came == wanted, f"{came!r} in place of {wanted!r}")
         try:
@@ -78,24 +82,24 @@ class Live:
         except subprocess.TimeoutExpired:
             report("the end", False)
 
-    def stop(self):
+    def stop(self) -> None:
         if self.program.poll() is None:
             self.program.kill()
         self.program.wait()
 
 
-def line_and_answer(live, at):
+def line_and_answer(live: Live, at: int) -> tuple[bytes, bytes]:
     moment = f"2021-01-02T{at // 60 % 24:02}:{at % 60:02}:05"
     line = f"{moment}Z".encode()
     return line + b"\n", f"{moment}.000000000Z".encode() + live.behind(line) + b"\n"
 
 
-def try_lines(live):
+def try_lines(live: Live) -> bool:
     """Tries one line after the other; after one that is not answered none is tried."""
     return all(live.answers(f"line {at + 1}", *line_and_answer(live, at)) for at in range(100))
 
 
-def try_pieces(live):
+def try_pieces(live: Live) -> bool:
     for at in range(PIECES):
         line, answer = line_and_answer(live, at)
         cut = 1 + at * (len(line) - 2) // (PIECES - 1)
@@ -106,7 +110,7 @@ def try_pieces(live):
     return True
 
 
-def try_several(live):
+def try_several(live: Live) -> None:
     both = [line_and_answer(live, at) for at in (7, 8)]
     live.answers("two lines at once", *(b"".join(it) for it in zip(*both)))
     for piece in (b"9" * 60, b"9" * 60):
@@ -116,7 +120,7 @@ def try_several(live):
     live.answers("a long line", b"9\n", key + live.behind(b"9" * 121) + b"\n" if live.behind(b"") else b"! long\n")
 
 
-def try_handed_on(live):
+def try_handed_on(live: Live) -> None:
     """Tries a line that goes on far after the limit: each piece is handed on."""
     front, _ = line_and_answer(live, 11)
     piece = front[:-1] + b" " * FAR
@@ -125,7 +129,7 @@ def try_handed_on(live):
     live.answers("its end", b"\n", b"\n")
 
 
-def main(words):
+def main(words: list[str]) -> int:
     is_lines = words[:1] == ["--lines"]
     crate, said, behind = PROGRAMS[is_lines]
     named = words[int(is_lines) :]

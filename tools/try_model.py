@@ -24,6 +24,7 @@ import shlex
 import subprocess
 import sys
 import time
+from collections.abc import Sequence
 
 sys.dont_write_bytecode = True
 
@@ -35,7 +36,7 @@ ROOT = pathlib.Path(__file__).resolve().parent.parent
 BUILT = ROOT / "crates" / "instants_lines_program" / "out" / "instants_lines_program"
 ROWS, DATED = ROOT / "crates" / "rows" / "stdout", "\n## Dated lines\n"
 # What is said beside the sentence of a run: of a trial, and of a description that is literal text alone.
-NOTES = (b"instants-lines: the program is not built", b"instants-lines: what follows is of a trial")
+NOTES = (b"instants-lines: the program is not built", b"instants-lines: the program that is built is older", b"instants-lines: what follows is of a trial")
 WARNING = re.compile(rb"instants-lines: warning: .*? names no component, as [^\n]*\n", re.DOTALL)
 PROCESSES = 2
 # A list of wrong words costs a run of its own, which takes as long as so many lines.
@@ -44,28 +45,32 @@ LINES_OF_A_LIST, WRONG = 10, 2
 SIGN_OF_LIFE = 50_000
 
 
+# The output, the sentence and the status of a run.
+Answer = tuple[bytes, bytes, int]
+
+
 class Difference(Exception):
     """The program and the model differ; the text says where."""
 
 
-def said_by_program(program, words, stream):
+def said_by_program(program: str, words: Sequence[str], stream: bytes) -> Answer:
     """Returns the output, the sentence and the status of the program."""
     ran = subprocess.run([program, *words], input=stream, capture_output=True)
     said = WARNING.sub(b"", ran.stderr).splitlines(keepends=True)
-    if NOTES[0] in ran.stderr:
+    if NOTES[-1] in ran.stderr:
         # (a trial ends an output that has no line feed at its end by one among what is said)
         said = [it for it in said if it != b"\n"]
     said = [it for it in said if not it.startswith(NOTES)]
     return ran.stdout, b"".join(said), ran.returncode
 
 
-def lines_alike(one, other):
+def lines_alike(one: Sequence[bytes], other: Sequence[bytes]) -> int:
     """Returns how many lines at the start of two outputs are the same."""
     pairs = enumerate(zip(one, other))
     return next((at for at, (left, right) in pairs if left != right), min(len(one), len(other)))
 
 
-def first_difference(words, stream, program, model):
+def first_difference(words: Sequence[str], stream: bytes, program: Answer, model: Answer) -> str:
     """Returns what is printed of two answers that differ."""
     text = [f"words: {shlex.join(words)}"]
     if program[1:] != model[1:]:
@@ -81,7 +86,7 @@ def first_difference(words, stream, program, model):
     return "\n".join(text)
 
 
-def compare(program, words, stream):
+def compare(program: str, words: Sequence[str], stream: bytes) -> Answer:
     """Compares one run, and returns the model's answer, or raises Difference."""
     expected = answer([it.encode() for it in words], stream)
     given = said_by_program(program, words, stream if expected[2] == 0 else b"")
@@ -90,7 +95,7 @@ def compare(program, words, stream):
     return expected
 
 
-def compare_block(program, seed, count):
+def compare_block(program: str, seed: int, count: int) -> tuple[str, int, int]:
     """Compares one run with lines, or now and then runs whose words are wrong. Returns the mode, and how many lines and lists of wrong
     words were compared."""
     rng = random.Random(seed)
@@ -106,14 +111,14 @@ def compare_block(program, seed, count):
 # ---- the stored rows
 
 
-def words_in(text):
+def words_in(text: str) -> list[bytes]:
     """Returns words that are parted by blanks; one with a blank in it is in single quotes."""
     words = shlex.shlex(text, posix=True)
     words.whitespace_split, words.escape, words.quotes, words.commenters = True, "", "'", ""
     return [it.encode() for it in words]
 
 
-def bytes_in(text):
+def bytes_in(text: str) -> bytes:
     """Returns the bytes of a stream or an answer: a line feed ends it, unless `\\c` does."""
     is_cut = text.endswith("\\c")
     marks = {"n": b"\n", "r": b"\r", "t": b"\t", "\\": b"\\"}
@@ -122,7 +127,7 @@ def bytes_in(text):
     return read if is_cut else read + b"\n"
 
 
-def compare_rows():
+def compare_rows() -> int:
     """Compares the model with the stored rows, prints those that differ, and returns how many."""
     rows = [it for it in ROWS.read_text().partition(DATED)[2].splitlines() if it and it[0] != "#"]
     differing = 0
@@ -141,7 +146,7 @@ def compare_rows():
 # ---- runs on several processes
 
 
-def compared(task):
+def compared(task: tuple[str, int, int]) -> tuple[str, int, int] | str:
     """Returns what `compare_block` says, or the text of a difference."""
     try:
         return compare_block(*task)
@@ -149,7 +154,7 @@ def compared(task):
         return f"seed {task[1]}\n{difference}"
 
 
-def main():
+def main() -> int:
     parser = argparse.ArgumentParser(description=__doc__, formatter_class=argparse.RawDescriptionHelpFormatter)
     parser.add_argument("--lines", type=int, default=500_000)
     parser.add_argument("--seed", type=int, default=1)
@@ -167,7 +172,8 @@ def main():
         return 1 if isinstance(said, str) else 0
     runs = (asked.lines + asked.block - 1) // asked.block
     tasks = ((asked.program, asked.seed * 1_000_000 + it, asked.block) for it in range(runs * 2))
-    lines, wrong, by_mode, began = 0, 0, {}, time.monotonic()
+    by_mode: dict[str, int] = {}
+    lines, wrong, began = 0, 0, time.monotonic()
     with multiprocessing.Pool(asked.processes) as pool:
         for said in pool.imap(compared, tasks):
             if isinstance(said, str):

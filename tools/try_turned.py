@@ -58,12 +58,12 @@ pub fn again(number: u8) -> u8
 """
 
 
-def written(*changes):
+def written(*changes: tuple[str, str, str]) -> str:
     """Returns the text of a file of mutations."""
     return "file: src/lib.rt\n" + "".join(f"-- {why}\nold: {old}\nnew: {new}\n" for why, old, new in changes)
 
 
-def laid_out(room):
+def laid_out(room: pathlib.Path) -> pathlib.Path:
     """Lays out a repository of the one crate, with this repository's tools."""
     (room / "tools").mkdir()
     for name in TOOLS:
@@ -76,13 +76,13 @@ def laid_out(room):
     return room / "crates" / "small"
 
 
-def turned(room, *words):
+def turned(room: pathlib.Path, *words: str) -> tuple[int, str]:
     """Returns the status of the tool, and what it prints."""
     ran = subprocess.run([sys.executable, room / "tools" / "turned.py", *words, "small"], capture_output=True, text=True, check=False)
     return ran.returncode, ran.stdout + ran.stderr
 
 
-def try_samples(room):
+def try_samples(room: pathlib.Path) -> None:
     """Tries a sample of the small crate, in which one mutation of three is let through, and what a seed draws of this repository."""
     status, said = turned(room, "--sample", "3", "--seed", "1")
     told = re.findall(r"^small/(?:must-fail|mutations)/(\w+)\.edit, pair 1: \w+ is (refused|spared)$", said, re.M)
@@ -94,7 +94,7 @@ def try_samples(room):
     report("a seed draws the same pairs, and another one others", one == again != other and sum(map(len, one.values())) == 40, f"{one}")
 
 
-def main():
+def main() -> int:
     with tempfile.TemporaryDirectory(prefix="small-") as folder:
         room = pathlib.Path(folder)
         crate = laid_out(room)

@@ -18,6 +18,7 @@ import os
 import pathlib
 import subprocess
 import sys
+from typing import Any
 
 sys.dont_write_bytecode = True
 
@@ -42,18 +43,19 @@ ROWS = (
     ("key v3 [year", "source 1: unclosed opening bracket at byte index 0"),
 )
 
-def call(program, words, **how):
+
+def call(program: str | pathlib.Path, words: list[str], **how: Any) -> subprocess.CompletedProcess[str]:
     how = {"stdout": subprocess.PIPE, **how} if "input" in how else {"stdin": subprocess.DEVNULL, "stdout": subprocess.PIPE, **how}
     return subprocess.run([program, *words], stderr=subprocess.PIPE, text=True, check=False, **how)
 
 
-def try_words(program):
+def try_words(program: str | pathlib.Path) -> None:
     for words, sentence in ROWS:
         ran = call(program, words.split())
         report(f"refused: {words}", (ran.returncode, ran.stdout, ran.stderr) == (2, "", f"instants-lines: {sentence}\n"), ran.stderr)
 
 
-def try_devices(program):
+def try_devices(program: str | pathlib.Path) -> None:
     folder = os.open("/", os.O_RDONLY)
     ran = call(program, ["key", "rfc3339"], stdin=folder)
     os.close(folder)
@@ -72,13 +74,13 @@ def try_devices(program):
     report("a description without components", (ran.returncode, ran.stdout, ran.stderr) == (2, "", said), ran.stderr)
 
 
-def try_texts(program):
+def try_texts(program: str | pathlib.Path) -> None:
     for word in ("--help", "-h", "--version"):
         ran, wrapped = call(program, [word]), call(ROOT / "instants-lines", [word])
         report(word, ran.returncode == 0 and ran.stdout.startswith("instants-lines ") and ran.stdout == wrapped.stdout, ran.stderr)
 
 
-def main(program=PROGRAM):
+def main(program: str | pathlib.Path = PROGRAM) -> int:
     if not os.access(program, os.X_OK):
         sys.exit(f"{program} is not built")
     try_words(program)

@@ -32,13 +32,17 @@ import subprocess
 import sys
 import tempfile
 import time
+from collections.abc import Iterable
+from typing import Any
 
 sys.dont_write_bytecode = True
 
 from program import PARTS, ROOT, crates_for, uses
-from rattle_files import changes_of, edited, functions_of, turned_by
+from rattle_files import Change, Function, Texts, changes_of, edited, functions_of, turned_by
 
 TIERS = ("must-fail", "mutations")
+# Which pairs of each file are drawn.
+Drawn = dict[pathlib.Path, list[int]]
 
 # What the prover says: of a function or an impl by its path, and where in a file.
 VERDICT = re.compile(r"(fn|impl) (\w+)::(\S+): (.*)")
@@ -56,13 +60,13 @@ class Refusal:
     REFUSED = "refused"
 
 
-def matches(function, path):
+def matches(function: Function, path: str) -> bool:
     """Returns whether the prover's path, without the crate's name, is the function's."""
     path, own = path.lower(), function.path.lower()
     return path == own or path.endswith("::" + own) and not function.trait
 
 
-def answers_in(said, functions):
+def answers_in(said: str, functions: list[Function]) -> dict[Function, str]:
     """Returns how the prover answers for each function that it names: the worst that it says of it."""
     answers, notes, proofs = {}, [], collections.defaultdict(list)
     for line in said.split("\n"):
@@ -87,7 +91,7 @@ def answers_in(said, functions):
     return answers
 
 
-def answer_to(told, has_note, in_proofs):
+def answer_to(told: str, has_note: bool, in_proofs: list[bool]) -> str:
     """Returns the answer that a verdict says; in_proofs has each error of the function's proof files, true where it is no lost name."""
     if not told.startswith(("not proved", "no proof")) or "it waits for" in told:
         return Refusal.SPARED
@@ -101,7 +105,7 @@ def answer_to(told, has_note, in_proofs):
 class Copy:
     """A copy of a crate and those below it, in which the crate's mutations are tried over what has been built."""
 
-    def __init__(self, room, name):
+    def __init__(self, room: pathlib.Path, name: str) -> None:
         self.crate = room / "crates" / name
         names = crates_for(name)
         shutil.copy(ROOT / "HANDLES", room / "HANDLES")
@@ -115,11 +119,11 @@ class Copy:
                     shutil.copytree(source / part, target / part)
             if (source / "out" / "rlib").is_dir():
                 shutil.copytree(source / "out" / "rlib", target / "out" / "rlib", copy_function=os.link)
-        kept = ROOT / "crates" / name / "out" / "incremental"
-        if kept.is_dir():
-            shutil.copytree(kept, self.crate / "out" / "incremental")
+        built = ROOT / "crates" / name / "out" / "incremental"
+        if built.is_dir():
+            shutil.copytree(built, self.crate / "out" / "incremental")
 
-    def check(self, texts):
+    def check(self, texts: Texts) -> str:
         """Returns what the prover says of the crate with these texts, which it takes back."""
         for file, (_, now) in texts.items():
             (self.crate / file).write_text(now)
@@ -129,7 +133,7 @@ class Copy:
         return ran.stdout + ran.stderr
 
 
-def tell(name, is_checked):
+def tell(name: str, is_checked: bool) -> tuple[int, list[str]]:
     """Returns how much is missed in a crate, and the lines that say so."""
     lines, missed, began = [], 0, time.monotonic()
     crate = ROOT / "crates" / name
@@ -169,13 +173,13 @@ def tell(name, is_checked):
     return missed + len(left), lines
 
 
-def pairs_of(crates):
+def pairs_of(crates: Iterable[str]) -> list[tuple[pathlib.Path, int]]:
     """Returns all pairs of the crates' mutations: each with its file, in the order of their paths."""
     files = sorted(it for name in crates for tier in TIERS for it in (ROOT / "crates" / name / tier).glob("*.edit"))
     return [(file, at) for file in files for at in range(len(changes_of(file)))]
 
 
-def drawn(crates, count, seed):
+def drawn(crates: Iterable[str], count: int, seed: int) -> Drawn:
     """Returns so many pairs of the crates' mutations, drawn by a seed: for each file which of its pairs, in order."""
     found = collections.defaultdict(list)
     for file, at in sorted(random.Random(seed).sample(pairs_of(crates), count)):
@@ -183,14 +187,14 @@ def drawn(crates, count, seed):
     return found
 
 
-def turned_by_pair(crate, changes, at, functions):
+def turned_by_pair(crate: pathlib.Path, changes: list[Change], at: int, functions: list[Function]) -> list[Function]:
     """Returns the functions that one pair turns, after those that stand before it in its file."""
     file, old, new = changes[at]
     before = edited(crate, changes[:at]).get(file, ("", (crate / file).read_text()))[1]
     return turned_by({file: (before, before.replace(old, new))}, functions)
 
 
-def try_pairs(name, files):
+def try_pairs(name: str, files: Drawn) -> tuple[int, list[str]]:
     """Tries the drawn pairs of a crate. Returns how many are not refused, and a line for each."""
     lines, missed = [], 0
     crate = ROOT / "crates" / name
@@ -212,9 +216,10 @@ def try_pairs(name, files):
     return missed, lines
 
 
-def try_sample(crates, count, seed, jobs):
+def try_sample(crates: Iterable[str], count: int, seed: int, jobs: int) -> int:
     """Tries a sample of the pairs of some crates, and returns the status."""
-    began, missed, of = time.monotonic(), 0, collections.defaultdict(dict)
+    began, missed = time.monotonic(), 0
+    of: dict[str, Drawn] = collections.defaultdict(dict)
     for file, places in drawn(crates, count, seed).items():
         of[file.parent.parent.name][file] = places
     with concurrent.futures.ThreadPoolExecutor(jobs) as pool:
@@ -225,17 +230,17 @@ def try_sample(crates, count, seed, jobs):
     return int(bool(missed))
 
 
-def changed_since(revision):
+def changed_since(revision: str) -> list[str]:
     """Returns the crates with a file that differs from a revision, those that git does not track among them."""
-    how = {"cwd": ROOT, "capture_output": True, "text": True, "check": True}
-    base = subprocess.run(["git", "merge-base", revision, "HEAD"], **how).stdout.strip()
-    found = subprocess.run(["git", "diff", "--name-only", base], **how).stdout
+    how: dict[str, Any] = {"cwd": ROOT, "capture_output": True, "text": True, "check": True}
+    base = str(subprocess.run(["git", "merge-base", revision, "HEAD"], **how).stdout).strip()
+    found = str(subprocess.run(["git", "diff", "--name-only", base], **how).stdout)
     found += subprocess.run(["git", "ls-files", "--others", "--exclude-standard"], **how).stdout
     names = {it.split("/")[1] for it in found.split("\n") if re.match(r"crates/\w+/", it)}
     return sorted(it for it in names if (ROOT / "crates" / it / "src").is_dir())
 
 
-def main():
+def main() -> int:
     words = argparse.ArgumentParser(description=__doc__, formatter_class=argparse.RawDescriptionHelpFormatter)
     words.add_argument("--check", action="store_true")
     words.add_argument("--changed", metavar="REV", nargs="?", const="@{upstream}")

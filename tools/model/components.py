@@ -1,5 +1,7 @@
 """What each component of a description reads at a place of a text, and what it sets in a record."""
 
+from collections.abc import Callable, Iterator, Sequence
+from dataclasses import dataclass
 from typing import NamedTuple
 
 from .calendar import FIRST_WALL, GREATEST_YEAR, LAST_WALL
@@ -11,7 +13,8 @@ UNITS = {"second": (10**9, 14), "millisecond": (10**6, 17), "microsecond": (10**
 DIGITS = range(48, 58)
 
 
-class Component(NamedTuple):
+@dataclass(frozen=True)
+class Component:
     """A component by its kind, with the modifiers that matter to it."""
 
     kind: str
@@ -27,22 +30,29 @@ class Component(NamedTuple):
     discards: bool = False  # the end, with all that is left
 
 
+# The values of components by name, and what a component says: those that it sets, and the place after it.
+Record = dict[str, int]
+Said = tuple[Record, int] | None
+Shape = Callable[[int], tuple[int, int] | None]
+ReaderOf = Callable[[Component, bytes, int], Said]
+
+
 # ---- the shapes: each gives what the longest prefix that has the shape says, and the place after it, or None
 
 
-def digit_count(text, at, most):
+def digit_count(text: bytes, at: int, most: int) -> int:
     count = 0
     while count < most and at + count < len(text) and text[at + count] in DIGITS:
         count += 1
     return count
 
 
-def digits(text, at, least, most):
+def digits(text: bytes, at: int, least: int, most: int) -> tuple[int, int] | None:
     count = digit_count(text, at, most)
     return (int(text[at : at + count]), at + count) if count >= least else None
 
 
-def spaced(text, at, least, most):
+def spaced(text: bytes, at: int, least: int, most: int) -> tuple[int, int] | None:
     """Fewer spaces than the least width, and then digits, which fill at least that width."""
     spaces = 0
     while at + spaces < len(text) and text[at + spaces] == 32:
@@ -50,13 +60,13 @@ def spaced(text, at, least, most):
     return digits(text, at + spaces, least - spaces, most - spaces) if spaces < least else None
 
 
-def padded(padding, text, at, least, most):
+def padded(padding: str, text: bytes, at: int, least: int, most: int) -> tuple[int, int] | None:
     if padding == "zero":
         return digits(text, at, least, most)
     return spaced(text, at, least, most) if padding == "space" else digits(text, at, 1, most)
 
 
-def signed(text, at, is_due, after_sign, bare):
+def signed(text: bytes, at: int, is_due: bool, after_sign: Shape, bare: Shape) -> tuple[bool, int, int] | None:
     """One shape after a sign, and another where there is none; with whether the sign is a minus."""
     if text[at : at + 1] in (b"+", b"-"):
         found = after_sign(at + 1)
@@ -65,7 +75,7 @@ def signed(text, at, is_due, after_sign, bare):
     return found and (False, *found)
 
 
-def named(text, at, is_cased, names):
+def named(text: bytes, at: int, is_cased: bool, names: Sequence[bytes]) -> tuple[int, int] | None:
     """One of these names; none of them begins another."""
     for place, name in enumerate(names):
         front = text[at : at + len(name)]
@@ -74,7 +84,7 @@ def named(text, at, is_cased, names):
     return None
 
 
-def fraction(text, at, least, most):
+def fraction(text: bytes, at: int, least: int, most: int) -> tuple[int, int] | None:
     count = digit_count(text, at, most)
     if count < least:
         return None
@@ -84,12 +94,12 @@ def fraction(text, at, least, most):
 # ---- the components: each gives what it sets, and the place after it, or None
 
 
-def number(component, text, at, width, low, high, field):
+def number(component: Component, text: bytes, at: int, width: int, low: int, high: int, field: str) -> Said:
     found = padded(component.padding, text, at, width, width)
     return ({field: found[0]}, found[1]) if found and low <= found[0] <= high else None
 
 
-def year(component, text, at, field):
+def year(component: Component, text: bytes, at: int, field: str) -> Said:
     p, most = component.padding, 6 if component.is_extended else 4
     found = signed(text, at, component.is_signed, lambda it: padded(p, text, it, 4, most), lambda it: padded(p, text, it, 4, 4))
     if not found or found[1] > GREATEST_YEAR:
@@ -97,7 +107,7 @@ def year(component, text, at, field):
     return {field: -found[1] if found[0] else found[1]}, found[2]
 
 
-def century(component, text, at, field):
+def century(component: Component, text: bytes, at: int, field: str) -> Said:
     p, most = component.padding, 4 if component.is_extended else 2
     found = signed(text, at, component.is_signed, lambda it: padded(p, text, it, 2, most), lambda it: padded(p, text, it, 1, 2))
     if not found:
@@ -105,7 +115,7 @@ def century(component, text, at, field):
     return {field: -found[1] if found[0] else found[1], f"{field}_is_negative": found[0]}, found[2]
 
 
-def offset_hour(component, text, at):
+def offset_hour(component: Component, text: bytes, at: int) -> Said:
     bare = lambda it: padded(component.padding, text, it, 2, 2)
     found = signed(text, at, component.is_signed, bare, bare)
     if not found or found[1] > 25:
@@ -113,7 +123,7 @@ def offset_hour(component, text, at):
     return {"offset_hour": -found[1] if found[0] else found[1], "offset_is_negative": found[0]}, found[2]
 
 
-def unix(component, text, at):
+def unix(component: Component, text: bytes, at: int) -> Said:
     nanoseconds, most = UNITS[component.unit]
     bare = lambda it: digits(text, it, 1, most)
     found = signed(text, at, component.is_signed, bare, bare)
@@ -123,43 +133,45 @@ def unix(component, text, at):
     return ({"unix": since}, found[2]) if FIRST_WALL <= since <= LAST_WALL else None
 
 
-def name(component, text, at, names, field, first):
+def name(component: Component, text: bytes, at: int, names: Sequence[bytes], field: str, first: int) -> Said:
     found = named(text, at, component.is_cased, names)
     return found and ({field: found[0] + first}, found[1])
 
 
-def weekday_digit(component, text, at, first_day):
+def weekday_digit(component: Component, text: bytes, at: int, first_day: int) -> Said:
     """A digit that counts from Monday, which is day 0 after Monday, or from Sunday, which is day 6."""
     found = digits(text, at, 1, 1)
-    place = found and found[0] - component.from_one
-    return ({"weekday": (place + first_day) % 7}, found[1]) if found and 0 <= place <= 6 else None
+    if not found:
+        return None
+    place = found[0] - component.from_one
+    return ({"weekday": (place + first_day) % 7}, found[1]) if 0 <= place <= 6 else None
 
 
-def period(component, text, at):
+def period(component: Component, text: bytes, at: int) -> Said:
     """The case counts only where it counts and is upper."""
     found = named(text, at, component.is_upper and component.is_cased, (b"AM", b"PM"))
-    return found and ({"is_pm": found[0] == 1}, found[1])
+    return found and ({"is_pm": found[0]}, found[1])
 
 
-def subsecond(component, text, at):
+def subsecond(component: Component, text: bytes, at: int) -> Said:
     found = fraction(text, at, component.digits or 1, component.digits or 32)
     return found and ({"subsecond": found[0]}, found[1])
 
 
-def ignored(component, text, at):
+def ignored(component: Component, text: bytes, at: int) -> Said:
     return ({}, at + component.count) if at + component.count <= len(text) else None
 
 
-def of_number(width, low, high, field):
+def of_number(width: int, low: int, high: int, field: str) -> ReaderOf:
     return lambda component, text, at: number(component, text, at, width, low, high, field)
 
 
-def of_name(names, field, first):
+def of_name(names: Sequence[bytes], field: str, first: int) -> ReaderOf:
     return lambda component, text, at: name(component, text, at, names, field, first)
 
 
 # Each kind: the name in a fault, and its reader.
-KINDS = {
+KINDS: dict[str, tuple[str, ReaderOf]] = {
     "year": ("year", lambda c, text, at: year(c, text, at, "year")),
     "century": ("year", lambda c, text, at: century(c, text, at, "century")),
     "last_two": ("year", of_number(2, 0, 99, "last_two")),
@@ -192,7 +204,7 @@ KINDS = {
 }
 
 
-def read_component(component, text, at, is_three):
+def read_component(component: Component, text: bytes, at: int, is_three: bool) -> tuple[Record, int]:
     """Returns what a component sets and the place after it; in version 3 no character goes on after bytes that are ignored."""
     if component.kind == "end":
         if component.discards or at == len(text):
@@ -217,25 +229,32 @@ class Part(NamedTuple):
     component: Component
 
 
-class Compound(NamedTuple):
-    items: tuple
+@dataclass(frozen=True)
+class Compound:
+    items: tuple["Item", ...]
 
 
-class Maybe(NamedTuple):
-    item: tuple
+@dataclass(frozen=True)
+class Maybe:
+    item: "Item"
 
 
-class First(NamedTuple):
-    items: tuple
+@dataclass(frozen=True)
+class First:
+    items: tuple["Item", ...]
 
 
-def read_all(items, record, text, at, is_three):
+Item = Literal | Part | Compound | Maybe | First
+Items = tuple[Item, ...]
+
+
+def read_all(items: Items, record: Record, text: bytes, at: int, is_three: bool) -> tuple[Record, int]:
     for item in items:
         record, at = read_item(item, record, text, at, is_three)
     return record, at
 
 
-def read_first(items, record, text, at, is_three):
+def read_first(items: Items, record: Record, text: bytes, at: int, is_three: bool) -> tuple[Record, int]:
     """Returns what the first item that reads reads, or raises the fault of the first."""
     fault = None
     for item in items:
@@ -248,7 +267,7 @@ def read_first(items, record, text, at, is_three):
     return record, at
 
 
-def read_item(item, record, text, at, is_three):
+def read_item(item: Item, record: Record, text: bytes, at: int, is_three: bool) -> tuple[Record, int]:
     """Returns the record with what an item says, and the place after it."""
     if isinstance(item, Literal):
         if text[at : at + len(item.text)] != item.text:
@@ -267,7 +286,7 @@ def read_item(item, record, text, at, is_three):
         return record, at
 
 
-def components_of(item):
+def components_of(item: Item) -> Iterator[Component]:
     """Yields the components of an item, nested ones too."""
     if isinstance(item, Part):
         yield item.component

@@ -4,17 +4,17 @@
 class Refused(Exception):
     """A text names no moment. `why` is what an answer says after `! `."""
 
-    def __init__(self, why):
+    def __init__(self, why: str) -> None:
         super().__init__(why)
         self.why = why
 
     @classmethod
-    def component(cls, name):
+    def component(cls, name: str) -> "Refused":
         """The component of this name can't be read."""
         return cls(f"component {name}")
 
     @classmethod
-    def range(cls, name):
+    def range(cls, name: str) -> "Refused":
         """All was read, and the value of this name is out of range."""
         return cls(f"range {name}")
 
@@ -22,7 +22,7 @@ class Refused(Exception):
 class Faulty(Exception):
     """A description is none. `sentence` says, in bytes, what is wrong and where."""
 
-    def __init__(self, sentence, index):
+    def __init__(self, sentence: bytes, index: int) -> None:
         super().__init__(sentence)
         self.sentence = sentence + b" at byte index %d" % index
 
@@ -30,6 +30,6 @@ class Faulty(Exception):
 class WrongWords(Exception):
     """The words of a run are wrong. `sentence` is what the program says, in bytes."""
 
-    def __init__(self, sentence):
+    def __init__(self, sentence: bytes) -> None:
         super().__init__(sentence)
         self.sentence = b"instants-lines: " + sentence

@@ -4,7 +4,8 @@ from . import calendar
 from .edges import WINDOW
 from .faults import Refused, WrongWords
 from .found import Date, Doubtful, Given, found
-from .words import asked_by
+from .sources import Source
+from .words import Asked, asked_by
 
 NONE, DOUBT, LONG = b"! none", b"! doubt", b"! long"
 
@@ -12,14 +13,14 @@ NONE, DOUBT, LONG = b"! none", b"! doubt", b"! long"
 class Run:
     """What a run goes by from line to line: what words ask, what is given for dates, and the key of a line without a date."""
 
-    def __init__(self, asked):
+    def __init__(self, asked: Asked) -> None:
         self.asked = asked
         self.given = Given(asked.assumed, asked.year, None, asked.minutes)
         self.key = NONE
 
     # ---- dates
 
-    def dated(self, line):
+    def dated(self, line: bytes) -> bytes:
         """Returns the text for a line in a mode that finds dates, and goes on below it."""
         date = found(self.asked.limit, self.given, self.asked.sources, line)
         text = MODES[self.asked.mode](self, line, date)
@@ -29,29 +30,31 @@ class Run:
             self.given = self.given.below(date.moment)
         return text
 
-    def key_of(self, date):
+    def key_of(self, date: Date | Doubtful | None) -> bytes:
         if date is None:
             return self.key
         return DOUBT if isinstance(date, Doubtful) else calendar.place_text(self.asked.target, date.moment)
 
-    def keyed(self, line, date):
+    def keyed(self, line: bytes, date: Date | Doubtful | None) -> bytes:
         label = b"" if self.asked.label is None else self.asked.label + b"\t"
         return self.key_of(date) + b"\t" + label + line
 
-    def replaced(self, line, date):
+    def replaced(self, line: bytes, date: Date | Doubtful | None) -> bytes:
         """A line without a date stays, and one whose date is in doubt or whose year is not written."""
-        shown = isinstance(date, Date) and calendar.shown_at(self.asked.target, date.moment)
+        if not isinstance(date, Date):
+            return line
+        shown = calendar.shown_at(self.asked.target, date.moment)
         return line[: date.start] + calendar.moment_text(shown) + line[date.end :] if shown else line
 
-    def located(self, line, date):
+    def located(self, line: bytes, date: Date | Doubtful | None) -> bytes:
         """The key of the date, the source's number and where the date is; of a date in doubt the same of each source, and why."""
         if isinstance(date, Doubtful):
-            return b"\t".join((DOUBT, *(place_of(it.date) + b"\t" + it.doubt.encode() for it in date.read)))
+            return b"\t".join((DOUBT, *(place_of(it.date) + b"\t" + (it.doubt or "").encode() for it in date.read)))
         return NONE if date is None else self.key_of(date) + b"\t" + place_of(date)
 
     # ---- explained lines
 
-    def said_by(self, number, source, line):
+    def said_by(self, number: int, source: Source, line: bytes) -> tuple[bool, bytes]:
         """Returns whether a source names a moment for a whole line, and what it says."""
         try:
             text, is_named = calendar.place_text(self.asked.target, source.moment_of_line(self.asked.assumed, line)), True
@@ -59,14 +62,14 @@ class Run:
             text, is_named = b"! " + refused.why.encode(), False
         return is_named, b"%d\t%s" % (number, text)
 
-    def explained(self, line):
+    def explained(self, line: bytes) -> bytes:
         """The answer of the first source that names a moment, and where none does what all say."""
         said = [self.said_by(number, source, line) for number, source in enumerate(self.asked.sources, 1)]
         return next((text for is_named, text in said if is_named), b"\t".join(text for _, text in said))
 
     # ---- whole lines
 
-    def written(self, line, end):
+    def written(self, line: bytes, end: bytes) -> bytes:
         """Returns what is written for a line, with what ends it. Of a line longer than is looked at its first bytes decide."""
         if self.asked.mode == "explain":
             return (LONG if len(line) > self.asked.limit else self.explained(line)) + (end or b"\n")
@@ -76,7 +79,7 @@ class Run:
         return self.dated(line[:near]) + rest + (end or last_end)
 
 
-def place_of(date):
+def place_of(date: Date) -> bytes:
     """Returns the number of a date's source, counted from 1, and the date's first and last byte, counted from 1 too."""
     return b"%d\t%d-%d" % (date.source + 1, date.start + 1, date.end)
 
@@ -84,7 +87,7 @@ def place_of(date):
 MODES = {"key": Run.keyed, "carry": Run.keyed, "replace": Run.replaced, "locate": Run.located}
 
 
-def output(asked, stream):
+def output(asked: Asked, stream: bytes) -> bytes:
     """Returns what is written for a whole stream; a last part that no line feed ends is a line if it is not empty."""
     run, lines = Run(asked), stream.split(b"\n")
     written = [run.written(it, b"\n") for it in lines[:-1]]
@@ -93,7 +96,7 @@ def output(asked, stream):
     return b"".join(written)
 
 
-def answer(words, stream):
+def answer(words: list[bytes], stream: bytes) -> tuple[bytes, bytes, int]:
     """Returns the output, what is said on standard error, and the status."""
     try:
         return output(asked_by(words), stream), b"", 0

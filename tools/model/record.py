@@ -9,24 +9,25 @@ not read.
 
 from . import calendar
 from .calendar import DAY, SECOND, Moment
+from .components import Record
 from .faults import Refused
 
 YEAR_PARTS = ("year", "century", "last_two", "iso_year", "iso_century", "iso_last_two")
 TIME_PARTS = ("hour_24", "hour_12", "is_pm", "minute", "second", "subsecond")
 
 
-def cut(number, unit):
+def cut(number: int, unit: int) -> tuple[int, int]:
     """Returns a quotient rounded to 0, and the remainder with the number's sign."""
     quotient = abs(number) // unit * (1 if number >= 0 else -1)
     return quotient, number - quotient * unit
 
 
-def hour_and_minute(offset):
+def hour_and_minute(offset: int) -> tuple[int, int]:
     """Returns the hour and the minute of an offset, both under its sign."""
     return cut(offset, 3600)[0], cut(cut(offset, 60)[0], 60)[1]
 
 
-def with_offset(record, offset):
+def with_offset(record: Record, offset: int) -> Record:
     hour, minute = hour_and_minute(offset)
     return {**record, "offset_hour": hour, "offset_minute": minute}
 
@@ -34,7 +35,7 @@ def with_offset(record, offset):
 # ---- the values that a record names
 
 
-def whole_year(record, prefix=""):
+def whole_year(record: Record, prefix: str = "") -> int | None:
     """Returns the year, or the one of a century and its last two digits, which lead backwards in a negative century."""
     if prefix + "year" in record:
         return record[prefix + "year"]
@@ -44,7 +45,7 @@ def whole_year(record, prefix=""):
     return None
 
 
-def day_named(record):
+def day_named(record: Record) -> int:
     """Returns the day of the first group of parts that is complete."""
     year, iso_year = whole_year(record), whole_year(record, "iso_")
     if year is not None and "ordinal" in record:
@@ -60,7 +61,7 @@ def day_named(record):
     raise Refused("insufficient")
 
 
-def hour_named(record):
+def hour_named(record: Record) -> int:
     if "hour_24" in record:
         return record["hour_24"]
     if "hour_12" in record and "is_pm" in record:
@@ -68,17 +69,17 @@ def hour_named(record):
     raise Refused("insufficient")
 
 
-def time_named(record):
+def time_named(record: Record) -> int:
     """Of minute, second and nanosecond only the finest may be missing; they are 0 then."""
     hour = hour_named(record)
     parts = [record.get(it) for it in ("minute", "second", "subsecond")]
     missing = [it is None for it in parts]
     if missing != sorted(missing):
         raise Refused("insufficient")
-    return calendar.permitted_time_of(record.get("leap_second_is_permitted", False), hour, *(it or 0 for it in parts))
+    return calendar.permitted_time_of(bool(record.get("leap_second_is_permitted")), hour, *(it or 0 for it in parts))
 
 
-def offset_named(record):
+def offset_named(record: Record) -> int:
     """Minutes and seconds are under the sign of an hour that was read with a minus; seconds count only after minutes."""
     if "offset_hour" not in record:
         raise Refused("insufficient")
@@ -88,7 +89,7 @@ def offset_named(record):
     return calendar.offset_of(record["offset_hour"], sign * (minute or 0), sign * second)
 
 
-def unix_named(record):
+def unix_named(record: Record) -> Moment:
     """A fraction that was read takes the place of the nanosecond of the second."""
     unix = record["unix"]
     if not calendar.is_wall(unix):
@@ -98,11 +99,11 @@ def unix_named(record):
     return Moment(unix, 0)
 
 
-def moment_named(record):
+def moment_named(record: Record) -> Moment:
     """Returns the moment, or the first refusal: of the date, the time, the offset, the leap second."""
     if "unix" in record:
         return unix_named(record)
     wall = day_named(record) * DAY + time_named(record)
     moment = Moment(wall, offset_named(record))
-    is_leap = record.get("leap_second_is_permitted", False) and record.get("second", 0) == 60
+    is_leap = bool(record.get("leap_second_is_permitted")) and record.get("second", 0) == 60
     return calendar.leap_checked(is_leap, moment)

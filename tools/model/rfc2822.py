@@ -4,9 +4,11 @@ space between them.
 A strict reading refuses each number out of range where it is; one that is not leaves them to the moment.
 """
 
+from collections.abc import Callable
+
 from . import calendar
 from .calendar import DAY, Moment
-from .components import MONTHS, WEEKDAYS
+from .components import MONTHS, WEEKDAYS, Record
 from .faults import Refused
 from .reader import Reader
 
@@ -15,38 +17,40 @@ WEEKDAY_NAMES = [it[:3].lower() for it in WEEKDAYS]
 # Hours west of Greenwich.
 ZONES = {b"est": 5, b"edt": 4, b"cst": 6, b"cdt": 5, b"mst": 7, b"mdt": 6, b"pst": 8, b"pdt": 7, b"gmt": 0}
 MOST_LEVELS = 31
+# What passes over something at a place of a text: it gives the place after it, or None.
+Skip = Callable[[bytes, int], int | None]
 BLANKS, WHITE, MARKS = b" \t", b"\r \t", b"\n\r \t"
 
 
 # ---- white space and comments: each gives the place after it, or None
 
 
-def passed(text, at, allowed):
+def passed(text: bytes, at: int, allowed: bytes) -> int:
     """All bytes of a kind, as many as there are."""
     while at < len(text) and text[at] in allowed:
         at += 1
     return at
 
 
-def is_at(text, at, allowed):
+def is_at(text: bytes, at: int, allowed: bytes) -> bool:
     return at < len(text) and text[at] in allowed
 
 
-def many(skip, text, at):
+def many(skip: Skip, text: bytes, at: int) -> int:
     after = skip(text, at)
     while after is not None:
         at, after = after, skip(text, after)
     return at
 
 
-def folded_line(text, at):
+def folded_line(text: bytes, at: int) -> int | None:
     """A line end, and blanks on the next line."""
     if text[at : at + 2] != b"\r\n" or not is_at(text, at + 2, BLANKS):
         return None
     return passed(text, at + 2, BLANKS)
 
 
-def folding_white_space(text, at):
+def folding_white_space(text: bytes, at: int) -> int | None:
     """One byte with none of its kind after it; or a folded line; or blanks, with folded lines after them and no line end."""
     if is_at(text, at, WHITE) and not is_at(text, at + 1, MARKS):
         return at + 1
@@ -62,15 +66,15 @@ QUOTABLE = bytes([*range(1, 10), 11, 12, *range(14, 128)])
 OBSOLETE = bytes(it for it in b"\0" + QUOTABLE if it != ord(")"))
 
 
-def line_ends(text, at):
+def line_ends(text: bytes, at: int) -> int:
     return passed(text, passed(text, at, b"\n"), b"\r")
 
 
-def obsolete_byte(text, at):
+def obsolete_byte(text: bytes, at: int) -> int | None:
     return line_ends(text, at + 1) if is_at(text, at, OBSOLETE) else None
 
 
-def quoted_pair(text, at):
+def quoted_pair(text: bytes, at: int) -> int | None:
     """A backslash and one byte, or the obsolete text, which may be empty."""
     if not is_at(text, at, b"\\"):
         return None
@@ -79,11 +83,11 @@ def quoted_pair(text, at):
     return many(obsolete_byte, text, line_ends(text, at + 1))
 
 
-def comment(text, at, levels=MOST_LEVELS):
+def comment(text: bytes, at: int, levels: int = MOST_LEVELS) -> int | None:
     if levels == 0 or not is_at(text, at, b"("):
         return None
 
-    def content(text, at):
+    def content(text: bytes, at: int) -> int | None:
         for skip in folding_white_space, comment_text, quoted_pair:
             after = skip(text, at)
             if after is not None:
@@ -94,16 +98,16 @@ def comment(text, at, levels=MOST_LEVELS):
     return after + 1 if is_at(text, after, b")") else None
 
 
-def comment_text(text, at):
+def comment_text(text: bytes, at: int) -> int | None:
     return at + 1 if is_at(text, at, COMMENT_TEXT) else None
 
 
-def white_or_comment(text, at):
+def white_or_comment(text: bytes, at: int) -> int | None:
     white = folding_white_space(text, at)
     return comment(text, at) if white is None else white
 
 
-def spaces(text, at):
+def spaces(text: bytes, at: int) -> int | None:
     """Comments and white space, at least one."""
     after = white_or_comment(text, at)
     return None if after is None else many(white_or_comment, text, after)
@@ -113,14 +117,14 @@ def spaces(text, at):
 
 
 class MailReader(Reader):
-    def skip(self, skip, is_due):
+    def skip(self, skip: Skip, is_due: bool) -> None:
         after = skip(self.text, self.at)
         if after is not None:
             self.at = after
         elif is_due:
             raise Refused("literal")
 
-    def name(self, names):
+    def name(self, names: list[bytes]) -> int | None:
         """Returns the place of a name of three letters in a list, in any case."""
         front = self.text[self.at : self.at + 3].lower()
         if front not in names:
@@ -128,7 +132,7 @@ class MailReader(Reader):
         self.at += 3
         return names.index(front)
 
-    def spaced_colon(self):
+    def spaced_colon(self) -> bool:
         start = self.at
         self.skip(spaces, False)
         if not self.take(b":"):
@@ -137,7 +141,7 @@ class MailReader(Reader):
         self.skip(spaces, False)
         return True
 
-    def year(self):
+    def year(self) -> int:
         year = self.digits(4)
         if year is not None:
             if year < 1900:
@@ -148,7 +152,7 @@ class MailReader(Reader):
         self.skip(spaces, True)
         return year + (2000 if year < 50 else 1900)
 
-    def zone_name(self):
+    def zone_name(self) -> int:
         """Returns hours west; the names with fewer than three letters are read where fewer than three bytes are left."""
         rest = self.text[self.at :]
         hours = ZONES.get(rest[:3].lower())
@@ -159,11 +163,12 @@ class MailReader(Reader):
         return hours or 0
 
 
-def read(text, is_strict):
+def read(text: bytes, is_strict: bool) -> tuple[Record, int]:
     """Returns the parts of a date at the start of a text, and the place after it."""
-    reader, parts = MailReader(text), {}
+    parts: Record = {}
+    reader = MailReader(text)
 
-    def number(name, low, high):
+    def number(name: str, low: int, high: int) -> int:
         return reader.number(2, name, low if is_strict else 0, high if is_strict else 99)
 
     reader.skip(spaces, False)
@@ -199,13 +204,13 @@ def read(text, is_strict):
     return parts, reader.at
 
 
-def into_record(record, text):
+def into_record(record: Record, text: bytes) -> tuple[Record, int]:
     """Returns a record with what the prefix of a text says, and the place after it."""
     parts, at = read(text, is_strict=True)
     return {**record, **parts, "leap_second_is_permitted": True}, at
 
 
-def moment(text):
+def moment(text: bytes) -> Moment:
     """Returns the moment of a whole text, or raises its first fault: the end, the date, the time, the offset, the leap second."""
     parts, at = read(text, is_strict=False)
     if at < len(text):

@@ -5,15 +5,16 @@ A strict reading refuses each number out of range where it is; one that is not l
 
 from . import calendar
 from .calendar import DAY, Moment
+from .components import Record
 from .faults import Refused
 from .reader import Reader
 
 
-def read(text, is_strict):
+def read(text: bytes, is_strict: bool) -> tuple[Record, int]:
     """Returns the parts of a date-time at the start of a text, and the place after it."""
     reader = Reader(text)
 
-    def number(name, low, high):
+    def number(name: str, low: int, high: int) -> int:
         return reader.number(2, name, low if is_strict else 0, high if is_strict else 99)
 
     parts = {"year": reader.number(4, "year", 0, 9999)}
@@ -46,13 +47,13 @@ def read(text, is_strict):
     return parts, reader.at
 
 
-def into_record(record, text):
+def into_record(record: Record, text: bytes) -> tuple[Record, int]:
     """Returns a record with what the prefix of a text says, and the place after it."""
     parts, at = read(text, is_strict=True)
     return {**record, **parts, "leap_second_is_permitted": True}, at
 
 
-def moment(text):
+def moment(text: bytes) -> Moment:
     """Returns the moment of a whole text, or raises its first fault: the offset's range, the end, the date, the time, the leap second."""
     parts, at = read(text, is_strict=False)
     offset = calendar.offset_of(parts["offset_hour"], parts["offset_minute"], 0)

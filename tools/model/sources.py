@@ -1,12 +1,16 @@
 """A source: what a line, or the bytes from a place of a line on, say by it."""
 
+from collections.abc import Iterable
 from typing import NamedTuple
 
 from . import edges, iso8601, record, rfc2822, rfc3339
-from .components import Compound, Literal, components_of, read_all
+from .calendar import Moment
+from .components import Compound, Item, Items, Literal, Record, components_of, read_all
 from .faults import Refused
 
-FORMATS = {"rfc3339": rfc3339, "rfc2822": rfc2822, "iso8601": iso8601}
+# How each format reads a prefix into a record, and how some read the moment of a whole line by themselves.
+FORMATS = {"rfc3339": rfc3339.into_record, "rfc2822": rfc2822.into_record, "iso8601": iso8601.into_record}
+DIRECT = {"rfc3339": rfc3339.moment, "rfc2822": rfc2822.moment}
 SILENT = ("ignore", "end")
 YEARS, CENTURIES, LAST_TWOS = ("year", "iso_year"), ("century", "iso_century"), ("last_two", "iso_last_two")
 MONTHS, WEEKS = ("month", "month_short", "month_long"), ("week_iso", "week_sunday", "week_monday")
@@ -22,7 +26,7 @@ class Lengths(NamedTuple):
     is_chosen: bool
 
 
-def is_silent(item):
+def is_silent(item: Item) -> bool:
     """Whether an item says nothing of a date."""
     return all(it.kind in SILENT for it in components_of(item))
 
@@ -30,7 +34,7 @@ def is_silent(item):
 class Source:
     """`kind` is a format, or `items` for the items of version 1, version 2 or strftime, or `v3`."""
 
-    def __init__(self, kind, items=()):
+    def __init__(self, kind: str, items: Items = ()) -> None:
         self.kind, self.items, self.is_three = kind, items, kind == "v3"
         self.kinds = {it.kind for it in components_of(Compound(tuple(items)))}
         self.has_unix_time = "unix" in self.kinds
@@ -47,30 +51,30 @@ class Source:
 
     # ---- reading
 
-    def into_record(self, start, text):
+    def into_record(self, start: Record, text: bytes) -> tuple[Record, int]:
         """Returns a record with what the prefix of a text says, and the place after it."""
         if self.kind in FORMATS:
-            return FORMATS[self.kind].into_record(start, text)
+            return FORMATS[self.kind](start, text)
         return read_all(self.items, start, text, 0, self.is_three)
 
-    def moment_of_line(self, assumed, line):
+    def moment_of_line(self, assumed: int | None, line: bytes) -> Moment:
         """Returns the moment of a whole line, or raises its fault."""
-        if assumed is None and self.kind in ("rfc3339", "rfc2822"):
-            return FORMATS[self.kind].moment(line)
+        if assumed is None and self.kind in DIRECT:
+            return DIRECT[self.kind](line)
         start = {} if assumed is None else record.with_offset({}, assumed)
         read, at = self.into_record(start, line)
         if at < len(line):
             raise Refused("trailing")
         return record.moment_named(read)
 
-    def text_for(self, line, place):
+    def text_for(self, line: bytes, place: int) -> bytes:
         """Returns what the source is given of a line from a place on."""
         text = line[place : place + edges.WINDOW]
         if self.kind == "iso8601":
             return edges.iso_text(text)
         return edges.mail_text(text) if self.kind == "rfc2822" else text
 
-    def front(self, text):
+    def front(self, text: bytes) -> tuple[Record, int] | None:
         """Returns the record of the prefix of a text, from no record, and the place after it; or None."""
         # (a mail's date begins with its weekday or its day, and not with white space or a comment)
         if self.kind == "rfc2822" and not text[:1].isalnum():
@@ -80,7 +84,7 @@ class Source:
         except Refused:
             return None
 
-    def lengths(self, text, at):
+    def lengths(self, text: bytes, at: int) -> Lengths:
         if self.kind in FORMATS:
             long = edges.trimmed_length(text[:at])
             return Lengths(0, long, long, False)
@@ -90,7 +94,7 @@ class Source:
         zone = ends + edges.zone_length(text[ends:written])
         return Lengths(begins + edges.blanks(text[begins:]), ends, zone, begins > 0)
 
-    def length_of(self, items, text):
+    def length_of(self, items: Items, text: bytes) -> int:
         """Returns how many bytes some items read, 0 where they are refused."""
         try:
             return read_all(items, {}, text, 0, self.is_three)[1]
@@ -99,11 +103,11 @@ class Source:
 
     # ---- what it lacks
 
-    def has(self, kinds):
+    def has(self, kinds: Iterable[str]) -> bool:
         """Whether a component of one of these kinds is in it; the well-known formats have all that a moment needs."""
         return self.kind in FORMATS or bool(self.kinds & set(kinds))
 
-    def lack(self, has_offset, has_year, has_time):
+    def lack(self, has_offset: bool, has_year: bool, has_time: bool) -> str | None:
         """Returns what it never names and nobody gives, the first of these, or None."""
         if self.has(("unix",)):
             return None

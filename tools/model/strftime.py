@@ -1,8 +1,9 @@
 """Descriptions by the letters of strftime."""
 
 import re
+from dataclasses import replace
 
-from .components import Component, Literal, Part
+from .components import Component, Items, Literal, Part
 from .faults import Faulty
 
 FLAGS = {b"_": "space", b"-": "none", b"0": "zero"}
@@ -54,11 +55,11 @@ COMPOSITES = {
 UNSUPPORTED = {b"E": b"alternative form", b"O": b"alternative form", b"Z": b"zone name", b"^": b"flag", b"#": b"flag"}
 
 
-def letter_items(flag, letter):
+def letter_items(flag: str | None, letter: bytes) -> Items | None:
     """Returns the items that a letter stands for under a flag, or None."""
     if letter in NUMBERS:
         component, padding = NUMBERS[letter]
-        return (Part(component._replace(padding=flag or padding)),)
+        return (Part(replace(component, padding=flag or padding)),)
     if letter in UNPADDED:
         return (Part(UNPADDED[letter]),)
     if letter in TEXTS:
@@ -68,18 +69,19 @@ def letter_items(flag, letter):
     return items_of(COMPOSITES[letter]) if letter in COMPOSITES else None
 
 
-def refusal(text, at):
+def refusal(text: bytes, at: int) -> Faulty:
     """Returns the fault of the character at a place, which stands for nothing."""
     letter = text[at : at + 1]
     if letter in UNSUPPORTED:
         return Faulty(UNSUPPORTED[letter] + b" is not supported in strftime", at)
-    character = re.compile(rb"(?s:.)[\x80-\xbf]*").match(text, at)[0]
-    return Faulty(b"invalid component name `" + character + b"`", at)
+    character = re.compile(rb"(?s:.)[\x80-\xbf]*").match(text, at)
+    return Faulty(b"invalid component name `" + (character[0] if character else b"") + b"`", at)
 
 
-def items_of(text):
+def items_of(text: bytes) -> Items:
     """Returns the items that a whole text spells, or raises its first fault."""
-    items, at = (), 0
+    items: Items = ()
+    at = 0
     while at < len(text):
         start = at
         if text[at : at + 1] != b"%":

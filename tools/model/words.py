@@ -2,9 +2,11 @@
 
 import pathlib
 import re
-from typing import NamedTuple
+from collections.abc import Callable
+from typing import NamedTuple, TypeVar
 
 from . import descriptions, strftime
+from .components import Items
 from .faults import Faulty, WrongWords
 from .pieces import number_said, offset_said, time_said, year_said
 from .sources import Source
@@ -14,7 +16,7 @@ MODES = (b"key", b"carry", b"replace", b"explain", b"locate")
 # The modes in which a label stands after the key.
 LABELLED = (b"key", b"carry")
 FORMATS = (b"rfc3339", b"rfc2822", b"iso8601")
-LANGUAGES = {
+LANGUAGES: dict[bytes, Callable[[bytes], Items]] = {
     b"v1": lambda text: descriptions.items_of(1, text),
     b"v2": lambda text: descriptions.items_of(2, text),
     b"v3": lambda text: descriptions.items_of(3, text),
@@ -27,58 +29,64 @@ USAGE = b"usage: instants-lines MODE [TARGET [ASSUMED [LIMIT]]] [year N] [time H
 NO_FILES = b"no such source; files are read from standard input: instants-lines .. < FILE"
 
 
-def named_formats():
+def plain(text: str) -> bytes:
+    """Returns what a string of definitions stands for."""
+    return re.sub(r"\\(.)", r"\1", text).encode()
+
+
+def named_formats() -> dict[bytes, tuple[bytes, bytes]]:
     """Returns the language and the description that each name of a format stands for, as the table of definitions has them."""
     text = (ROOT / "crates" / "instants_formats" / "specs" / "Table.antt").read_text()
     word = r'codes "((?:[^"\\]|\\.)*)"'
     rows = re.findall(rf"name = {word}; language = {word}; description = {word};", text)
-    return {name.encode(): tuple(re.sub(r"\\(.)", r"\1", it).encode() for it in words) for name, *words in rows}
+    return {name.encode(): (plain(language), plain(description)) for name, language, description in rows}
 
 
 SYNONYMS = named_formats()
+Value = TypeVar("Value")
 
 
 class Asked(NamedTuple):
     mode: str
     target: int
-    assumed: int  # or None
+    assumed: int | None
     limit: int
-    year: int  # or None
-    minutes: int  # of the day, or None
-    label: bytes  # or None
-    sources: tuple
+    year: int | None
+    minutes: int | None  # of the day
+    label: bytes | None
+    sources: tuple[Source, ...]
 
 
 # ---- what one word says
 
 
-def said(word, reading, wrong):
+def said(word: bytes, reading: Callable[[bytes], Value | None], wrong: bytes) -> Value:
     value = reading(word)
     if value is None:
         raise WrongWords(b'"' + word + b'": ' + wrong)
     return value
 
 
-def label_said(mode, word):
+def label_said(mode: bytes, word: bytes) -> bytes | None:
     return word if mode in LABELLED and b"\t" not in word and b"\n" not in word else None
 
 
-def maybe_said(word, reading, wrong):
+def maybe_said(word: bytes | None, reading: Callable[[bytes], Value | None], wrong: bytes) -> Value | None:
     return None if word is None else said(word, reading, wrong)
 
 
 # ---- the words in their order
 
 
-def is_setting(word):
+def is_setting(word: bytes) -> bool:
     return word[:1] in (b"+", b"-") or word[:1].isdigit() or word in (b"Z", b"UTC")
 
 
-def as_offset(word):
+def as_offset(word: bytes) -> bytes:
     return b"+00:00" if word in (b"Z", b"UTC") else word
 
 
-def front_settings(words):
+def front_settings(words: list[bytes]) -> tuple[list[bytes], list[bytes]]:
     """Returns the target, the assumed offset and the limit, as far as they are there, and the words after them."""
     count = 0
     while count < min(3, len(words)) and is_setting(words[count]):
@@ -86,23 +94,24 @@ def front_settings(words):
     return words[:count], words[count:]
 
 
-def named_word(name, words):
+def named_word(name: bytes, words: list[bytes]) -> tuple[bytes | None, list[bytes]]:
     """Returns the word after a name, or None, and the words after both."""
     if words[:1] != [name]:
         return None, words
     return (words[1] if words[1:] else None), words[2:]
 
 
-def no_such_source(word, may_be_offset):
+def no_such_source(word: bytes, may_be_offset: bool) -> bytes:
     if b"." in word or word[:1] == b"/":
         return NO_FILES
     offset = b"; an offset before the sources is +HH:MM, -HH:MM, Z or UTC" if may_be_offset else b""
     return b"no such source; there are " + SOURCES + offset
 
 
-def sources_said(words, is_whole):
+def sources_said(words: list[bytes], is_whole: bool) -> list[tuple[bytes, bytes | None]]:
     """Returns the words of each source, or raises what is wrong with the first that is none."""
-    sources, rest = [], list(words)
+    sources: list[tuple[bytes, bytes | None]] = []
+    rest = list(words)
     while rest:
         word, rest, place = rest[0], rest[1:], len(sources) + 1
         if word in FORMATS:
@@ -119,7 +128,7 @@ def sources_said(words, is_whole):
     return sources
 
 
-def source_made(place, language, description):
+def source_made(place: int, language: bytes, description: bytes | None) -> Source:
     if description is None:
         return Source(language.decode())
     try:
@@ -128,7 +137,7 @@ def source_made(place, language, description):
         raise WrongWords(b"source %d: %s" % (place, fault.sentence)) from None
 
 
-def refuse_lacking(asked):
+def refuse_lacking(asked: Asked) -> None:
     """A source that never names a moment is refused with what it lacks."""
     for place, source in enumerate(asked.sources, 1):
         lack = source.lack(asked.assumed is not None, asked.year is not None, asked.minutes is not None)
@@ -136,7 +145,7 @@ def refuse_lacking(asked):
             raise WrongWords(b"source %d names no moment: it has no %s" % (place, lack.encode()))
 
 
-def asked_by(words):
+def asked_by(words: list[bytes]) -> Asked:
     """Returns what words ask for, or raises WrongWords."""
     if not words:
         raise WrongWords(USAGE)
@@ -148,10 +157,10 @@ def asked_by(words):
         named[name], rest = named_word(name, rest)
     if not rest:
         raise WrongWords(b"no source is named; there are " + SOURCES)
-    target, assumed, limit = settings + [b"+00:00", b"-", b"1048576"][len(settings) :]
-    target = said(as_offset(target), offset_said, b"no target offset; it must be +HH:MM, -HH:MM, Z or UTC")
-    assumed = None if assumed == b"-" else said(as_offset(assumed), offset_said, b"no assumed offset; it must be +HH:MM, -HH:MM, Z, UTC or -")
-    limit = said(limit, lambda it: number_said(1, 1_048_576, 7, it), b"no limit; it must be a number from 1 to 1048576")
+    target_word, assumed_word, limit_word = settings + [b"+00:00", b"-", b"1048576"][len(settings) :]
+    target = said(as_offset(target_word), offset_said, b"no target offset; it must be +HH:MM, -HH:MM, Z or UTC")
+    assumed = None if assumed_word == b"-" else said(as_offset(assumed_word), offset_said, b"no assumed offset; it must be +HH:MM, -HH:MM, Z, UTC or -")
+    limit = said(limit_word, lambda it: number_said(1, 1_048_576, 7, it), b"no limit; it must be a number from 1 to 1048576")
     year = maybe_said(named[b"year"], year_said, b"no year; it must be a number from 0 to 9999")
     minutes = maybe_said(named[b"time"], time_said, b"no time of day; it must be HH:MM")
     label = maybe_said(named[b"label"], lambda it: label_said(words[0], it), b"no label; modes key and carry take one, without tabs and line feeds")
