@@ -23,7 +23,7 @@ PROGRAMS = {name: Program(crate, name) for crate, name in (("instants_program", 
 CHECK = Program("description_check", "description_check")
 # What of the documents is for those who use the programs or the library.
 DOCUMENTS = ("README.md", "SECURITY.md", "docs/GUIDE.md", "docs/FORMATS.md", "docs/DESCRIPTIONS.md", "docs/LIBRARIES.md", "docs/SCALE.md",
-             "docs/CLAIMS.md", "docs/DIFFERENCES.md", "docs/PEERS.md", "docs/SPEED.md")
+             "docs/CLAIMS.md", "docs/PROMISES.md", "docs/DIFFERENCES.md", "docs/PEERS.md", "docs/SPEED.md")
 # The pictures of these documents.
 PICTURES = ("docs/speed.svg",)
 PAGES = ("instants.1", "instants-lines.1", "instants-descriptions.7")
