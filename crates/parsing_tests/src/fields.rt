@@ -5,7 +5,7 @@ use datetime_types::WallClock;
 use description::{
     BorrowedFormatItem, Description, DescriptionVersion, parse_borrowed, parse_strftime_borrowed,
 };
-use parsing_combinator::digit_chunk;
+use parsing_combinator::{above_zeros, digit_chunk, number};
 use parsing_components::assumed_minutes;
 use parsing_item_parts::Listed;
 use parsing_places::{Moves, Window, Windows};
@@ -65,6 +65,11 @@ fn digits(rt: HostRuntime) {
     assert!(rt; nine.padded_digits() == *b"123456789\0\0\0\0\0\0\0");
     assert!(rt; read_fraction(b"5Z") == Some((*b"500000000", 500_000_000, 1)));
     assert!(rt; digit_chunk(b"123Z") == Some((u64::from_le_bytes(*b"12300000"), 3)));
+    assert!(rt;
+        above_zeros(u64::from_le_bytes(*b"12345678"))
+            == Some(u64::from_le_bytes([1, 2, 3, 4, 5, 6, 7, 8]))
+    );
+    assert!(rt; number(b"123456789") == 123_456_789);
 }
 
 fn formats() -> [Option<(i64, u32)>; 4] {
