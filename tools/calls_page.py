@@ -33,7 +33,7 @@ ALONE = (
 )
 # The calls of the crates below these of which PROMISES.md speaks: all that a crate gives on, or some of them.
 BELOW = {
-    "parsing_combinator": {"digit_chunk", "nine_digits"},
+    "parsing_combinator": {"above_zeros", "digit_chunk", "nine_digits", "number"},
     "parsing_shapes": {"read_long_numbers"},
     "parsing_values": {"Fields", "Fraction", "Year", "minute_of_day"},
     "parsing_components": {"Record", "read", "read_component", "read_component_v3"},
