@@ -10,7 +10,8 @@ use Rattle.parsing_components.specs.declared.fields.Record.{Record}
 use Rattle.parsing_record.specs.Record.{empty}
 use Rattle.instants_sources.specs.Grammar.{Grammar, Described, Rfc2822, Rfc3339, Iso8601, Items, V3}
 use Rattle.instants_sources.specs.Reading.{reading_of}
-use Rattle.instants_prefixes.specs.Lacks.{stands, is_year, is_century, is_last_two, is_month, is_day, is_ordinal, is_week, is_weekday, is_hour}
+use Rattle.instants_prefixes.specs.Kinds.{is_year, is_century, is_last_two, is_month, is_day, is_ordinal, is_week, is_weekday, is_hour}
+use Rattle.instants_prefixes.specs.Lacks.{stands}
 use Rattle.instants_prefixes.proofs.Commutes.{changed, tree_commutes, in_turn_commutes}
 use Rattle.instants_prefixes.proofs.Spared.{Erases, spares, spares_v3}
 

@@ -21,7 +21,8 @@ use Rattle.parsing_record.specs.Whole.{moment_named}
 use Rattle.instants_sources.specs.Grammar.{Grammar, Described, Rfc3339, Written, Items, V3}
 use Rattle.instants_sources.specs.Written.{reads_written}
 use Rattle.parsing_record.specs.Prefix.{beginning}
-use Rattle.instants_prefixes.specs.Contents.{is_offset_part, is_placing, AreContents}
+use Rattle.instants_prefixes.specs.Contents.{AreContents}
+use Rattle.instants_prefixes.specs.Kinds.{is_offset_part, is_placing}
 use Rattle.instants_prefixes.specs.declared.contents.Contents.{Contents}
 use Rattle.instants_prefixes.specs.Given.{Given, moment_of, moment_in, completed, with_offset, with_year, with_time, has_no_year, has_no_time}
 use Rattle.instants_prefixes.specs.Named.{prefix_by, kept_if}

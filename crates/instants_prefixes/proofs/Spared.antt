@@ -10,8 +10,7 @@ use Rattle.parsing_components.specs.Put.{put}
 use Rattle.parsing_components.specs.declared.said.Read.{Read}
 use Rattle.parsing_components.specs.declared.fields.Record.{Record}
 use Rattle.parsing_record.specs.Reads.{Language}
-use Rattle.instants_prefixes.specs.Reading.{is_unix_time}
-use Rattle.instants_prefixes.specs.Contents.{is_offset_hour, is_offset_part, is_placing}
+use Rattle.instants_prefixes.specs.Kinds.{is_offset_hour, is_offset_part, is_placing, is_unix_time}
 use Rattle.instants_prefixes.proofs.Commutes.{Spares, changed, neither_left, neither_right}
 use Rattle.instants_prefixes.proofs.Says.{Can, EachRead, component_each, component_each_v3}
 

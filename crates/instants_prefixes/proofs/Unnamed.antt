@@ -12,9 +12,10 @@ use Rattle.parsing_components.specs.declared.fields.Record.{Record}
 use Rattle.parsing_record.specs.Record.{empty}
 use Rattle.instants_sources.specs.Grammar.{Grammar}
 use Rattle.instants_prefixes.specs.Given.{Given, Years, Unknown, In, Near, moment_of, moment_in, with_time, has_no_year}
-use Rattle.instants_prefixes.specs.Lacks.{Lack, Century, Year, Day, Hour, Offset, stands, is_known, has_year, has_day, has_hour, has_offset, lack, is_year, is_century, is_last_two, is_month, is_day, is_ordinal, is_week, is_weekday, is_hour, is_offset_hour}
+use Rattle.instants_prefixes.specs.Lacks.{Lack, Century, Year, Day, Hour, Offset, stands, is_known, has_year, has_day, has_hour, has_offset, lack}
+use Rattle.instants_prefixes.specs.Kinds.{is_year, is_century, is_last_two, is_month, is_day, is_ordinal, is_week, is_weekday, is_hour, is_offset_hour, is_unix_time}
 use Rattle.instants_sources.specs.Reading.{reading_of}
-use Rattle.instants_prefixes.specs.Reading.{may_begin, prefix_named, prefix_of, if_likely, is_unix_time}
+use Rattle.instants_prefixes.specs.Reading.{may_begin, prefix_named, prefix_of, if_likely}
 use Rattle.instants_prefixes.proofs.Commutes.{neither_left, neither_right}
 use Rattle.instants_prefixes.proofs.Erased.{IsRead, unread, year_erased, century_erased, last_two_erased, month_erased, day_erased, ordinal_erased, week_erased, weekday_erased, hour_erased}
 use Rattle.instants_prefixes.proofs.Spared.{can_untimed, can_unplaced}

@@ -2,68 +2,13 @@
 use Rattle.std.specs.Prelude.{Bool, ◌&&◌, ◌||◌, not, true, false, Option, None, Some, if◌then◌else◌}
 use Rattle.std.specs.Option.{is_none}
 use Rattle.description_items.specs.declared.component.Component.{Component}
-use Rattle.description_items.specs.declared.component.Component.TheVariants as component
 use Rattle.description_items.specs.Modern.{modern}
 use Rattle.instants_sources.specs.Grammar.{Grammar, Described}
 use Rattle.instants_prefixes.specs.Given.{Given, Years, Unknown, In, Near}
-use Rattle.instants_prefixes.specs.Reading.{is_unix_time, written_has}
+use Rattle.instants_prefixes.specs.Kinds.{is_year, is_century, is_last_two, is_month, is_day, is_ordinal, is_week, is_weekday, is_hour, is_offset_hour, is_unix_time}
+use Rattle.instants_prefixes.specs.Reading.{written_has}
 pub use Rattle.instants_prefixes.specs.declared.lacks.Lack.{Lack}
 pub use Rattle.instants_prefixes.specs.declared.lacks.Lack.TheVariants.{Century, Year, Day, Hour, Offset}
-
-abbrev pub is_year : Component → Bool
-is_year (component.CalendarYearFullExtendedRange m) = true
-is_year (component.CalendarYearFullStandardRange m) = true
-is_year (component.IsoYearFullExtendedRange m) = true
-is_year (component.IsoYearFullStandardRange m) = true
-is_year _ = false
-
-abbrev pub is_century : Component → Bool
-is_century (component.CalendarYearCenturyExtendedRange m) = true
-is_century (component.CalendarYearCenturyStandardRange m) = true
-is_century (component.IsoYearCenturyExtendedRange m) = true
-is_century (component.IsoYearCenturyStandardRange m) = true
-is_century _ = false
-
-abbrev pub is_last_two : Component → Bool
-is_last_two (component.CalendarYearLastTwo m) = true
-is_last_two (component.IsoYearLastTwo m) = true
-is_last_two _ = false
-
-abbrev pub is_month : Component → Bool
-is_month (component.MonthShort m) = true
-is_month (component.MonthLong m) = true
-is_month (component.MonthNumerical m) = true
-is_month _ = false
-
-abbrev pub is_day : Component → Bool
-is_day (component.Day m) = true
-is_day _ = false
-
-abbrev pub is_ordinal : Component → Bool
-is_ordinal (component.Ordinal m) = true
-is_ordinal _ = false
-
-abbrev pub is_week : Component → Bool
-is_week (component.WeekNumberIso m) = true
-is_week (component.WeekNumberSunday m) = true
-is_week (component.WeekNumberMonday m) = true
-is_week _ = false
-
-abbrev pub is_weekday : Component → Bool
-is_weekday (component.WeekdayShort m) = true
-is_weekday (component.WeekdayLong m) = true
-is_weekday (component.WeekdaySunday m) = true
-is_weekday (component.WeekdayMonday m) = true
-is_weekday _ = false
-
-abbrev pub is_hour : Component → Bool
-is_hour (component.Hour12 m) = true
-is_hour (component.Hour24 m) = true
-is_hour _ = false
-
-abbrev pub is_offset_hour : Component → Bool
-is_offset_hour (component.OffsetHour m) = true
-is_offset_hour _ = false
 
 -- such a component stands in a source, or an older form that says the same; the well-known formats have all that a moment needs
 abbrev pub stands : (Component → Bool) → Grammar → Bool

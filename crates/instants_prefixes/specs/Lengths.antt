@@ -1,8 +1,6 @@
 -- Where in the prefix that a source reads its date begins and ends.
 use Rattle.std.specs.Prelude.{ℕ, ◌+◌, ◌-◌, not, nat_lt, Bool, true, false, List, [], ◌∷◌, length, take, drop, Ok, Err}
 use Rattle.std.specs.List.{prefix_len, suffix_len}
-use Rattle.description_items.specs.declared.component.Component.{Component}
-use Rattle.description_items.specs.declared.component.Component.TheVariants as component
 use Rattle.description_items.specs.Tree.{Tree, Trees, Literal, Compound, none, also, listed}
 use Rattle.parsing_record.specs.Meaning.{Answer}
 use Rattle.parsing_record.specs.Record.{empty}
@@ -10,13 +8,8 @@ use Rattle.parsing_record.specs.Reads.{Language, reading_of_all}
 use Rattle.instants_sources.specs.Grammar.{Grammar, Described, Written, Items, V3}
 use Rattle.instants_sources.specs.Written.{language_of}
 use Rattle.instants_edges.specs.Pieces.{blanks, trimmed_length, zone_length}
+use Rattle.instants_prefixes.specs.Kinds.{is_saying}
 use Rattle.instants_prefixes.specs.Reading.{has}
-
--- a component says something of a date, unless it ignores bytes or is an end
-abbrev pub is_saying : Component → Bool
-is_saying (component.Ignore m) = false
-is_saying (component.End m) = false
-is_saying _ = true
 
 abbrev pub is_silent : Tree → Bool
 is_silent t = not (has is_saying t)

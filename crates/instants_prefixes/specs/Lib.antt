@@ -1,5 +1,6 @@
 pub mod Has
 pub mod Given
+pub mod Kinds
 pub mod Reading
 pub mod Lengths
 pub mod Prefix

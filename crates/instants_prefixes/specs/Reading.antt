@@ -3,7 +3,6 @@ use Rattle.std.specs.Prelude.{ℕ, ◌^◌, ◌&&◌, ◌||◌, not, nat_le, nat
 use Rattle.std.specs.Char.{is_ascii_alphanumeric}
 use Rattle.datetime_wall.specs.Wall.{Shown, instant}
 use Rattle.description_items.specs.declared.component.Component.{Component}
-use Rattle.description_items.specs.declared.component.Component.TheVariants as component
 use Rattle.description_items.specs.Tree.{listed}
 use Rattle.parsing_record.specs.Meaning.{Answer}
 use Rattle.parsing_record.specs.Record.{empty}
@@ -11,6 +10,7 @@ use Rattle.instants_sources.specs.Grammar.{Grammar, Described, Rfc2822, Iso8601,
 use Rattle.instants_sources.specs.Reading.{reading_of}
 use Rattle.instants_edges.specs.Text.{iso_text, mail_text}
 use Rattle.instants_prefixes.specs.Given.{Given, moment_of}
+use Rattle.instants_prefixes.specs.Kinds.{is_unix_time}
 pub use Rattle.instants_prefixes.specs.Has.{has, any_has}
 
 -- a date lies within so many bytes
@@ -39,13 +39,6 @@ written_has kind (V3 tree) = has kind tree
 abbrev pub stands_in : (Component → Bool) → Grammar → Bool
 stands_in kind (Described written) = written_has kind written
 stands_in kind _ = false
-
-abbrev pub is_unix_time : Component → Bool
-is_unix_time (component.UnixTimestampSecond m) = true
-is_unix_time (component.UnixTimestampMillisecond m) = true
-is_unix_time (component.UnixTimestampMicrosecond m) = true
-is_unix_time (component.UnixTimestampNanosecond m) = true
-is_unix_time _ = false
 
 -- a source reads numbers of Unix time
 abbrev pub has_unix_time : Grammar → Bool

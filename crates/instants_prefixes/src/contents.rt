@@ -2,7 +2,8 @@
 ghost use Rattle.std.specs.Prelude.{◌≡◌, map};
 ghost use Rattle.description_items.specs.Tree.{listed};
 ghost use Rattle.instants_sources.specs.Grammar.{grammar_of, written};
-ghost use Rattle.instants_prefixes.specs.Contents.{is_of, AreContents};
+ghost use Rattle.instants_prefixes.specs.Contents.{AreContents};
+ghost use Rattle.instants_prefixes.specs.Kinds.{is_of};
 ghost use Rattle.instants_prefixes.specs.Has.{has, any_has};
 ghost use Rattle.instants_prefixes.specs.Reading.{stands_in, written_has};
 

@@ -1,9 +1,6 @@
 //! Kinds of components.
 ghost use Rattle.std.specs.Prelude.{◌≡◌};
-ghost use Rattle.instants_prefixes.specs.Contents.{is_of, is_placing, is_offset_part, is_offset_hour};
-ghost use Rattle.instants_prefixes.specs.Lacks.{is_year, is_century, is_last_two, is_month, is_day, is_ordinal, is_week, is_weekday, is_hour};
-ghost use Rattle.instants_prefixes.specs.Lengths.{is_saying};
-ghost use Rattle.instants_prefixes.specs.Reading.{is_unix_time};
+ghost use Rattle.instants_prefixes.specs.Kinds.{is_of, is_placing, is_offset_part, is_offset_hour, is_year, is_century, is_last_two, is_month, is_day, is_ordinal, is_week, is_weekday, is_hour, is_saying, is_unix_time};
 
 use description_items::Component;
 

@@ -11,6 +11,4 @@ use Rattle.instants_sources.specs.Tried.{nodes_in, tried_by}
 pub tried_by-le : (assumed : Option ℤ) (grammar : Grammar) (line : List ℕ) → tried_by assumed grammar line ≤ nodes_in grammar
 tried_by-le assumed (Described (Items items)) line = in_turn_tried reads_component (listed items) (starting (defaults_of assumed)) line
 tried_by-le assumed (Described (V3 tree)) line = tree_tried reads_component_v3 tree (starting (defaults_of assumed)) line
-tried_by-le assumed Rfc2822 line = omega arith
-tried_by-le assumed Rfc3339 line = omega arith
-tried_by-le assumed Iso8601 line = omega arith
+tried_by-le assumed grammar line = omega arith

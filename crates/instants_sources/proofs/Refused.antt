@@ -8,14 +8,6 @@ use Rattle.parsing_components.specs.declared.fields.Record.{Record}
 use Rattle.parsing_record.specs.Whole.{whole, names, moment_named, starting, all_read}
 use Rattle.instants_sources.specs.Named.{defaults_of}
 
-no_moment : (x : Answer) → result_ok x ≡ None → result_ok (names moment_named (all_read x)) ≡ None
-no_moment (Ok x) e = absurd cc
-no_moment (Err f) e = refl
-
-pub names_none : (m : Meaning) (line : List ℕ) → ((r : Record) → result_ok (m r line) ≡ None) → (assumed : Option ℤ) → result_ok (names moment_named (whole m (defaults_of assumed) line)) ≡ None
-unfolding whole
-names_none m line none assumed = no_moment (m (starting (defaults_of assumed)) line) (none (starting (defaults_of assumed)))
-
 none_named : (x : Result Record Fault) → result_ok x ≡ None → result_ok (names moment_named x) ≡ None
 none_named (Ok r) e = absurd cc
 none_named (Err f) e = refl
@@ -32,3 +24,6 @@ none_read (Err f) e = refl
 pub refused_whole : (m : Meaning) (line : List ℕ) → ((r : Record) → result_ok (m r line) ≡ None) → ReadsNoneWhole m line
 unfolding whole
 refused_whole m line none defaults = none_read (m (starting defaults) line) (none (starting defaults))
+
+pub names_none : (m : Meaning) (line : List ℕ) → ((r : Record) → result_ok (m r line) ≡ None) → (assumed : Option ℤ) → result_ok (names moment_named (whole m (defaults_of assumed) line)) ≡ None
+names_none m line none = none_whole m line (refused_whole m line none)

@@ -4,13 +4,15 @@ use Rattle.std.specs.Prelude.{codes, option_map, not}
 use Rattle.std.specs.Result.{result_ok}
 use Rattle.std.specs.Char.{is_ascii_digit, to_ascii_lowercase}
 use Rattle.std.proofs.lemmas.Bool.{le-leb}
+use Rattle.std.proofs.Math.Bool.{and-false}
 use Rattle.std.proofs.lemmas.Bool.Decides.{nat_tests}
+use Rattle.std.proofs.lemmas.List.{get_or_past}
 use Rattle.calendar_count.specs.declared.weekday.Weekday.{Weekday}
 use Rattle.base.specs.Bytes.{hyphen, plus}
 use Rattle.parsing_combinator.specs.Fault.{Fault, literal, component}
 use Rattle.parsing_combinator.specs.Pieces.{digits, digit_count, byte, byte_of, skip_of}
 use Rattle.parsing_combinator.proofs.Decimal.{digit_here}
-use Rattle.parsing_combinator.proofs.Fixed.{digits_one, digits_two, some_if}
+use Rattle.parsing_combinator.proofs.Fixed.{digits_one, digits_two}
 use Rattle.parsing_components.specs.declared.fields.Record.{Record}
 use Rattle.parsing_parsable.specs.Staged.{reads_iso8601}
 use Rattle.parsing_iso8601.specs.declared.kind.Kind.TheVariants.{Unknown}
@@ -47,18 +49,10 @@ pub hyphen_due : (bytes : List ℕ) → eqb (get_or bytes 4 0) hyphen ≡ false 
 unfolding rfc3339_direct.direct rfc3339_direct.moment rfc3339.rfc3339
 hyphen_due bytes e = let refused = date_refused bytes (no_byte hyphen bytes 4 e) in rw refused.1 refl
 
-short_get : (bytes : List ℕ) (n : ℕ) → length bytes ≤ n → get_or bytes n 0 ≡ 0
-short_get [] n h = refl
-short_get (c ∷ rest) zero h = absurd (omega (arith, h))
-short_get (c ∷ rest) (suc n) h = short_get rest n (omega (arith, h))
-
 pub five_due : (bytes : List ℕ) → length bytes ≤ 4 → result_ok (rfc3339_direct.direct bytes) ≡ None
-five_due bytes h = hyphen_due bytes (rw (short_get bytes 4 h) refl)
+five_due bytes h = hyphen_due bytes (rw (get_or_past bytes 4 0 h) refl)
 
 -- ---- RFC 2822: white space or a comment is due after two digits
-
-digit_bounds : (c : ℕ) → is_ascii_digit c ≡ true → (48 ≤ c) × (c ≤ 57)
-digit_bounds c h = let d = digit_here c h in (omega (arith, d.0), omega (arith, d.1))
 
 other_name : (c d e : ℕ) → eqb (to_ascii_lowercase c) 102 ≡ false → eqb (to_ascii_lowercase c) 109 ≡ false → eqb (to_ascii_lowercase c) 115 ≡ false
     → eqb (to_ascii_lowercase c) 116 ≡ false → eqb (to_ascii_lowercase c) 119 ≡ false → weekday_of (c ∷ d ∷ e ∷ []) ≡ None
@@ -78,19 +72,14 @@ no_weekday c d e rest le = no_named (leb 3 (length (c ∷ d ∷ e ∷ rest))) (w
 
 unnamed : (c : ℕ) (rest : List ℕ) → ((d e : ℕ) → weekday_of (c ∷ d ∷ e ∷ []) ≡ None) → weekday (c ∷ rest) ≡ None
 unfolding weekday
-unnamed c [] none = refl
-unnamed c (d ∷ []) none = refl
 unnamed c (d ∷ e ∷ rest) none = no_named (leb 3 (length (c ∷ d ∷ e ∷ rest))) (weekday_of (c ∷ d ∷ e ∷ [])) rest (none d e)
-
-no_two : (more : Bool) (v : ℕ) (rest : List ℕ) → some_if (more && false) v rest ≡ None
-no_two true v rest = refl
-no_two false v rest = refl
+unnamed c few none = refl
 
 day_read : (c d e : ℕ) (rest : List ℕ) → is_ascii_digit c ≡ true → is_ascii_digit d ≡ true
     → rfc2822.day false (c ∷ d ∷ e ∷ rest) ≡ Ok ((None, (c - 48) * 10 + (d - 48)), e ∷ rest)
 unfolding rfc2822.day rfc2822.optional_weekday rfc2822.one_or_two_digits
 day_read c d e rest hc hd =
-    let bounds = digit_bounds c hc in
+    let bounds = digit_here c hc in
     let none = none_at c (d ∷ e ∷ rest) (omega (arith, bounds.0)) in
     let there : nat_le 2 (length (c ∷ d ∷ e ∷ rest)) ≡ true = le-leb 2 (length (c ∷ d ∷ e ∷ rest)) (omega arith) in
     let two : digits 2 (c ∷ d ∷ e ∷ rest) ≡ Some ((c - 48) * 10 + (d - 48), e ∷ rest) = digits_two (c ∷ d ∷ e ∷ rest) ∙ rw (there, hc, hd) refl in
@@ -104,35 +93,29 @@ one_day_read : (c d : ℕ) (rest : List ℕ) → is_ascii_digit c ≡ true → i
     → rfc2822.day false (c ∷ d ∷ rest) ≡ Ok ((None, c - 48), d ∷ rest)
 unfolding rfc2822.day rfc2822.optional_weekday rfc2822.one_or_two_digits
 one_day_read c d rest hc hd =
-    let bounds = digit_bounds c hc in
+    let bounds = digit_here c hc in
     let none = none_at c (d ∷ rest) (omega (arith, bounds.0)) in
     let there : nat_le 1 (length (c ∷ d ∷ rest)) ≡ true = le-leb 1 (length (c ∷ d ∷ rest)) (omega arith) in
-    let two : digits 2 (c ∷ d ∷ rest) ≡ None = digits_two (c ∷ d ∷ rest) ∙ rw (hc, hd) (no_two (nat_le 2 (length (c ∷ d ∷ rest))) _ _) in
+    let two : digits 2 (c ∷ d ∷ rest) ≡ None = digits_two (c ∷ d ∷ rest) ∙ rw (hc, hd, and-false (nat_le 2 (length (c ∷ d ∷ rest)))) refl in
     let one : digits 1 (c ∷ d ∷ rest) ≡ Some (c - 48, d ∷ rest) = digits_one (c ∷ d ∷ rest) ∙ rw (there, hc) refl in
     rw (none, unnamed c (d ∷ rest) (λ e f. no_name c e f bounds.1), two, one) refl
 
 pub space_due : (bytes : List ℕ) → 3 ≤ length bytes → is_ascii_digit (get_or bytes 0 0) ≡ true → is_ascii_digit (get_or bytes 1 0) ≡ true → 41 ≤ get_or bytes 2 0
     → result_ok (rfc2822_direct.direct bytes) ≡ None
 unfolding rfc2822_direct.direct rfc2822_direct.moment rfc2822.rfc2822
-space_due [] le hc hd he = absurd (omega (arith, le))
-space_due (c ∷ []) le hc hd he = absurd (omega (arith, le))
-space_due (c ∷ d ∷ []) le hc hd he = absurd (omega (arith, le))
 space_due (c ∷ d ∷ e ∷ rest) le hc hd he = rw (day_read c d e rest hc hd, month_refused e rest he) refl
+space_due few le hc hd he = absurd (omega (arith, le))
 
 pub space_due_of_one : (bytes : List ℕ) → 3 ≤ length bytes → is_ascii_digit (get_or bytes 0 0) ≡ true → is_ascii_digit (get_or bytes 1 0) ≡ false → 41 ≤ get_or bytes 1 0
     → result_ok (rfc2822_direct.direct bytes) ≡ None
 unfolding rfc2822_direct.direct rfc2822_direct.moment rfc2822.rfc2822
-space_due_of_one [] le hc hd h = absurd (omega (arith, le))
-space_due_of_one (c ∷ []) le hc hd h = absurd (omega (arith, le))
 space_due_of_one (c ∷ d ∷ rest) le hc hd h = rw (one_day_read c d rest hc hd, month_refused d rest h) refl
+space_due_of_one few le hc hd h = absurd (omega (arith, le))
 
 -- ---- a first byte after the digits begins no number
 
 no_digit : (c : ℕ) → 57 < c → is_ascii_digit c ≡ false
-no_digit c h = elim (is_ascii_digit c) as (λ b. is_ascii_digit c ≡ b → is_ascii_digit c ≡ false) [
-  | true ↦ λ t. absurd (omega (arith, (digit_bounds c t).1, h))
-  | false ↦ λ t. t
-] refl
+no_digit c h = grind (arith, nat_tests)
 
 -- RFC 2822: a comma is due after a weekday, and a number where none stands
 
@@ -154,7 +137,7 @@ day_due [] h e = absurd (omega (arith, h))
 day_due (c ∷ rest) h e = let refused = no_day c rest h (no_byte rfc2822.comma (c ∷ rest) 3 e) in rw refused.1 refl
 
 pub day_due_of_few : (bytes : List ℕ) → length bytes ≤ 3 → 57 < get_or bytes 0 0 → result_ok (rfc2822_direct.direct bytes) ≡ None
-day_due_of_few bytes le h = day_due bytes h (rw (short_get bytes 3 le) refl)
+day_due_of_few bytes le h = day_due bytes h (rw (get_or_past bytes 3 0 le) refl)
 
 pub day_due_of_nothing : (bytes : List ℕ) → length bytes < 1 → result_ok (rfc2822_direct.direct bytes) ≡ None
 unfolding rfc2822_direct.direct rfc2822_direct.moment rfc2822.rfc2822 rfc2822.day rfc2822.optional_weekday rfc2822.one_or_two_digits digits weekday
@@ -182,19 +165,12 @@ no_offset : (c : ℕ) (rest : List ℕ) → 57 < c → eqb c 90 ≡ false → is
 unfolding iso8601_offsets.offset iso8601_offsets.signed_offset byte_of skip_of
 no_offset c rest h z = let s = no_sign c h in rw (z, s.0, s.1) refl
 
-no_part : (c : ℕ) (rest : List ℕ) (r : Record) → 57 < c → eqb c 84 ≡ false → eqb c 90 ≡ false → result_ok (reads_iso8601 r (c ∷ rest)) ≡ None
-unfolding reads_iso8601 iso8601.iso8601
-no_part c rest r h t z = rw (no_date c rest h, no_time c rest h t, no_offset c rest h z) refl
-
 pub part_due : (bytes : List ℕ) (r : Record) → 1 ≤ length bytes → 57 < get_or bytes 0 0 → eqb (get_or bytes 0 0) 84 ≡ false → eqb (get_or bytes 0 0) 90 ≡ false → result_ok (reads_iso8601 r bytes) ≡ None
+unfolding reads_iso8601 iso8601.iso8601
 part_due [] r le h t z = absurd (omega (arith, le))
-part_due (c ∷ rest) r le h t z = no_part c rest r h t z
+part_due (c ∷ rest) r le h t z = rw (no_date c rest h, no_time c rest h t, no_offset c rest h z) refl
 
 pub part_due_of_nothing : (bytes : List ℕ) (r : Record) → length bytes < 1 → result_ok (reads_iso8601 r bytes) ≡ None
 unfolding reads_iso8601 iso8601.iso8601 iso8601.dated iso8601_dates.year_and_kind iso8601_numbers.year iso8601_numbers.plain_year iso8601_times.time iso8601_times.designator iso8601_numbers.number iso8601_offsets.offset iso8601_offsets.signed_offset byte_of skip_of digits
 part_due_of_nothing [] r lt = refl
 part_due_of_nothing (c ∷ rest) r lt = absurd (omega (arith, lt))
-
-pub not_true : (b : Bool) → not b ≡ true → b ≡ false
-not_true true e = absurd cc
-not_true false e = refl

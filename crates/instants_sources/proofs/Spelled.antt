@@ -15,12 +15,10 @@ use Rattle.instants_sources.specs.Grammar.{Described, SpellsIn, written}
 use Rattle.instants_sources.specs.Written.{nodes_written}
 
 pub spelled : (version : DescriptionVersion) (text : List ℕ) (d : Description) → has_tree d ≡ is_three version → SpellsTree version text (described d) → SpellsIn version text (Described (written d))
-spelled One text (description.Items v) form spells = (trees v.items, refl, spells)
-spelled Two text (description.Items v) form spells = (trees v.items, refl, spells)
-spelled Three text (description.Items v) form spells = absurd cc
-spelled One text (description.V3 tree) form spells = absurd cc
-spelled Two text (description.V3 tree) form spells = absurd cc
 spelled Three text (description.V3 tree) form spells = (v3_tree tree, refl, spells)
+spelled Three text (description.Items v) form spells = absurd cc
+spelled version text (description.Items v) form spells = (trees v.items, refl, spells)
+spelled version text (description.V3 tree) form spells = absurd cc
 
 pub few : (version : DescriptionVersion) (text : List ℕ) (d : Description) → SpellsTree version text (described d) → nodes_written (written d) ≤ length text + 1
 few version text (description.Items v) spells = omega (arith, items_few version text (trees v.items) spells)

@@ -35,9 +35,7 @@ grammar_of source.Iso8601 = Iso8601
 abbrev pub HasItsForm : Source → Type 0
 HasItsForm (source.Items described) = has_tree described.description ≡ false
 HasItsForm (source.V3 described) = has_tree described.description ≡ true
-HasItsForm source.Rfc2822 = ⊤
-HasItsForm source.Rfc3339 = ⊤
-HasItsForm source.Iso8601 = ⊤
+HasItsForm _ = ⊤
 
 -- a text of this version means this grammar: the items, or the tree, that it spells
 abbrev pub SpellsIn : DescriptionVersion → List ℕ → Grammar → Type 0
@@ -61,9 +59,7 @@ IsFaulty (said.V1 text) fault = Faulty One text fault
 IsFaulty (said.V2 text) fault = Faulty Two text fault
 IsFaulty (said.V3 text) fault = Faulty Three text fault
 IsFaulty (said.Strftime text) fault = FaultyStrftime text fault
-IsFaulty said.Rfc2822 fault = ⊥
-IsFaulty said.Rfc3339 fault = ⊥
-IsFaulty said.Iso8601 fault = ⊥
+IsFaulty _ fault = ⊥
 
 -- memory is taken for a description alone
 abbrev pub TakesMemory : SourceSaid → Type 0

@@ -112,6 +112,7 @@ fn second_by_plan(source: &Source, line: &[u8]) -> Option<(Option<i64>, Option<i
         PlanAt::Whole(whole) => Some((by_plan, second_of(whole.read(line)))),
         PlanAt::Split(split) => Some((by_plan, second_of(split.read(line)))),
         PlanAt::Unix(unix) => Some((by_plan, second_of(unix.read_within(line)))),
+        PlanAt::Listed(list) => Some((by_plan, second_of(list.read(line)))),
         PlanAt::Other(_) => Some((by_plan, None)),
     }
 }

@@ -73,6 +73,9 @@ pub(crate) fn answer_lines<R: ByteReader, W: ByteWriter>(
                 PlanAt::Unix(plan) => {
                     run_by(PlannedWay { plan }, timeline, limit, buffer, reader, writer)
                 }
+                PlanAt::Listed(plan) => {
+                    run_by(PlannedWay { plan }, timeline, limit, buffer, reader, writer)
+                }
                 PlanAt::Other(plan) => {
                     run_by(PlannedWay { plan }, timeline, limit, buffer, reader, writer)
                 }
@@ -155,6 +158,13 @@ pub fn run_over(
                     room,
                 ),
                 PlanAt::Unix(plan) => run_over_by(
+                    PlannedWay { plan },
+                    timeline,
+                    limit,
+                    input,
+                    room,
+                ),
+                PlanAt::Listed(plan) => run_over_by(
                     PlannedWay { plan },
                     timeline,
                     limit,

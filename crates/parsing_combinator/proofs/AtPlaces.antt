@@ -1,6 +1,7 @@
 -- What is read at the places of a text.
 use Rattle.std.proofs.Common.{◌≡◌, ◌≤◌, ◌<◌, ◌+◌, ◌-◌, ◌*◌, ◌/◌, ◌%◌, ◌^◌, ◌∙◌, ◌==◌, ◌||◌, ℕ, true, List, ◌∷◌, length, get_or, drop, leb, Some, refl, arith}
 use Rattle.std.specs.Char.{is_ascii_digit}
+pub use Rattle.std.proofs.lemmas.Bool.{le-leb as at_least}
 use Rattle.std.proofs.lemmas.Bool.Decides.{nat_tests}
 use Rattle.std.proofs.lemmas.List.{drop-drop, drop_more, get_or-drop, length-drop}
 use Rattle.base.specs.Bytes.{plus, hyphen}
@@ -11,9 +12,6 @@ use Rattle.parsing_combinator.proofs.Prefixes.{byte_at}
 
 pub is_digit : (c : ℕ) → 48 ≤ c → c ≤ 57 → is_ascii_digit c ≡ true
 is_digit c low high = grind (arith, nat_tests)
-
-pub at_least : (n m : ℕ) → n ≤ m → leb n m ≡ true
-at_least n m le = grind (arith, nat_tests)
 
 -- the first byte from a place on
 pub first_at : (text : List ℕ) (place : ℕ) → get_or (drop place text) 0 0 ≡ get_or text place 0

@@ -10,17 +10,6 @@ use Rattle.parsing_combinator.proofs.Longest.{taken_exactly}
 use Rattle.parsing_combinator.proofs.SignLemmas.{by_sign_if, taken_signed_if}
 use Rattle.parsing_combinator.proofs.SpaceLemmas.{no_spaces, no_text}
 
-abbrev pub padded_by : Padding → ℕ → ℕ → Piece ℕ
-padded_by padding.Zero n m = taken (digits_between n m)
-padded_by padding.Space n m = taken (spaced_between n m)
-padded_by padding.None n m = taken (digits_between 1 m)
-
-pub taken_padded : (p : Padding) (n m : ℕ) (bytes : List ℕ) → taken (padded p n m) bytes ≡ padded_by p n m bytes
-unfolding padded
-taken_padded padding.Zero n m bytes = refl
-taken_padded padding.Space n m bytes = refl
-taken_padded padding.None n m bytes = refl
-
 abbrev pub exactly_by : Padding → ℕ → Piece ℕ
 exactly_by padding.Zero n = digits n
 exactly_by padding.Space n = taken (spaced_between n n)
@@ -33,7 +22,7 @@ taken_padded_exactly padding.Space n bytes = refl
 taken_padded_exactly padding.None n bytes = refl
 
 -- no padded number is empty
-padded_none : (p : Padding) (n m : ℕ) → padded p (suc n) m [] ≡ None
+pub padded_none : (p : Padding) (n m : ℕ) → padded p (suc n) m [] ≡ None
 unfolding padded spaced_between
 padded_none padding.Zero n m = no_text n m
 padded_none padding.Space n m = no_spaces n m [] ∙ no_text n m

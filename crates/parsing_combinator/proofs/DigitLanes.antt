@@ -8,7 +8,7 @@ use Rattle.std.proofs.lemmas.Bool.{agree_below_at, eqb-true, cases_eq, cases_lt,
 use Rattle.std.proofs.lemmas.Bool.Decides.{nat_tests}
 use Rattle.std.proofs.lemmas.List.{get_or-drop, get_or-take, get_or_past, get_or_append_left, get_or-append_right, get_or-replicate, length-take, length-take-le}
 use Rattle.std.proofs.lemmas.List.Sums.{prefix_len_passes, prefix_len_stops, prefix_len-le-length}
-use Rattle.std.proofs.lemmas.Nat.{and_block, xor_block, and_le_r, xor_lt, pow-add}
+use Rattle.std.proofs.lemmas.Nat.{trailing_le, and_block, xor_block, and_le_r, xor_lt, pow-add}
 use Rattle.parsing_combinator.specs.Chunks.{chunk, padded, likely_digits}
 use Rattle.parsing_combinator.specs.Pieces.{digits}
 use Rattle.parsing_combinator.proofs.Fixed.{digits_one, some_if}
@@ -32,10 +32,6 @@ even k n =
     let next : n * 2 / 2 ≡ n = omega arith in
     rw (rest, next) refl
 
-none : (n : ℕ) → count_trailing_zeros zero n ≡ 0
-unfolding count_trailing_zeros
-none n = refl
-
 two_more : (n : ℕ) → 2 ^ suc n ≡ 2 ^ n * 2
 two_more n = ap (λ (m : ℕ). 2 ^ m) (let e : suc n ≡ n + 1 = omega arith in e) ∙ pow-add 2 n 1
 
@@ -56,7 +52,7 @@ odd k n e = rw e refl
 -- a number that is not 0 by its lowest digits has fewer zeros
 some_byte : (j k c x p : ℕ) → p ≡ 2 ^ j → 0 < x → x < p → count_trailing_zeros k (c * p + x) < j
 some_byte zero k c x p e some less = absurd (let one : p ≡ 1 = e in omega arith)
-some_byte (suc j) zero c x p e some less = rw (none (c * p + x)) (omega arith)
+some_byte (suc j) zero c x p e some less = omega (arith, trailing_le zero (c * p + x))
 some_byte (suc j) (suc k) c x p e some less =
     let double : p ≡ 2 ^ j * 2 = e ∙ two_more j in
     elim (cases_eq (x % 2) 0) [
@@ -88,7 +84,7 @@ count_next k c b lt =
 -- of the first bytes those before the first one that has another high half
 count_is : (n : ℕ) (bytes : List ℕ) → AreBytes bytes → count_trailing_zeros (8 * n) (bit_xor (bit_and (chunk (take n bytes)) (chunk (replicate n 240))) (chunk (replicate n 48))) / 8 ≡ prefix_len (λ b. half b == 0) (take n bytes)
 unfolding chunk
-count_is zero bytes are = ap (λ (z : ℕ). z / 8) (none _)
+count_is zero bytes are = omega (arith, trailing_le zero (bit_xor (bit_and 0 0) 0))
 count_is (suc n) [] are =
     ap (λ (w : ℕ). count_trailing_zeros (8 * suc n) w / 8) (half_next 0 (chunk (replicate n 240)) (chunk (replicate n 48)) 0 (lit< tt)) ∙ count_next n (bit_xor (bit_and 0 (chunk (replicate n 240))) (chunk (replicate n 48))) 0 (lit< tt)
 count_is (suc n) (b ∷ bs) are =

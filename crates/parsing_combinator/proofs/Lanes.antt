@@ -11,14 +11,10 @@ pub record Split (x b y m q p : ℕ) : Type 0 where
   pub low : bit_and b m ≡ p
   pub high : bit_and x y ≡ q
 
-split_sum : (a r q p : ℕ) → r < 256 → p < 256 → a * 256 + r ≡ q * 256 + p → (a ≡ q) × (r ≡ p)
-split_sum a r q p low small e = (omega arith, omega arith)
-
 pub split : (x b y m q p : ℕ) → b < 256 → m < 256 → p < 256 → bit_and (x * 256 + b) (y * 256 + m) ≡ q * 256 + p → Split x b y m q p
 split x b y m q p byte mask small e =
     let block : bit_and (x * 256 + b) (y * 256 + m) ≡ bit_and x y * 256 + bit_and b m = and_block 8 x y b m byte mask in
-    let parts = split_sum (bit_and x y) (bit_and b m) q p (omega (arith, and_le_r b m)) small (sym block ∙ e) in
-    record { low = parts.1; high = parts.0 }
+    record { low = omega (arith, and_le_r b m, block, e); high = omega (arith, and_le_r b m, block, e) }
 
 -- a digit, by its high half and that of six more
 pub digit_lane : (b : ℕ) → b < 256 → bit_and b 240 ≡ 48 → bit_and (b + 6) 240 ≡ 48 → (48 ≤ b) × (b ≤ 57)

@@ -36,6 +36,15 @@ before_none : {A : Type 0} → (x : Option A) → or_before x None ≡ x
 before_none (Some x) = refl
 before_none None = refl
 
+-- where nothing is found at any other number
+pub greatest_at : {A : Type 0} → (f : ℕ → Option A) (n k : ℕ) → k ≤ n → ((j : ℕ) → j ≤ n → ¬ (j ≡ k) → f j ≡ None) → greatest f n ≡ f k
+greatest_at f zero k le none = let z : k ≡ 0 = omega arith in rw z refl
+greatest_at f (suc n) k le none =
+    elim (cases_lt k (suc n)) [
+      | inl lt ↦ rw (none (suc n) (omega arith) (λ e. omega arith)) (greatest_at f n k (omega arith) (λ j a. none j (omega arith)))
+      | inr ge ↦ let z : k ≡ suc n = omega arith in rw (z, greatest_none f n (λ j a. none j (omega arith) (λ e. omega arith))) (before_none (f (suc n)))
+    ]
+
 -- where nothing is found at 0, what is found is found at a number after it
 pub greatest_up : {A : Type 0} → (f : ℕ → Option A) (n : ℕ) → f 0 ≡ None → greatest f (suc n) ≡ greatest (λ k. f (suc k)) n
 greatest_up f zero none = rw none (before_none (f 1))
@@ -82,22 +91,10 @@ digits_at (c ∷ cs) (suc j) le = one_more (is_ascii_digit c) (list_all is_ascii
 shape_at : (n m : ℕ) (bytes : List ℕ) (j : ℕ) → j ≤ length bytes → are_digits n m (take j bytes) ≡ (nat_le n j && nat_le j m && nat_le j (digit_count bytes))
 shape_at n m bytes j le = rw (length-take-le j bytes le, digits_at bytes j le) refl
 
-within : (n m c j : ℕ) → n ≤ j → j ≤ m → j ≤ c → (nat_le n j && nat_le j m && nat_le j c) ≡ true
-within n m c j a b d = grind (arith, nat_tests)
-
-too_long : (n m c j : ℕ) → min c m < j → (nat_le n j && nat_le j m && nat_le j c) ≡ false
-too_long n m c j a = grind (arith, nat_tests)
-
-too_few : (n m c j : ℕ) → c < n → (nat_le n j && nat_le j m && nat_le j c) ≡ false
-too_few n m c j a = grind (arith, nat_tests)
-
-said_none : {A : Type 0} → (value : List ℕ → A) (n m : ℕ) (bytes : List ℕ) (j : ℕ) → are_digits n m (take j bytes) ≡ false → prefix (digits_as value n m) bytes j ≡ None
+said : {A : Type 0} → (b : Bool) (value : List ℕ → A) (n m : ℕ) (bytes : List ℕ) (j : ℕ) → are_digits n m (take j bytes) ≡ b → prefix (digits_as value n m) bytes j ≡ cond b (Some (value (take j bytes), drop j bytes)) None
 unfolding digits_as
-said_none value n m bytes j e = rw e refl
-
-said_some : {A : Type 0} → (value : List ℕ → A) (n m : ℕ) (bytes : List ℕ) (j : ℕ) → are_digits n m (take j bytes) ≡ true → prefix (digits_as value n m) bytes j ≡ Some (value (take j bytes), drop j bytes)
-unfolding digits_as
-said_some value n m bytes j e = rw e refl
+said true value n m bytes j e = rw e refl
+said false value n m bytes j e = rw e refl
 
 -- as many digits as are there, up to m
 abbrev pub run_of : {A : Type 0} → (List ℕ → A) → ℕ → List ℕ → A × List ℕ
@@ -109,25 +106,23 @@ taken_digits value n m bytes le =
     let c = digit_count bytes in
     let short : c ≤ length bytes = prefix_len-le-length is_ascii_digit bytes in
     elim (cases_lt c n) [
-      | inl few ↦ rw (lt-leb n c few) (greatest_none (prefix (digits_as value n m) bytes) (length bytes) (λ j a. said_none value n m bytes j (shape_at n m bytes j a ∙ too_few n m c j few)))
+      | inl few ↦ rw (lt-leb n c few) (greatest_none (prefix (digits_as value n m) bytes) (length bytes) (λ j a. said false value n m bytes j (shape_at n m bytes j a ∙ grind (arith, nat_tests))))
       | inr enough ↦
           rw (le-leb n c enough)
           (greatest_is (prefix (digits_as value n m) bytes) (run_of value (min c m) bytes) (length bytes) (min c m) (omega arith)
-          (said_some value n m bytes (min c m) (shape_at n m bytes (min c m) (omega arith) ∙ within n m c (min c m) (omega arith) (omega arith) (omega arith)))
-          (λ j a b. said_none value n m bytes j (shape_at n m bytes j b ∙ too_long n m c j a)))
-    ]
-
-exactly : (n c : ℕ) (bytes : List ℕ) → cond (nat_le n c) (Some (run_of (digits_value 10) (min c n) bytes)) None ≡ cond (nat_le n c) (Some (run_of (digits_value 10) n bytes)) None
-exactly n c bytes =
-    elim (cases_lt c n) [
-      | inl few ↦ rw (lt-leb n c few) refl
-      | inr enough ↦ let e : min c n ≡ n = omega arith in rw e refl
+          (said true value n m bytes (min c m) (shape_at n m bytes (min c m) (omega arith) ∙ grind (arith, nat_tests)))
+          (λ j a b. said false value n m bytes j (shape_at n m bytes j b ∙ grind (arith, nat_tests))))
     ]
 
 -- exactly n digits
 pub taken_exactly : (n : ℕ) (bytes : List ℕ) → taken (digits_between n n) bytes ≡ digits n bytes
 unfolding digits
-taken_exactly n bytes = taken_digits (digits_value 10) n n bytes (omega arith) ∙ exactly n (digit_count bytes) bytes
+taken_exactly n bytes =
+    taken_digits (digits_value 10) n n bytes (omega arith)
+    ∙ elim (cases_lt (digit_count bytes) n) [
+      | inl few ↦ rw (lt-leb n (digit_count bytes) few) refl
+      | inr enough ↦ let e : min (digit_count bytes) n ≡ n = omega arith in rw e refl
+    ]
 
 one_or_two : (c : ℕ) (bytes : List ℕ) → cond (nat_le 1 c) (Some (run_of (digits_value 10) (min c 2) bytes)) None ≡ or_before (cond (nat_le 2 c) (Some (run_of (digits_value 10) 2 bytes)) None) (cond (nat_le 1 c) (Some (run_of (digits_value 10) 1 bytes)) None)
 one_or_two c bytes =

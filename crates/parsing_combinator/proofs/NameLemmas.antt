@@ -1,159 +1,140 @@
--- Names, none of which begins with an earlier one: what is taken is the first that is there.
-use Rattle.std.proofs.Common.{◌≡◌, ℕ, ◌<◌, ◌≤◌, ◌&&◌, Bool, true, false, not, List, [], ◌∷◌, ◌==◌, cond, get_or, length, take, drop, Some, None, refl, sym, ap, ◌∙◌, arith}
+-- Names of a table: all of one length, or told by their first three letters.
+use Rattle.std.proofs.Common.{◌≡◌, ℕ, ◌<◌, ◌≤◌, ◌&&◌, Bool, true, false, List, [], ◌∷◌, ◌==◌, get_or, length, take, drop, Option, Some, None, inl, inr, refl, sym, ap, ◌∙◌, arith}
+use Rattle.std.specs.Prelude.{nat_le, option_map}
+use Rattle.std.specs.Option.{is_none}
+use Rattle.std.specs.Int.Bits.{bit_or}
 use Rattle.std.specs.Char.{to_ascii_lowercase}
-use Rattle.std.proofs.lemmas.Bool.{and_parts, eqb-true, false_from_ne_true, not-true, true≢false}
+use Rattle.std.proofs.lemmas.Bool.{agree_below_at, and_parts, cases_eq, cases_lt, eqb-true, le-leb, leb-true, false_from_ne_true}
 use Rattle.std.proofs.lemmas.Bool.Decides.{nat_tests}
-use Rattle.std.proofs.lemmas.List.{length-map, length-take-le, length-take, take-map, take-take}
+use Rattle.std.proofs.lemmas.List.{get_or-take, length-map, length-take-le, length-take}
+use Rattle.std.proofs.Math.ListN.{get_or-map}
 use Rattle.std.proofs.lemmas.Slice.Eq.{bytes_eq-Decides}
-use Rattle.parsing_combinator.specs.Shape.{prefix, taken, nothing}
-use Rattle.parsing_combinator.specs.Names.{compared, is_name, begins, named, found, of_letter, long_months, long_weekdays, short_months, short_weekdays, periods, period}
-use Rattle.parsing_combinator.proofs.Longest.{greatest_is, taken_same, taken_nothing}
-
--- no entry begins with an earlier one
-abbrev pub none_begins : {A : Type 0} → Bool → List ℕ → List (List ℕ × A) → Bool
-none_begins b name [] = true
-none_begins b name (entry ∷ entries) = not (begins b name entry.0) && none_begins b name entries
-
-abbrev pub apart : {A : Type 0} → Bool → List (List ℕ × A) → Bool
-apart b [] = true
-apart b (entry ∷ entries) = none_begins b entry.0 entries && apart b entries
+use Rattle.parsing_combinator.specs.Shape.{prefix, taken}
+use Rattle.parsing_combinator.specs.Names.{compared, is_name, begins, named, letters, with_letters, form, said, long_months, long_weekdays, short_months, short_weekdays, periods, period}
+use Rattle.parsing_combinator.proofs.Longest.{greatest_at, greatest_none, taken_same}
 
 same_if : (b : Bool) (xs ys : List ℕ) → is_name b xs ys ≡ true → compared b xs ≡ compared b ys
 same_if b xs ys e = (bytes_eq-Decides (compared b xs) (compared b ys)).0 e
 
-name_if : (b : Bool) (xs ys : List ℕ) → compared b xs ≡ compared b ys → is_name b xs ys ≡ true
-name_if b xs ys e = (bytes_eq-Decides (compared b xs) (compared b ys)).1 e
-
 -- a name has the length of every text that is it
-is_name_length : (b : Bool) (name text : List ℕ) → is_name b name text ≡ true → length name ≡ length text
+pub is_name_length : (b : Bool) (name text : List ℕ) → is_name b name text ≡ true → length name ≡ length text
 is_name_length true name text e = ap length (same_if true name text e)
 is_name_length false name text e = sym (length-map name to_ascii_lowercase) ∙ ap length (same_if false name text e) ∙ length-map text to_ascii_lowercase
 
-compared_take : (b : Bool) (k : ℕ) (xs : List ℕ) → compared b (take k xs) ≡ take k (compared b xs)
-compared_take true k xs = refl
-compared_take false k xs = sym (take-map to_ascii_lowercase k xs)
+-- ---- names of one length
 
--- a text that begins with a name, and is another one: the other begins with the name
-carried : (b : Bool) (name other bytes : List ℕ) (j : ℕ) → length name ≤ j → begins b name bytes ≡ true → is_name b other (take j bytes) ≡ true → begins b name other ≡ true
-unfolding begins
-carried b name other bytes j le starts is =
-    let k = length name in
-    let e : compared b (take k other) ≡ compared b (take k bytes) =
-    compared_take b k other ∙ ap (take k) (same_if b other (take j bytes) is) ∙ sym (compared_take b k (take j bytes)) ∙ ap (compared b) (take-take k j bytes le) in
-    name_if b name (take k other) (same_if b name (take k bytes) starts ∙ sym e)
+abbrev pub are_even : {A : Type 0} → ℕ → List (List ℕ × A) → Bool
+are_even n [] = true
+are_even n (entry ∷ entries) = (length entry.0 == n) && are_even n entries
 
-no_later : {A : Type 0} → (b : Bool) (name : List ℕ) (entries : List (List ℕ × A)) (bytes : List ℕ) (j : ℕ) → none_begins b name entries ≡ true → length name ≤ j → begins b name bytes ≡ true → named b entries (take j bytes) ≡ None
+named_even : {A : Type 0} → (b : Bool) (n : ℕ) (entries : List (List ℕ × A)) (text : List ℕ) → are_even n entries ≡ true → ¬ (length text ≡ n) → named b entries text ≡ None
 unfolding named
-no_later b name [] bytes j none le starts = refl
-no_later b name (entry ∷ entries) bytes j none le starts =
-    let first = not-true (begins b name entry.0) (and_parts _ _ none).0 in
-    let other : is_name b entry.0 (take j bytes) ≡ false = false_from_ne_true _ (λ is. true≢false (sym (carried b name entry.0 bytes j le starts is) ∙ first)) in
-    rw other (no_later b name entries bytes j (and_parts _ _ none).1 le starts)
+named_even b n [] text even other = refl
+named_even b n (entry ∷ entries) text even other =
+    let parts = and_parts _ _ even in
+    let no : is_name b entry.0 text ≡ false = false_from_ne_true _ (λ is. other (sym (is_name_length b entry.0 text is) ∙ eqb-true _ _ parts.0)) in
+    rw no (named_even b n entries text parts.1 other)
 
-long_enough : (b : Bool) (name bytes : List ℕ) → begins b name bytes ≡ true → length name ≤ length bytes
-unfolding begins
-long_enough b name bytes starts =
-    let e = is_name_length b name (take (length name) bytes) starts in
-    let f = length-take (length name) bytes in
-    omega (arith, e, f)
+-- what is taken has that length
+pub taken_even : {A : Type 0} → (b : Bool) (n : ℕ) (entries : List (List ℕ × A)) (bytes : List ℕ) → are_even n entries ≡ true → taken (named b entries) bytes ≡ prefix (named b entries) bytes n
+unfolding taken
+taken_even b n entries bytes even =
+    let none : (j : ℕ) → ¬ (length (take j bytes) ≡ n) → prefix (named b entries) bytes j ≡ None = λ j other. ap (option_map (λ x. (x, drop j bytes))) (named_even b n entries (take j bytes) even other) in
+    elim (cases_lt (length bytes) n) [
+      | inl few ↦ greatest_none (prefix (named b entries) bytes) (length bytes) (λ j le. none j (λ e. omega (arith, length-take-le j bytes le))) ∙ sym (none n (λ e. omega (arith, length-take n bytes)))
+      | inr enough ↦ greatest_at (prefix (named b entries) bytes) (length bytes) n enough (λ j le other. none j (λ e. other (omega (arith, length-take-le j bytes le))))
+    ]
 
-other_length : (b : Bool) (name bytes : List ℕ) (j : ℕ) → length name < j → j ≤ length bytes → is_name b name (take j bytes) ≡ false
-other_length b name bytes j lt le =
-    false_from_ne_true _ (λ is. let e = is_name_length b name (take j bytes) is in let f = length-take-le j bytes le in omega (arith, e, f))
+-- ---- by the first letters
 
--- a text that is a name begins with it
-begins_if : (b : Bool) (name bytes : List ℕ) (j : ℕ) → j ≤ length bytes → is_name b name (take j bytes) ≡ true → begins b name bytes ≡ true
-unfolding begins
-begins_if b name bytes j le is =
-    let e = is_name_length b name (take j bytes) is in
-    let f = length-take-le j bytes le in
-    let g : length name ≡ j = omega (arith, e, f) in
-    rw g is
+fold_lower : (c : ℕ) → bit_or (to_ascii_lowercase c) 32 ≡ bit_or c 32
+fold_lower c =
+    elim (cases_lt c 91) [
+      | inl lt ↦ eqb-true _ _ (agree_below_at (λ (x : ℕ). bit_or (to_ascii_lowercase x) 32 == bit_or x 32) (λ _. true) 91 c refl lt)
+      | inr above ↦ let same : to_ascii_lowercase c ≡ c = grind (arith, nat_tests) in rw same refl
+    ]
 
-not_here : {A : Type 0} → (b : Bool) (entry : List ℕ × A) (entries : List (List ℕ × A)) (bytes : List ℕ) (j : ℕ) → begins b entry.0 bytes ≡ false → j ≤ length bytes → named b (entry ∷ entries) (take j bytes) ≡ named b entries (take j bytes)
+folded_at : (b : Bool) (k : ℕ) (text : List ℕ) → bit_or (get_or (compared b text) k 0) 32 ≡ bit_or (get_or text k 0) 32
+folded_at true k text = refl
+folded_at false k text = ap (λ (c : ℕ). bit_or c 32) (get_or-map to_ascii_lowercase text k 0) ∙ fold_lower (get_or text k 0)
+
+-- a name that is at the start has the first letters that are there
+same_letters : (b : Bool) (name bytes : List ℕ) (j : ℕ) → 3 ≤ length name → j ≤ length bytes → is_name b name (take j bytes) ≡ true → letters name ≡ letters bytes
+same_letters b name bytes j some le is =
+    let long : length name ≡ j = omega (arith, is_name_length b name (take j bytes) is, length-take-le j bytes le) in
+    let same = λ (k : ℕ) (lt : k < j).
+    sym (folded_at b k name) ∙ ap (λ (t : List ℕ). bit_or (get_or t k 0) 32) (same_if b name (take j bytes) is) ∙ folded_at b k (take j bytes) ∙ ap (λ (c : ℕ). bit_or c 32) (get_or-take j bytes k 0 lt) in
+    rw (le-leb 3 (length name) some, le-leb 3 (length bytes) (omega arith), same 0 (omega arith), same 1 (omega arith), same 2 (omega arith)) refl
+
+-- names in a form, each told by its first three letters
+abbrev pub formed : {A : Type 0} → Bool → List (List ℕ × A) → List (List ℕ × A)
+formed is_long [] = []
+formed is_long (entry ∷ entries) = (form is_long entry.0, entry.1) ∷ formed is_long entries
+
+abbrev pub are_told : {A : Type 0} → Bool → List (List ℕ × A) → Bool
+are_told is_long [] = true
+are_told is_long (entry ∷ entries) =
+    (nat_le 3 (length (form is_long entry.0)) && letters (form is_long entry.0) == letters entry.0) && (is_none (with_letters (letters entry.0) entries) && are_told is_long entries)
+
+-- an entry alone, if there is one
+abbrev pub alone : {A : Type 0} → Bool → Option (List ℕ × A) → List (List ℕ × A)
+alone is_long None = []
+alone is_long (Some entry) = (form is_long entry.0, entry.1) ∷ []
+
+none_if : {A : Type 0} → (o : Option A) → is_none o ≡ true → o ≡ None
+none_if None e = refl
+none_if (Some x) e = absurd (cc)
+
+named_told : {A : Type 0} → (b : Bool) (is_long : Bool) (entries : List (List ℕ × A)) (bytes : List ℕ) (j : ℕ) → j ≤ length bytes → are_told is_long entries ≡ true
+    → named b (formed is_long entries) (take j bytes) ≡ named b (alone is_long (with_letters (letters bytes) entries)) (take j bytes)
 unfolding named
-not_here b entry entries bytes j other_start le =
-    let other : is_name b entry.0 (take j bytes) ≡ false = false_from_ne_true _ (λ is. true≢false (sym (begins_if b entry.0 bytes j le is) ∙ other_start)) in
-    rw other refl
+named_told b is_long [] bytes j le told = refl
+named_told b is_long (entry ∷ entries) bytes j le told =
+    let parts = and_parts _ _ told in
+    let name = and_parts _ _ parts.0 in
+    let others = and_parts _ _ parts.1 in
+    let more = named_told b is_long entries bytes j le others.1 in
+    elim (cases_eq (letters entry.0) (letters bytes)) [
+      | inl same ↦
+          let none : with_letters (letters bytes) entries ≡ None = ap (λ (n : ℕ). with_letters n entries) (sym same) ∙ none_if (with_letters (letters entry.0) entries) others.0 in
+          let test : (letters entry.0 == letters bytes) ≡ true = grind (arith, nat_tests) in
+          rw (test, more, none) refl
+      | inr other ↦
+          let test : (letters entry.0 == letters bytes) ≡ false = grind (arith, nat_tests) in
+          let no : is_name b (form is_long entry.0) (take j bytes) ≡ false = false_from_ne_true _ (λ is. other (sym (eqb-true _ _ name.1) ∙ same_letters b (form is_long entry.0) bytes j (leb-true _ _ name.0) le is)) in
+          rw (test, no) more
+    ]
 
-above_none : {A : Type 0} → (b : Bool) (entry : List ℕ × A) (entries : List (List ℕ × A)) (bytes : List ℕ) (j : ℕ) → none_begins b entry.0 entries ≡ true → begins b entry.0 bytes ≡ true → length entry.0 < j → j ≤ length bytes → prefix (named b (entry ∷ entries)) bytes j ≡ None
-unfolding named
-above_none b entry entries bytes j none starts lt le =
-    rw (other_length b entry.0 bytes j lt le, no_later b entry.0 entries bytes j none (omega arith) starts) refl
-
-here_some : {A : Type 0} → (b : Bool) (entry : List ℕ × A) (entries : List (List ℕ × A)) (bytes : List ℕ) → begins b entry.0 bytes ≡ true → prefix (named b (entry ∷ entries)) bytes (length entry.0) ≡ Some (entry.1, drop (length entry.0) bytes)
+taken_alone : {A : Type 0} → (b : Bool) (is_long : Bool) (o : Option (List ℕ × A)) (bytes : List ℕ) → taken (named b (alone is_long o)) bytes ≡ said b is_long o bytes
 unfolding named begins
-here_some b entry entries bytes starts = rw starts refl
+taken_alone b is_long None bytes = taken_even b 0 [] bytes refl
+taken_alone b is_long (Some entry) bytes =
+    let n = length (form is_long entry.0) in
+    let even : ((n == n) && true) ≡ true = grind (arith, nat_tests) in
+    taken_even b n ((form is_long entry.0, entry.1) ∷ []) bytes even
 
-found_here : {A : Type 0} → (b t : Bool) (entry : List ℕ × A) (entries : List (List ℕ × A)) (bytes : List ℕ) → begins b entry.0 bytes ≡ t → none_begins b entry.0 entries ≡ true → taken (named b entries) bytes ≡ found b entries bytes → taken (named b (entry ∷ entries)) bytes ≡ found b (entry ∷ entries) bytes
-unfolding found taken
-found_here b true entry entries bytes e none more =
-    rw e (greatest_is (prefix (named b (entry ∷ entries)) bytes) (entry.1, drop (length entry.0) bytes) (length bytes) (length entry.0) (long_enough b entry.0 bytes e) (here_some b entry entries bytes e) (λ j lt le. above_none b entry entries bytes j none e lt le))
-found_here b false entry entries bytes e none more =
-    rw e (taken_same (named b (entry ∷ entries)) (named b entries) bytes (λ j le. not_here b entry entries bytes j e le) ∙ more)
-
-empty_named : {A : Type 0} → (b : Bool) (text : List ℕ) → named {A = A} b [] text ≡ nothing text
-unfolding named nothing
-empty_named b text = refl
-
-pub taken_named : {A : Type 0} → (b : Bool) (entries : List (List ℕ × A)) (bytes : List ℕ) → apart b entries ≡ true → taken (named b entries) bytes ≡ found b entries bytes
-unfolding found
-taken_named b [] bytes e = taken_same (named b []) nothing bytes (λ j le. empty_named b (take j bytes)) ∙ taken_nothing bytes
-taken_named b (entry ∷ entries) bytes e =
-    found_here b (begins b entry.0 bytes) entry entries bytes refl (and_parts _ _ e).0 (taken_named b entries bytes (and_parts _ _ e).1)
-
--- no name is empty
-abbrev pub all_some : {A : Type 0} → List (List ℕ × A) → Bool
-all_some [] = true
-all_some (entry ∷ entries) = not (length entry.0 == 0) && all_some entries
-
-first_is : (b : Bool) (name bytes : List ℕ) → not (length name == 0) ≡ true → begins b name bytes ≡ true → to_ascii_lowercase (get_or name 0 0) ≡ to_ascii_lowercase (get_or bytes 0 0)
-unfolding begins
-first_is b [] bytes some starts = absurd (cc)
-first_is true (x ∷ xs) [] some starts = absurd (cc)
-first_is false (x ∷ xs) [] some starts = absurd (cc)
-first_is true (x ∷ xs) (c ∷ cs) some starts = ap to_ascii_lowercase (eqb-true x c (and_parts _ _ starts).0)
-first_is false (x ∷ xs) (c ∷ cs) some starts = eqb-true _ _ (and_parts _ _ starts).0
-
-kept_or_not : {A : Type 0} → (b p : Bool) (entry : List ℕ × A) (entries same : List (List ℕ × A)) (bytes : List ℕ) → (p ≡ false → begins b entry.0 bytes ≡ false) → found b entries bytes ≡ found b same bytes → found b (entry ∷ entries) bytes ≡ found b (cond p (entry ∷ same) same) bytes
-unfolding found
-kept_or_not b true entry entries same bytes other e = rw e refl
-kept_or_not b false entry entries same bytes other e = rw (other refl) e
-
--- only the names with the first letter that is there are at the start
-found_by_letter : {A : Type 0} → (b : Bool) (entries : List (List ℕ × A)) (bytes : List ℕ) → all_some entries ≡ true → found b entries bytes ≡ found b (of_letter (to_ascii_lowercase (get_or bytes 0 0)) entries) bytes
-found_by_letter b [] bytes some = refl
-found_by_letter b (entry ∷ entries) bytes some =
-    kept_or_not b (to_ascii_lowercase (get_or entry.0 0 0) == to_ascii_lowercase (get_or bytes 0 0)) entry entries _ bytes
-    (λ other. false_from_ne_true _ (λ starts. let e = first_is b entry.0 bytes (and_parts _ _ some).0 starts in grind (arith, nat_tests)))
-    (found_by_letter b entries bytes (and_parts _ _ some).1)
+taken_told : {A : Type 0} → (is_long : Bool) (entries : List (List ℕ × A)) → are_told is_long entries ≡ true → (b : Bool) (bytes : List ℕ) → taken (named b (formed is_long entries)) bytes ≡ said b is_long (with_letters (letters bytes) entries) bytes
+taken_told is_long entries told b bytes =
+    let one = with_letters (letters bytes) entries in
+    taken_same (named b (formed is_long entries)) (named b (alone is_long one)) bytes (λ j le. named_told b is_long entries bytes j le told) ∙ taken_alone b is_long one bytes
 
 -- ---- the names
 
--- a table of which no name begins with an earlier one, with the case of letters and without it
-taken_table : {A : Type 0} → (entries : List (List ℕ × A)) → apart true entries ≡ true → apart false entries ≡ true → (b : Bool) (bytes : List ℕ) → taken (named b entries) bytes ≡ found b entries bytes
-taken_table entries exact alike true bytes = taken_named true entries bytes exact
-taken_table entries exact alike false bytes = taken_named false entries bytes alike
+pub taken_long_month : (b : Bool) (bytes : List ℕ) → taken (named b long_months) bytes ≡ said b true (with_letters (letters bytes) long_months) bytes
+taken_long_month = taken_told true long_months refl
 
-pub taken_long_month : (b : Bool) (bytes : List ℕ) → taken (named b long_months) bytes ≡ found b (of_letter (to_ascii_lowercase (get_or bytes 0 0)) long_months) bytes
-unfolding begins
-taken_long_month b bytes = taken_table long_months refl refl b bytes ∙ found_by_letter b long_months bytes refl
+pub taken_short_month : (b : Bool) (bytes : List ℕ) → taken (named b short_months) bytes ≡ said b false (with_letters (letters bytes) long_months) bytes
+taken_short_month = taken_told false long_months refl
 
-pub taken_short_month : (b : Bool) (bytes : List ℕ) → taken (named b short_months) bytes ≡ found b (of_letter (to_ascii_lowercase (get_or bytes 0 0)) short_months) bytes
-unfolding begins
-taken_short_month b bytes = taken_table short_months refl refl b bytes ∙ found_by_letter b short_months bytes refl
+pub taken_long_weekday : (b : Bool) (bytes : List ℕ) → taken (named b long_weekdays) bytes ≡ said b true (with_letters (letters bytes) long_weekdays) bytes
+taken_long_weekday = taken_told true long_weekdays refl
 
-pub taken_long_weekday : (b : Bool) (bytes : List ℕ) → taken (named b long_weekdays) bytes ≡ found b long_weekdays bytes
-unfolding begins
-taken_long_weekday = taken_table long_weekdays refl refl
+pub taken_short_weekday : (b : Bool) (bytes : List ℕ) → taken (named b short_weekdays) bytes ≡ said b false (with_letters (letters bytes) long_weekdays) bytes
+taken_short_weekday = taken_told false long_weekdays refl
 
-pub taken_short_weekday : (b : Bool) (bytes : List ℕ) → taken (named b short_weekdays) bytes ≡ found b short_weekdays bytes
-unfolding begins
-taken_short_weekday = taken_table short_weekdays refl refl
-
-pub taken_period : (upper sensitive : Bool) (bytes : List ℕ) → taken (period upper sensitive) bytes ≡ found (upper && sensitive) periods bytes
-unfolding period begins
-taken_period upper sensitive = taken_table periods refl refl (upper && sensitive)
+pub taken_period : (upper sensitive : Bool) (bytes : List ℕ) → taken (period upper sensitive) bytes ≡ prefix (named (upper && sensitive) periods) bytes 2
+unfolding period
+taken_period upper sensitive bytes = taken_even (upper && sensitive) 2 periods bytes refl
 
 -- a text shorter than a name doesn't begin with it
 pub short_text : (b : Bool) (name bytes : List ℕ) → length bytes < length name → is_name b name (take (length name) bytes) ≡ false

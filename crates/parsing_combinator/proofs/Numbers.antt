@@ -15,20 +15,21 @@ pub record Next (prefix : List ℕ) (i value : ℕ) : Type 0 where
   pub high : get_or prefix i 0 ≤ 57
   pub more : value * 10 + (get_or prefix i 0 - 48) ≡ digits_value 10 (take (i + 1) prefix)
   pub bound : value * 10 + (get_or prefix i 0 - 48) < 10 ^ (i + 1)
-  pub fits : value * 10 + 9 < 10 ^ 23
 
 pub below_most : (most i value : ℕ) → i < most → value < 10 ^ i → value * 10 + 9 < 10 ^ most
 below_most most i value lt below =
     let least : 10 ^ (i + 1) ≤ 10 ^ most = pow-le-pow_right {n = 10} (lit< tt) {i = i + 1} {j = most} (omega arith) in
     omega (arith, pow-add 10 i 1, below, least)
 
-pub next_digit : (prefix : List ℕ) (i value : ℕ) → length prefix ≤ 23 → digit_count prefix ≡ length prefix → i < length prefix → value ≡ digits_value 10 (take i prefix) → value < 10 ^ i → Next prefix i value
-next_digit prefix i value short all lt is below =
+pub next_digit : (prefix : List ℕ) (i value : ℕ) → digit_count prefix ≡ length prefix → i < length prefix → value ≡ digits_value 10 (take i prefix) → value < 10 ^ i → Next prefix i value
+next_digit prefix i value all lt is below =
     let here = digit_here (get_or prefix i 0) (prefix_len_passes is_ascii_digit prefix i 0 (omega arith)) in
     record {
       low = here.0;
       high = here.1;
       more = omega (arith, digits_value_more 10 prefix i lt, here.2, is);
       bound = omega (arith, pow-add 10 i 1, below, here.1);
-      fits = below_most 23 i value (omega (arith, lt, short)) below;
     }
+
+pub nine_fit : (x k : ℕ) → x < 10 ^ k → k ≤ 9 → x < 1_000_000_000
+nine_fit x k lt le = omega (arith, pow-le-pow_right {n = 10} (lit< tt) {i = k} {j = 9} le)

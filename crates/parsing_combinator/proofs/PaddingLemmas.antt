@@ -2,11 +2,12 @@
 use Rattle.std.proofs.Common.{◌≡◌, ℕ, zero, suc, ◌+◌, ◌-◌, ◌*◌, ◌%◌, ◌^◌, ◌<◌, ◌≤◌, eqb, List, [], ◌∷◌, ◌++◌, length, get_or, take, drop, replicate, true, Fits, w64, refl, sym, ap, ◌∙◌, arith, lit<, take-append-drop, length-append}
 use Rattle.std.specs.Int.Bits.{bit_and}
 use Rattle.std.proofs.lemmas.Bool.{agree_below_at, eqb-true}
-use Rattle.std.proofs.lemmas.List.{length-take-le, take_all, drop_all, take-take, drop_more, get_or-drop, length-drop}
+use Rattle.std.proofs.lemmas.List.{length-take-le, take_all, take-take, drop_more, get_or-drop, length-drop}
 use Rattle.std.proofs.lemmas.Simd.{length-replicate}
 use Rattle.std.proofs.lemmas.Nat.{pow-add, and_mask}
 use Rattle.std.proofs.Math.Nat.{add-mul-mod_self_right, mod-eq_of_lt, pow-le-pow_right}
 use Rattle.parsing_combinator.specs.Pieces.{digit_count}
+use Rattle.parsing_combinator.specs.declared.chunk.TheConstants.{FIRST_BYTES, ZEROS_AFTER}
 use Rattle.parsing_combinator.specs.Chunks.{chunk, padded, AreEightDigits}
 use Rattle.parsing_combinator.proofs.Decimal.{count_least}
 use Rattle.parsing_combinator.proofs.DigitChunks.{eight_there}
@@ -24,14 +25,13 @@ unfolding chunk
 chunk_below [] fit = lit< tt
 chunk_below (b ∷ bs) fit = one_more (chunk bs) b (2 ^ (8 * length bs)) (2 ^ (8 * suc (length bs))) (chunk_below bs (λ k. fit (suc k))) (fit 0) (byte_power (length bs))
 
-pub short_fits : (bytes : List ℕ) → length bytes ≤ 7 → ((k : ℕ) → get_or bytes k 0 < 256) → chunk bytes < 2 ^ 56
-short_fits bytes le fit = omega (arith, chunk_below bytes fit, (let most : 2 ^ (8 * length bytes) ≤ 2 ^ 56 = pow-le-pow_right {n = 2} (lit< tt) {i = 8 * length bytes} {j = 56} (omega arith) in most))
-
 pub drop_fit : (n : ℕ) (bytes : List ℕ) → ((k : ℕ) → get_or bytes k 0 < 256) → (k : ℕ) → get_or (drop n bytes) k 0 < 256
 drop_fit n bytes fit k = rw (get_or-drop n bytes k 0) (fit (n + k))
 
 pub drop_fits : (n : ℕ) (bytes : List ℕ) → length bytes < 8 → ((k : ℕ) → get_or bytes k 0 < 256) → chunk (drop n bytes) < 2 ^ 56
-drop_fits n bytes lt fit = short_fits (drop n bytes) (omega (arith, length-drop n bytes)) (drop_fit n bytes fit)
+drop_fits n bytes lt fit =
+    let most : 2 ^ (8 * length (drop n bytes)) ≤ 2 ^ 56 = pow-le-pow_right {n = 2} (lit< tt) {i = 8 * length (drop n bytes)} {j = 56} (omega (arith, length-drop n bytes)) in
+    omega (arith, chunk_below (drop n bytes) (drop_fit n bytes fit), most)
 
 -- one byte more before
 pub chunk_drop : (n : ℕ) (bytes : List ℕ) → n < length bytes → chunk (drop n bytes) ≡ chunk (drop (n + 1) bytes) * 256 + get_or bytes n 0
@@ -39,19 +39,13 @@ unfolding chunk
 chunk_drop n bytes lt = ap chunk (drop_more bytes n 0 lt)
 
 -- the table of ones
-abbrev pub ones : List ℕ
-ones = 0 ∷ 255 ∷ 65_535 ∷ 16_777_215 ∷ 4_294_967_295 ∷ 1_099_511_627_775 ∷ 281_474_976_710_655 ∷ 72_057_594_037_927_935 ∷ 18_446_744_073_709_551_615 ∷ []
-
-pub ones_at : (n : ℕ) → n < 9 → get_or ones n 0 ≡ 2 ^ (8 * n) - 1
-ones_at n h = eqb-true _ _ (agree_below_at (λ (k : ℕ). eqb (get_or ones k 0) (2 ^ (8 * k) - 1)) (λ _. true) 9 n refl h)
+pub ones_at : (n : ℕ) → n < 9 → get_or FIRST_BYTES n 0 ≡ 2 ^ (8 * n) - 1
+ones_at n h = eqb-true _ _ (agree_below_at (λ (k : ℕ). eqb (get_or FIRST_BYTES k 0) (2 ^ (8 * k) - 1)) (λ _. true) 9 n refl h)
 
 -- the table of zeros
-abbrev pub zeros : List ℕ
-zeros = 3_472_328_296_227_680_304 ∷ 3_472_328_296_227_680_256 ∷ 3_472_328_296_227_667_968 ∷ 3_472_328_296_224_522_240 ∷ 3_472_328_295_419_215_872 ∷ 3_472_328_089_260_785_664 ∷ 3_472_275_312_702_652_416 ∷ 3_458_764_513_820_540_928 ∷ 0 ∷ []
-
-pub zeros_at : (n : ℕ) → n < 9 → get_or zeros n 0 ≡ chunk (replicate (8 - n) 48) * 2 ^ (8 * n)
+pub zeros_at : (n : ℕ) → n < 9 → get_or ZEROS_AFTER n 0 ≡ chunk (replicate (8 - n) 48) * 2 ^ (8 * n)
 unfolding chunk
-zeros_at n h = eqb-true _ _ (agree_below_at (λ (k : ℕ). eqb (get_or zeros k 0) (chunk (replicate (8 - k) 48) * 2 ^ (8 * k))) (λ _. true) 9 n refl h)
+zeros_at n h = eqb-true _ _ (agree_below_at (λ (k : ℕ). eqb (get_or ZEROS_AFTER k 0) (chunk (replicate (8 - k) 48) * 2 ^ (8 * k))) (λ _. true) 9 n refl h)
 
 appended : (x y b p q : ℕ) → q ≡ p * 256 → (x + y * p) * 256 + b ≡ x * 256 + b + y * q
 appended x y b p q e = rw e (omega arith)
@@ -70,9 +64,6 @@ zeros_fit : (m k : ℕ) → get_or (replicate m 48) k 0 < 256
 zeros_fit zero k = lit< tt
 zeros_fit (suc m) zero = lit< tt
 zeros_fit (suc m) (suc k) = zeros_fit m k
-
-masked_sum : (w x y p : ℕ) → w ≡ x + y * p → x < p → w % p ≡ x
-masked_sum w x y p e lt = rw e (add-mul-mod_self_right x y p ∙ mod-eq_of_lt lt)
 
 module _ (bytes : List ℕ) (k : ℕ) (few : k ≤ 8) (within : k ≤ length bytes) (fit : (j : ℕ) → get_or bytes j 0 < 256) where
   long : length (take k bytes) ≡ k
@@ -97,7 +88,7 @@ module _ (bytes : List ℕ) (k : ℕ) (few : k ≤ 8) (within : k ≤ length byt
       let parts : chunk (take 8 bytes) ≡ chunk (take k bytes) + chunk (drop k (take 8 bytes)) * 2 ^ (8 * k) =
       ap chunk (sym (take-append-drop k (take 8 bytes))) ∙ chunk_append (take k (take 8 bytes)) (drop k (take 8 bytes)) ∙ rw prefix (rw long refl) in
       let below : chunk (take k bytes) < 2 ^ (8 * k) = rw long at (chunk_below (take k bytes) (take_fit k bytes fit)) in
-      let mask : bit_and (chunk (take 8 bytes)) (2 ^ (8 * k) - 1) ≡ chunk (take k bytes) = and_mask (chunk (take 8 bytes)) (8 * k) ∙ masked_sum (chunk (take 8 bytes)) (chunk (take k bytes)) (chunk (drop k (take 8 bytes))) (2 ^ (8 * k)) parts below in
+      let mask : bit_and (chunk (take 8 bytes)) (2 ^ (8 * k) - 1) ≡ chunk (take k bytes) = and_mask (chunk (take 8 bytes)) (8 * k) ∙ ap (λ (n : ℕ). n % 2 ^ (8 * k)) parts ∙ add-mul-mod_self_right (chunk (take k bytes)) (chunk (drop k (take 8 bytes))) (2 ^ (8 * k)) ∙ mod-eq_of_lt below in
       rw mask (sym sum)
 
   below : chunk (padded k bytes) < 2 ^ 64

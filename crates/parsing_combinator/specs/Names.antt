@@ -1,5 +1,5 @@
 -- Names, and what each of them names.
-use Rattle.std.specs.Prelude.{ℕ, ◌&&◌, ◌==◌, Bool, true, false, List, [], ◌∷◌, map, length, get_or, take, drop, Option, Some, None, bytes_eq, codes, if◌then◌else◌}
+use Rattle.std.specs.Prelude.{ℕ, ◌+◌, ◌*◌, ◌&&◌, ◌==◌, Bool, true, false, List, [], ◌∷◌, map, length, get_or, take, drop, nat_le, Option, Some, None, option_map, bit_or, bytes_eq, codes, if◌then◌else◌}
 use Rattle.std.specs.Char.{to_ascii_lowercase}
 use Rattle.calendar_count.specs.declared.month.Month.{Month}
 use Rattle.calendar_count.specs.declared.month.Month.TheVariants as month
@@ -24,15 +24,23 @@ unfoldable pub named : {A : Type 0} → Bool → List (List ℕ × A) → Shape 
 named case_sensitive [] text = None
 named case_sensitive (entry ∷ entries) text = if is_name case_sensitive entry.0 text then Some entry.1 else named case_sensitive entries text
 
--- the first entry whose name is at the start
-unfoldable pub found : {A : Type 0} → Bool → List (List ℕ × A) → List ℕ → Option (A × List ℕ)
-found b [] bytes = None
-found b (entry ∷ entries) bytes = if begins b entry.0 bytes then Some (entry.1, drop (length entry.0) bytes) else found b entries bytes
+-- the first three letters in lower case, in one number, the first one lowest, and 0 where there are fewer
+abbrev pub letters : List ℕ → ℕ
+letters text = if nat_le 3 (length text) then bit_or (get_or text 0 0) 32 + bit_or (get_or text 1 0) 32 * 256 + bit_or (get_or text 2 0) 32 * 65_536 else 0
 
--- the entries whose names begin with a letter, whatever its case
-abbrev pub of_letter : {A : Type 0} → ℕ → List (List ℕ × A) → List (List ℕ × A)
-of_letter c [] = []
-of_letter c (entry ∷ entries) = if to_ascii_lowercase (get_or entry.0 0 0) == c then entry ∷ of_letter c entries else of_letter c entries
+-- the first entry whose name begins with these letters
+abbrev pub with_letters : {A : Type 0} → ℕ → List (List ℕ × A) → Option (List ℕ × A)
+with_letters number [] = None
+with_letters number (entry ∷ entries) = if letters entry.0 == number then Some entry else with_letters number entries
+
+-- a name as it is read: long, or its first three letters
+abbrev pub form : Bool → List ℕ → List ℕ
+form is_long name = if is_long then name else take 3 name
+
+-- what an entry says that is there
+abbrev pub said : {A : Type 0} → Bool → Bool → Option (List ℕ × A) → List ℕ → Option (A × List ℕ)
+said b is_long None bytes = None
+said b is_long (Some entry) bytes = option_map (λ x. (x, drop (length (form is_long entry.0)) bytes)) (if begins b (form is_long entry.0) bytes then Some entry.1 else None)
 
 -- ---- the names
 

@@ -15,6 +15,7 @@ type Chunk = u64;
 
 // The first eight bytes.
 #[inline(always)]
+#[tactic(auto, using(crate::proofs::Lanes::chunk_eight))]
 fn first_chunk(bytes: &[u8]) -> Option<(Chunk, &[u8])>
     ensures enough { IfSome result (λ x. 8 ≤ length bytes.now) }
     ensures few { IfNone result (length bytes.now < 8) }
@@ -57,6 +58,7 @@ fn eight_digits(bytes: &[u8]) -> Option<(u32, &[u8])>
 
 // The first eight bytes, or all of them where they are fewer.
 #[inline(always)]
+#[tactic(auto, using(std::proofs::lemmas::List::take_all))]
 fn chunk_of(bytes: &[u8]) -> Chunk
     ensures { result ≡ Chunks.chunk (take 8 bytes.now) }
 {
@@ -68,6 +70,7 @@ fn chunk_of(bytes: &[u8]) -> Chunk
 
 // All bytes, fewer than eight.
 #[inline(always)]
+#[tactic(auto, using(crate::proofs::PaddingLemmas::drop_fits, crate::proofs::PaddingLemmas::chunk_drop))]
 fn short_chunk(bytes: &[u8]) -> Chunk
     requires { length bytes.now < 8 }
     ensures { result ≡ Chunks.chunk bytes.now }
@@ -120,6 +123,7 @@ static ZEROS_AFTER: [Chunk; 9] = [
 
 /// The digit zero at each of eight places after the first so many.
 #[inline(always)]
+#[tactic(auto, using(crate::proofs::PaddingLemmas::zeros_at))]
 pub fn zeros_after(count: usize) -> u64
     requires { count ≤ 8 }
     ensures { result ≡ Chunks.chunk (replicate (8 - count) digit_zero) * 2 ^ (8 * count) }

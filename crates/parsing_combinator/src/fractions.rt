@@ -4,25 +4,23 @@ ghost use Rattle.std.specs.Str.Parse.{digits_value};
 ghost use Rattle.parsing_combinator.specs.Pieces as Pieces;
 
 use crate::cut::digit_run;
+use crate::wide::long_number;
 
 /// The number that at most nine digits write.
 #[inline(always)]
+#[tactic(auto, using(crate::proofs::Numbers::nine_fit))]
 pub fn number(prefix: &[u8]) -> u32
     requires short { length prefix.now ≤ 9 }
     requires all { Pieces.digit_count prefix.now ≡ length prefix.now }
     ensures value { result ≡ digits_value 10 prefix.now }
     ensures bound { result < 10 ^ length prefix.now }
 {
-    let mut value = 0;
-    for b in prefix {
-        value = value * 10 + u32::from(*b - b'0');
-    }
-    value
+    long_number(prefix) as u32
 }
 
 // The whole nanoseconds of a fraction with these digits.
 #[inline(always)]
-#[tactic(auto, using(crate::proofs::Decimal::count_prefix))]
+#[tactic(auto, using(crate::proofs::Decimal::count_prefix, crate::proofs::FractionDigits::nine_count, crate::proofs::FractionDigits::nine_value))]
 fn nanoseconds(run: &[u8]) -> u32
     requires { Pieces.digit_count run.now ≡ length run.now }
     ensures value { result ≡ Pieces.nanoseconds_of run.now }

@@ -26,4 +26,5 @@ pub use padding::{padded, padded_four, padded_two};
 pub use places::{four_digits_at, two_pairs_at};
 pub use signed::{century, offset_hour, timestamp, year};
 pub use strict::within;
+pub use wide::long_number;
 pub use zone::Zone;

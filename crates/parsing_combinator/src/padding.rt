@@ -9,7 +9,7 @@ use crate::{four_digits, one_digit, two_digits};
 use description_modifiers::Padding;
 
 /// `n` to `m` digits with zeros, `n` to `m` bytes with spaces, 1 to `m` digits with neither.
-#[tactic(auto, using(crate::proofs::Components::taken_padded))]
+#[tactic(auto, unfolding(crate::specs::Numbers::padded))]
 pub fn padded(padding: Padding, n: usize, m: usize, bytes: &[u8]) -> Option<(u32, &[u8])>
     requires some { 1 ≤ n }
     requires ordered { n ≤ m }
@@ -35,7 +35,6 @@ fn one_or_two_digits(bytes: &[u8]) -> Option<(u8, &[u8])>
 }
 
 #[cold]
-#[tactic(auto, using(crate::proofs::Components::taken_padded))]
 fn narrow(padding: Padding, bytes: &[u8]) -> Option<(u8, &[u8])>
     ensures taken { Pieces.cut_view result ≡ Shape.taken (Numbers.padded padding 2 2) bytes.now }
     ensures bound { IfSome result (λ x. x.0 < 100) }
@@ -46,7 +45,7 @@ fn narrow(padding: Padding, bytes: &[u8]) -> Option<(u8, &[u8])>
 
 /// Two digits with zeros, two bytes with spaces, one or two digits with neither.
 #[inline(always)]
-#[tactic(auto, using(crate::proofs::Components::taken_padded_exactly))]
+#[tactic(auto, using(crate::proofs::Longest::taken_exactly), unfolding(crate::specs::Numbers::padded))]
 pub fn padded_two(padding: Padding, bytes: &[u8]) -> Option<(u8, &[u8])>
     ensures taken { Pieces.cut_view result ≡ Shape.taken (Numbers.padded padding 2 2) bytes.now }
     ensures bound { IfSome result (λ x. x.0 < 100) }
@@ -60,7 +59,7 @@ pub fn padded_two(padding: Padding, bytes: &[u8]) -> Option<(u8, &[u8])>
 
 /// Four digits with zeros, four bytes with spaces, one to four digits with neither.
 #[inline(always)]
-#[tactic(auto, using(crate::proofs::Components::taken_padded_exactly))]
+#[tactic(auto, using(crate::proofs::Longest::taken_exactly), unfolding(crate::specs::Numbers::padded))]
 pub fn padded_four(padding: Padding, bytes: &[u8]) -> Option<(u32, &[u8])>
     ensures taken { Pieces.cut_view result ≡ Shape.taken (Numbers.padded padding 4 4) bytes.now }
     ensures bound { IfSome result (λ x. x.0 < 10_000) }

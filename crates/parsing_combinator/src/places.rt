@@ -7,6 +7,7 @@ ghost use Rattle.parsing_combinator.specs.Places.{HasPair, AreFour};
 
 // The numbers of the first two and of the last two of four digits, each in a byte, the first one lowest.
 #[inline(always)]
+#[tactic(auto, using(crate::proofs::AtPlaces::product))]
 pub(crate) fn pairs(digits: u32) -> (u8, u8)
     requires { AreFour digits }
     ensures first { result.0 ≡ digits % 256 * 10 + digits / 256 % 256 }

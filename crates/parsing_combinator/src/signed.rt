@@ -28,7 +28,7 @@ macro_rules! by_sign {
 
 /// A year: four digits, and where it is extended up to six after a sign.
 #[inline(always)]
-#[tactic(auto, using(crate::proofs::Components::taken_year))]
+#[tactic(auto, using(crate::proofs::SignLemmas::taken_signed_if, crate::proofs::Components::padded_none), unfolding(crate::specs::Numbers::year))]
 pub fn year(
     padding: Padding,
     mandatory: bool,
@@ -47,7 +47,7 @@ pub fn year(
 
 /// A century: after a sign two digits, and where it is extended up to four; without one at most
 /// two.
-#[tactic(auto, using(crate::proofs::Components::taken_century))]
+#[tactic(auto, using(crate::proofs::SignLemmas::taken_signed_if, crate::proofs::Components::padded_none), unfolding(crate::specs::Numbers::century))]
 pub fn century(
     padding: Padding,
     mandatory: bool,
@@ -66,7 +66,7 @@ pub fn century(
 
 /// The hours of an offset, two digits wide, with a sign before them, or without one where it is not mandatory.
 #[inline(always)]
-#[tactic(auto, using(crate::proofs::Components::taken_offset_hour))]
+#[tactic(auto, using(crate::proofs::SignLemmas::taken_signed_if, crate::proofs::Components::padded_none), unfolding(crate::specs::Numbers::offset_hour))]
 pub fn offset_hour(padding: Padding, mandatory: bool, bytes: &[u8]) -> Option<((bool, u8), &[u8])>
     ensures taken { Pieces.cut_view result
         ≡ Shape.taken (Numbers.offset_hour padding mandatory) bytes.now }
@@ -76,7 +76,7 @@ pub fn offset_hour(padding: Padding, mandatory: bool, bytes: &[u8]) -> Option<((
 }
 
 /// A Unix timestamp of at most so many digits, with a sign before them, or without one where it is not mandatory.
-#[tactic(auto, using(crate::proofs::Components::taken_timestamp))]
+#[tactic(auto, using(crate::proofs::SignLemmas::taken_signed_if, crate::proofs::SpaceLemmas::no_text), unfolding(crate::specs::Numbers::timestamp))]
 pub fn timestamp(mandatory: bool, most: usize, bytes: &[u8]) -> Option<((bool, u128), &[u8])>
     requires some { 1 ≤ most }
     requires fits { most ≤ 23 }

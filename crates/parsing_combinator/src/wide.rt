@@ -6,8 +6,25 @@ ghost use Rattle.parsing_combinator.specs.Shape as Shape;
 
 use crate::cut::leading_digits;
 
+/// The number that at most 19 digits write.
+#[inline(always)]
+#[tactic(auto, using(crate::proofs::Numbers::next_digit))]
+pub fn long_number(prefix: &[u8]) -> u64
+    requires short { length prefix.now ≤ 19 }
+    requires all { Pieces.digit_count prefix.now ≡ length prefix.now }
+    ensures value { result ≡ digits_value 10 prefix.now }
+    ensures bound { result < 10 ^ length prefix.now }
+{
+    let mut value = 0;
+    for b in prefix {
+        value = value * 10 + u64::from(*b - b'0');
+    }
+    value
+}
+
 // The number that at most 23 digits write.
 #[inline(always)]
+#[tactic(auto, using(crate::proofs::Numbers::next_digit))]
 fn wide_number(prefix: &[u8]) -> u128
     requires short { length prefix.now ≤ 23 }
     requires all { Pieces.digit_count prefix.now ≡ length prefix.now }

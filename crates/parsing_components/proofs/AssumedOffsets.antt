@@ -31,29 +31,8 @@ same_sign (pos zero) m above below = refl
 same_sign (pos (suc n)) m above below = let high : pos 0 ≤ℤ m = above (omega (arith, ints)) in omega (arith, ints)
 same_sign (negsuc n) m above below = let low : m ≤ℤ pos 0 = below (omega (arith, ints)) in omega (arith, ints)
 
-few_hours : (hours : ℤ) → unsigned_abs hours ≤ 25 → nat_lt 25 (unsigned_abs hours) ≡ false
-few_hours hours few = grind (arith, nat_tests)
-
-few_minutes : (minutes : ℤ) → unsigned_abs minutes ≤ 59 → nat_lt 59 (unsigned_abs minutes) ≡ false
-few_minutes minutes few = grind (arith, nat_tests)
-
 nested : (offset : ℤ) → int_div offset (pos 3600) ≡ int_div (int_div offset (pos 60)) (pos 60)
 nested offset = omega (arith, signed, one_sided offset)
-
-hours_few : (whole : ℤ) → unsigned_abs whole ≤ 1559 → unsigned_abs (int_div whole (pos 60)) ≤ 25
-hours_few whole few = omega (arith, signed, one_sided whole)
-
-minutes_few : (whole : ℤ) → unsigned_abs (int_rem whole (pos 60)) ≤ 59
-minutes_few whole = omega (arith, signed, one_sided whole)
-
-sum_whole : (whole : ℤ) → int_div whole (pos 60) *ℤ pos 3600 +ℤ int_rem whole (pos 60) *ℤ pos 60 +ℤ pos 0 ≡ pos 60 *ℤ whole
-sum_whole whole = omega (arith, signed, one_sided whole)
-
-not_below : (whole : ℤ) → pos 0 <ℤ int_div whole (pos 60) → pos 0 ≤ℤ int_rem whole (pos 60)
-not_below whole high = omega (arith, signed, one_sided whole)
-
-not_above : (whole : ℤ) → int_div whole (pos 60) <ℤ pos 0 → int_rem whole (pos 60) ≤ℤ pos 0
-not_above whole low = omega (arith, signed, one_sided whole)
 
 -- whole hours and the minutes past them are the whole minutes
 whole_named : (whole : ℤ) → unsigned_abs whole ≤ 1559 → offset_of (int_div whole (pos 60)) (int_rem whole (pos 60)) (pos 0) ≡ Ok (pos 60 *ℤ whole)
@@ -61,7 +40,11 @@ unfolding offset_of
 whole_named whole few =
     let hours : ℤ = int_div whole (pos 60) in
     let minutes : ℤ = int_rem whole (pos 60) in
-    rw (few_hours hours (hours_few whole few), few_minutes minutes (minutes_few whole), no_sign minutes, no_sign hours, same_sign hours minutes (not_below whole) (not_above whole), sum_whole whole) refl
+    let few_hours : nat_lt 25 (unsigned_abs hours) ≡ false = grind (arith, nat_tests, signed, one_sided whole) in
+    let few_minutes : nat_lt 59 (unsigned_abs minutes) ≡ false = grind (arith, nat_tests, signed, one_sided whole) in
+    let same : with_sign_of hours minutes ≡ minutes = same_sign hours minutes (λ high. omega (arith, signed, one_sided whole, high)) (λ low. omega (arith, signed, one_sided whole, low)) in
+    let sum : hours *ℤ pos 3600 +ℤ minutes *ℤ pos 60 +ℤ pos 0 ≡ pos 60 *ℤ whole = omega (arith, signed, one_sided whole) in
+    rw (few_hours, few_minutes, no_sign minutes, no_sign hours, same, sum) refl
 
 pub assumed_is : (offset whole : ℤ) → whole ≡ int_div offset (pos 60) → unsigned_abs whole ≤ 1559 → offset_named (beginning (Some offset)) ≡ Ok (pos 60 *ℤ whole)
 unfolding named_offset seconds_after

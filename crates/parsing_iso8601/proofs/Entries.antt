@@ -9,42 +9,21 @@ use Rattle.calendar_count.specs.Month.{month_number}
 use Rattle.calendar_count.specs.Weekday.{days_from_monday}
 use Rattle.parsing_iso8601.specs.Numbers.{counted, months, weekdays}
 
-past : {A : Type 0} → (xs : List A) (n : ℕ) → (n < 1) ⊎ (length xs < n) → counted xs n ≡ None
+pub past : {A : Type 0} → (xs : List A) (n : ℕ) → (n < 1) ⊎ (length xs < n) → counted xs n ≡ None
 past [] n h = refl
 past (x ∷ xs) n (inl h) = let e : (n == 1) ≡ false = grind (arith, nat_tests) in rw e (past xs (n - 1) (inl (omega arith)))
 past (x ∷ xs) n (inr h) = let e : (n == 1) ≡ false = grind (arith, nat_tests) in rw e (past xs (n - 1) (inr (omega arith)))
 
 month_there : (m : Month) → counted months (month_number m) ≡ Some m
 month_there month.January = refl
-month_there month.February = refl
-month_there month.March = refl
-month_there month.April = refl
-month_there month.May = refl
-month_there month.June = refl
-month_there month.July = refl
-month_there month.August = refl
-month_there month.September = refl
-month_there month.October = refl
-month_there month.November = refl
-month_there month.December = refl
+month_there m = refl
 
 pub month_entry : (m : Month) (n : ℕ) → month_number m ≡ n → counted months n ≡ Some m
 month_entry m n e = ap (counted months) (sym e) ∙ month_there m
 
-pub no_month : (n : ℕ) → (n < 1) ⊎ (12 < n) → counted months n ≡ None
-no_month n h = past months n h
-
 weekday_there : (w : Weekday) → counted weekdays (days_from_monday w + 1) ≡ Some w
 weekday_there weekday.Monday = refl
-weekday_there weekday.Tuesday = refl
-weekday_there weekday.Wednesday = refl
-weekday_there weekday.Thursday = refl
-weekday_there weekday.Friday = refl
-weekday_there weekday.Saturday = refl
-weekday_there weekday.Sunday = refl
+weekday_there w = refl
 
 pub weekday_entry : (w : Weekday) (n : ℕ) → 1 ≤ n → days_from_monday w ≡ n - 1 → counted weekdays n ≡ Some w
 weekday_entry w n some e = ap (counted weekdays) (let k : n ≡ days_from_monday w + 1 = omega arith in k) ∙ weekday_there w
-
-pub no_weekday : (n : ℕ) → (n < 1) ⊎ (7 < n) → counted weekdays n ≡ None
-no_weekday n h = past weekdays n h

@@ -9,33 +9,22 @@ use Rattle.parsing_combinator.proofs.Decimal.{digit_here}
 use Rattle.parsing_combinator.proofs.FractionDigits.{digits_read}
 use Rattle.parsing_iso8601.specs.Numbers.{decimal_mark}
 
-abbrev there : {A : Type 0} → A → Option A
-there x = Some x
-
-of_some : {A : Type 0} → A → Option A → A
-of_some other (Some x) = x
-of_some other None = other
-
 -- one value is there
-pub same : {A : Type 0} (x y : A) → there x ≡ there y → x ≡ y
-unfolding of_some
-same x y h = ap (of_some x) h
+pub same : {A : Type 0} (x y : A) → Some x ≡ Some y → x ≡ y
+same x y h = cc
 
 -- what stands after a test was there, so the test passed
-pub passed : {A : Type 0} (b : Bool) (v x : A) → cond b (there v) None ≡ there x → b ≡ true
+pub passed : {A : Type 0} (b : Bool) (v x : A) → cond b (Some v) None ≡ Some x → b ≡ true
 passed true v x e = refl
 passed false v x e = absurd (cc)
 
-pub not_passed : {A : Type 0} (b : Bool) (v x : A) → cond b None (there v) ≡ there x → v ≡ x
+pub not_passed : {A : Type 0} (b : Bool) (v x : A) → cond b None (Some v) ≡ Some x → v ≡ x
 not_passed true v x e = absurd (cc)
 not_passed false v x e = same v x e
 
 -- the first of so many digits
 pub first_digit : (n : ℕ) (c : ℕ) (cs : List ℕ) (x : ℕ × List ℕ) → 1 ≤ n → digits n (c ∷ cs) ≡ Some x → is_ascii_digit c ≡ true
 first_digit n c cs x some e = prefix_len_passes is_ascii_digit (c ∷ cs) 0 0 (omega (arith, (digits_read n (c ∷ cs) x.0 x.1 e).enough, some))
-
-apart : (c a : ℕ) → is_ascii_digit c ≡ true → is_ascii_digit a ≡ false → (c == a) ≡ false
-apart c a is_one is_none = grind (arith, nat_tests)
 
 -- digits have no sign and no decimal mark before them
 pub no_sign : (n : ℕ) (bytes : List ℕ) (x : ℕ × List ℕ) → 1 ≤ n → digits n bytes ≡ Some x → sign bytes ≡ None
@@ -60,7 +49,7 @@ unfolding skip_of
 no_byte a n [] x other some e = refl
 no_byte a n (c ∷ cs) x other some e =
     let d = first_digit n c cs x some e in
-    let t : (c == a) ≡ false = apart c a d other in
+    let t : (c == a) ≡ false = grind (arith, nat_tests, d, other) in
     rw t refl
 
 -- a byte is no other one

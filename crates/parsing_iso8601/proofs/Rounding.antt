@@ -18,19 +18,13 @@ use Rattle.parsing_iso8601.specs.Fractions.{rounded_part_of, next_if}
 quotient : (n p q : ℕ) → 0 < p → q * p ≤ n → n < (q + 1) * p → n / p ≡ q
 quotient n p q some low high = omega (arith, le-div q n p some low, div_below n p (q + 1) some high)
 
-up : (x p q r : ℕ) → 0 < p → x ≡ q * p + r → r < p → p ≤ 2 * r → (2 * x + p) / (2 * p) ≡ q + 1
-up x p q r some e less half = quotient (2 * x + p) (2 * p) (q + 1) (omega arith) (rw e (omega arith)) (rw e (omega arith))
-
-down : (x p q r : ℕ) → 0 < p → x ≡ q * p + r → 2 * r < p → (2 * x + p) / (2 * p) ≡ q
-down x p q r some e half = quotient (2 * x + p) (2 * p) q (omega arith) (rw e (omega arith)) (rw e (omega arith))
-
 -- the two ways to say what a fraction is, by the nanosecond that it lies in
 nearest : (x p : ℕ) → 0 < p → (2 * x + p) / (2 * p) ≡ cond (leb p (2 * (x % p))) (x / p + 1) (x / p)
 nearest x p some =
     let e : x ≡ x / p * p + x % p = omega (arith, div-add-mod' x p) in
     elim (cases_lt (2 * (x % p)) p) [
-      | inl lt ↦ rw (lt-leb p (2 * (x % p)) lt) (down x p (x / p) (x % p) some e lt)
-      | inr le ↦ rw (le-leb p (2 * (x % p)) le) (up x p (x / p) (x % p) some e (mod-lt x some) le)
+      | inl lt ↦ rw (lt-leb p (2 * (x % p)) lt) (quotient (2 * x + p) (2 * p) (x / p) (omega arith) (omega (arith, e)) (omega (arith, e, lt)))
+      | inr le ↦ rw (le-leb p (2 * (x % p)) le) (quotient (2 * x + p) (2 * p) (x / p + 1) (omega arith) (omega (arith, e, le)) (omega (arith, e, mod-lt x some)))
     ]
 
 -- what is left of the nanosecond that a fraction lies in decides

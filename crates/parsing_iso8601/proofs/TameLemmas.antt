@@ -1,7 +1,6 @@
 -- What the reading leaves is the end of what was there, and the name in its fault is short.
 use Rattle.std.proofs.Common.{lit≤, ℕ, ◌||◌, Bool, true, false, cond, List, Option, Some, None, Result, Ok, Err, lit<, ℤ}
-use Rattle.std.specs.Prelude.{IfErr, not, is_some, option_map}
-use Rattle.std.specs.Result.{is_ok}
+use Rattle.std.specs.Prelude.{IfErr, not, option_map}
 use Rattle.base.specs.Bytes.{hyphen}
 use Rattle.parsing_combinator.specs.Fault.{Fault, literal}
 use Rattle.parsing_combinator.specs.Pieces.{Piece, byte}
@@ -45,9 +44,6 @@ by_kind_leaves Unknown unknown basic extended bytes h k m = h
 by_kind_leaves Basic unknown basic extended bytes h k m = k
 by_kind_leaves Extended unknown basic extended bytes h k m = m
 
-nothing : Unit {0}
-nothing = tt
-
 -- ---- numbers
 
 passed_leaves : {A : Type 0} (b : Bool) (bytes : List ℕ) (x : A × List ℕ) → EndsWith bytes x.1 → Leaves bytes (cond b (Some x) None)
@@ -66,11 +62,7 @@ entry_leaves : {A : Type 0} (xs : List A) (bytes : List ℕ) (o : Option (ℕ ×
 entry_leaves xs bytes None h = tt
 entry_leaves xs bytes (Some x) h = said_leaves bytes x.1 (counted xs x.0) h
 
-ruleset leaving = (then_leaves, require_leaves, entered_leaves, by_kind_leaves, kept_leaves, entry_leaves, digits_leaves, run_leaves, byte_leaves, skip_leaves, whole_end, nothing)
-
-number_leaves : (bytes : List ℕ) → Leaves bytes (number bytes)
-unfolding number fraction_digits decimal_mark due_digits
-number_leaves bytes = search leaving depth 20 fits 5000
+ruleset leaving = (then_leaves, require_leaves, entered_leaves, by_kind_leaves, kept_leaves, entry_leaves, digits_leaves, run_leaves, byte_leaves, skip_leaves, whole_end, tt)
 
 -- ---- the time of day
 
@@ -79,8 +71,8 @@ fraction_or_leaves None ends on bytes h k = k
 fraction_or_leaves (Some ds) ends on bytes h k = h ds
 
 time_leaves : (kind : Kind) (after_date : Bool) (bytes : List ℕ) → Leaves bytes (time kind after_date bytes)
-unfolding time designator from_hour kind_of_time minutes from_minute seconds basic_seconds extended_seconds due_second to_second
-time_leaves kind after_date b0 = search (leaving, number_leaves, fraction_or_leaves) depth 20 fits 50000
+unfolding time designator from_hour kind_of_time minutes from_minute seconds basic_seconds extended_seconds due_second to_second number fraction_digits decimal_mark due_digits
+time_leaves kind after_date b0 = search (leaving, fraction_or_leaves) depth 40 fits 50000
 
 -- ---- the offset
 
@@ -91,9 +83,8 @@ offset_leaves kind bytes = search leaving depth 20 fits 5000
 -- ---- the date
 
 dash_tame : (kind : Kind) → IsTame (dash kind)
-dash_tame Unknown bytes = whole_end bytes
-dash_tame Basic bytes = whole_end bytes
 dash_tame Extended bytes = piece_tame literal bytes (byte hyphen bytes) (skip_leaves _ bytes) tt
+dash_tame kind bytes = whole_end bytes
 
 ruleset tame = (leaving, then_tame, piece_tame, require_tame, entered_tame, dash_tame, lit<, lit≤)
 
@@ -145,14 +136,9 @@ offset_after_tame has_date has_time kind bytes =
     if_tame (has_time || not has_date) (λ rest. or_nothing (offset kind rest) rest) _ bytes (maybe_tame bytes (offset kind bytes) (offset_leaves kind bytes)) (whole_end bytes)
 
 gathered_tame : (r : Result WrittenDate Fault) (t : Option WrittenTime) (o : Option WrittenOffset) (bytes : List ℕ) → IfErr r HasShortName → Tame bytes (gathered r t o bytes)
-gathered_tame (Ok date) t o bytes short = whole_end bytes
 gathered_tame (Err f) None None bytes short = short
-gathered_tame (Err f) None (Some o) bytes short = whole_end bytes
-gathered_tame (Err f) (Some t) o bytes short = whole_end bytes
+gathered_tame r t o bytes short = whole_end bytes
 
 pub iso8601_tame : IsTame iso8601
 unfolding iso8601
-iso8601_tame b0 =
-    then_dated b0 (dated b0) _ (dated_tame b0) (λ d b1 short.
-    then_tame b1 _ _ (maybe_tame b1 (time d.1 (is_ok d.0) b1) (time_leaves d.1 (is_ok d.0) b1)) (λ t b2.
-    then_tame b2 _ _ (offset_after_tame (is_ok d.0) (is_some t) _ b2) (λ o b3. gathered_tame d.0 _ o b3 short)))
+iso8601_tame b0 = search (then_dated, dated_tame, then_tame, maybe_tame, time_leaves, offset_after_tame, gathered_tame) depth 20 fits 5000

@@ -53,7 +53,7 @@ pub fn two_from_one(bytes: &[u8]) -> Option<(u8, &[u8])>
 }
 
 /// The two digits of a month.
-#[tactic(auto, using(crate::proofs::Entries::month_entry, crate::proofs::Entries::no_month), unfolding(crate::specs::Numbers::numbered))]
+#[tactic(auto, using(crate::proofs::Entries::month_entry, crate::proofs::Entries::past), unfolding(crate::specs::Numbers::numbered))]
 #[inline(always)]
 pub fn month(bytes: &[u8]) -> Option<(Month, &[u8])>
     ensures { cut_view result ≡ Numbers.numbered 2 Numbers.months bytes.now }
@@ -66,7 +66,7 @@ pub fn month(bytes: &[u8]) -> Option<(Month, &[u8])>
 }
 
 /// The digit of a day of the week, from 1 for Monday.
-#[tactic(auto, using(crate::proofs::Entries::weekday_entry, crate::proofs::Entries::no_weekday), unfolding(crate::specs::Numbers::numbered))]
+#[tactic(auto, using(crate::proofs::Entries::weekday_entry, crate::proofs::Entries::past), unfolding(crate::specs::Numbers::numbered))]
 #[inline(always)]
 pub fn weekday(bytes: &[u8]) -> Option<(Weekday, &[u8])>
     ensures { cut_view result ≡ Numbers.numbered 1 Numbers.weekdays bytes.now }

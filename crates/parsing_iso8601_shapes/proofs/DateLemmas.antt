@@ -1,12 +1,11 @@
 -- Dates, by their pieces.
-use Rattle.std.proofs.Common.{◌≡◌, ◌≤◌, ◌+◌, ◌-◌, ◌*◌, ◌∙◌, ℕ, Bool, true, false, List, [], ◌∷◌, Option, Some, None, Ok, Err, refl, arith, lit≤, pos, ℤ}
+use Rattle.std.proofs.Common.{◌≡◌, ◌≤◌, ◌+◌, ◌-◌, ◌*◌, ◌∙◌, ℕ, Bool, true, false, List, [], ◌∷◌, Option, Some, None, Err, refl, arith, lit≤, pos, ℤ}
 use Rattle.std.specs.Prelude.{option_map, codes}
 use Rattle.std.proofs.lemmas.Bool.{le-leb}
 use Rattle.std.proofs.lemmas.Bool.Decides.{nat_tests}
 use Rattle.base.specs.Bytes.{hyphen}
 use Rattle.calendar_count.specs.Calendar.{IsDay}
 use Rattle.calendar_count.specs.Weekday.{days_from_monday}
-use Rattle.calendar_count.specs.Month.{month_number}
 use Rattle.calendar_count.specs.declared.month.Month.{Month}
 use Rattle.calendar_count.specs.declared.weekday.Weekday.{Weekday}
 use Rattle.parsing_combinator.specs.Fault.{Fault, literal, component}
@@ -64,54 +63,14 @@ unfolding month_and_day
 month_or_none None b2 b4 e h = (component (codes "month"), rw e refl)
 month_or_none (Some m) b2 b4 e h = (literal, rw (e, h) refl)
 
-month_alone : (o : Option Month) (b2 b4 : List ℕ) → numbered 2 months b2 ≡ option_map (λ m. (m, b4)) o → digits_within 2 1 99 b4 ≡ None → (f : Fault) × (month_and_day Basic b2 ≡ Err f)
-unfolding month_and_day
+month_alone : (o : Option Month) (b2 b4 : List ℕ) → numbered 2 months b2 ≡ option_map (λ m. (m, b4)) o → digits 2 b4 ≡ None → (f : Fault) × (month_and_day Basic b2 ≡ Err f)
+unfolding month_and_day digits_within
 month_alone None b2 b4 e h = (component (codes "month"), rw e refl)
 month_alone (Some m) b2 b4 e h = (component (codes "day"), rw (e, h) refl)
 
 month_of_two : (b2 b4 : List ℕ) (n : ℕ) → digits 2 b2 ≡ Some (n, b4) → numbered 2 months b2 ≡ option_map (λ m. (m, b4)) (counted months n)
 unfolding numbered
 month_of_two b2 b4 n e = rw e refl
-
-no_month : (b2 : List ℕ) → digits 2 b2 ≡ None → numbered 2 months b2 ≡ None
-unfolding numbered
-no_month b2 e = rw e refl
-
-none_within : (n low high : ℕ) (bytes : List ℕ) → digits n bytes ≡ None → digits_within n low high bytes ≡ None
-unfolding digits_within
-none_within n low high bytes e = rw e refl
-
--- `1985-102`
-extended_ordinal_pieces : (b0 b1 b2 b4 b5 : List ℕ) (y n o : ℕ) → digits 4 b0 ≡ Some (y, b1) → byte hyphen b1 ≡ Some (tt, b2) → digits 2 b2 ≡ Some (n, b4) → byte hyphen b4 ≡ None → digits 3 b2 ≡ Some (o, b5) → 1 ≤ o → o ≤ 365 → dated b0 ≡ Ok ((Ok (OfYear (pos y) o), Extended), b5)
-unfolding dated year_and_kind kind_of_date date_after date_without_month date_of_year
-extended_ordinal_pieces b0 b1 b2 b4 b5 y n o p0 p1 p2 p3 p4 some most =
-    let none = month_or_none (counted months n) b2 b4 (month_of_two b2 b4 n p2) p3 in
-    rw (year_of b0 y b1 p0, p1, none.1, within 3 1 999 b2 o b5 p4 some (omega arith), le-leb o 366 (omega arith)) refl
-
--- `1985102`
-basic_ordinal_pieces : (b0 b1 b3 b4 : List ℕ) (y n o : ℕ) → digits 4 b0 ≡ Some (y, b1) → byte hyphen b1 ≡ None → digits 2 b1 ≡ Some (n, b3) → digits 2 b3 ≡ None → digits 3 b1 ≡ Some (o, b4) → 1 ≤ o → o ≤ 365 → dated b0 ≡ Ok ((Ok (OfYear (pos y) o), Basic), b4)
-unfolding dated year_and_kind kind_of_date date_after date_without_month date_of_year
-basic_ordinal_pieces b0 b1 b3 b4 y n o p0 p1 p2 p3 p4 some most =
-    let none = month_alone (counted months n) b1 b3 (month_of_two b1 b3 n p2) (none_within 2 1 99 b3 p3) in
-    rw (year_of b0 y b1 p0, p1, none.1, within 3 1 999 b1 o b4 p4 some (omega arith), le-leb o 366 (omega arith)) refl
-
--- `1985-W15-5`
-extended_week_pieces : (b0 b1 b2 b3 b4 b5 b6 : List ℕ) (y n : ℕ) (w : Weekday) → digits 4 b0 ≡ Some (y, b1) → byte hyphen b1 ≡ Some (tt, b2) → digits 2 b2 ≡ None → digits 3 b2 ≡ None → byte week_designator b2 ≡ Some (tt, b3) → digits 2 b3 ≡ Some (n, b4) → 1 ≤ n → n ≤ 53 → byte hyphen b4 ≡ Some (tt, b5) → numbered 1 weekdays b5 ≡ Some (w, b6) → dated b0 ≡ Ok ((Ok (OfWeek (pos y) n w), Extended), b6)
-unfolding dated year_and_kind kind_of_date date_after month_and_day date_without_month date_of_week week_and_weekday
-extended_week_pieces b0 b1 b2 b3 b4 b5 b6 y n w p0 p1 p2 p3 p4 p5 some most p6 p7 =
-    rw (year_of b0 y b1 p0, p1, no_month b2 p2, none_within 3 1 999 b2 p3, p4, within 2 1 99 b3 n b4 p5 some (omega arith), p6, p7, le-leb n 53 most) refl
-
--- `1985W155`
-basic_week_pieces : (b0 b1 b2 b3 b4 : List ℕ) (y n : ℕ) (w : Weekday) → digits 4 b0 ≡ Some (y, b1) → byte hyphen b1 ≡ None → digits 2 b1 ≡ None → digits 3 b1 ≡ None → byte week_designator b1 ≡ Some (tt, b2) → digits 2 b2 ≡ Some (n, b3) → 1 ≤ n → n ≤ 53 → numbered 1 weekdays b3 ≡ Some (w, b4) → dated b0 ≡ Ok ((Ok (OfWeek (pos y) n w), Basic), b4)
-unfolding dated year_and_kind kind_of_date date_after month_and_day date_without_month date_of_week week_and_weekday
-basic_week_pieces b0 b1 b2 b3 b4 y n w p0 p1 p2 p3 p4 p5 some most p7 =
-    rw (year_of b0 y b1 p0, p1, no_month b1 p2, none_within 3 1 999 b1 p3, p4, within 2 1 99 b2 n b3 p5 some (omega arith), p7, le-leb n 53 most) refl
-
--- `19850412`
-calendar_pieces : (b0 b1 b2 b3 : List ℕ) (y n d : ℕ) (m : Month) → digits 4 b0 ≡ Some (y, b1) → byte hyphen b1 ≡ None → digits 2 b1 ≡ Some (n, b2) → month_number m ≡ n → digits 2 b2 ≡ Some (d, b3) → 1 ≤ d → d ≤ 31 → dated b0 ≡ Ok ((Ok (OfMonth (pos y) m d), Basic), b3)
-unfolding dated year_and_kind kind_of_date date_after month_and_day date_of_month
-calendar_pieces b0 b1 b2 b3 y n d m p0 p1 p2 is p3 some most =
-    rw (year_of b0 y b1 p0, p1, month_of b1 m n b2 p2 is, within 2 1 99 b2 d b3 p3 some (omega arith), le-leb d 31 most) refl
 
 -- ---- days
 
@@ -137,6 +96,7 @@ kind_of false = Basic
 -- ---- dates that texts say
 
 calendar_read : (is_extended : Bool) (bytes rest : List ℕ) (v : Values) → Says (date_parts Calendar is_extended) bytes v rest → IsDay (pos (v field.Year)) (v field.Month) (v field.Day) → ReadsDay bytes (v field.Year) (v field.Month) (v field.Day) (kind_of is_extended) rest
+unfolding dated year_and_kind kind_of_date date_after month_and_day date_of_month
 calendar_read true bytes rest v says is_day =
     let month = says.2.2 in
     let day = month.2.2 in
@@ -148,34 +108,41 @@ calendar_read true bytes rest v says is_day =
 calendar_read false bytes rest v says is_day =
     let month = says.2 in
     let day = month.2 in
+    let few = few_days (pos (v field.Year)) (v field.Month) (v field.Day) is_day in
     let m = named_month (v field.Month) is_day.1 is_day.2 in (
       OfMonth (pos (v field.Year)) m.0 (v field.Day),
-      calendar_pieces bytes says.0 month.0 rest (v field.Year) (v field.Month) (v field.Day) m.0 says.1 (no_byte hyphen 2 says.0 (v field.Month, month.0) refl (lit≤ tt) month.1) month.1 m.1 (rw day.2 at day.1) is_day.3 (few_days (pos (v field.Year)) (v field.Month) (v field.Day) is_day),
+      rw (year_of bytes (v field.Year) says.0 says.1, no_byte hyphen 2 says.0 (v field.Month, month.0) refl (lit≤ tt) month.1, month_of says.0 m.0 (v field.Month) month.0 month.1 m.1, within 2 1 99 month.0 (v field.Day) rest (rw day.2 at day.1) is_day.3 (omega (arith, few)), le-leb (v field.Day) 31 few) refl,
       month_names (pos (v field.Year)) m.0 (v field.Year) (v field.Month) (v field.Day) refl m.1,
     )
 
 ordinal_read : (is_extended : Bool) (bytes rest after : List ℕ) (v : Values) (month day : ℕ) → Says (date_parts Ordinal is_extended) bytes v rest → rest ≡ time_designator ∷ after → 1 ≤ v field.OrdinalTens * 10 + v field.OrdinalOnes → v field.OrdinalTens * 10 + v field.OrdinalOnes ≤ 365
     → NamesOrdinal (v field.Year) (v field.OrdinalTens * 10 + v field.OrdinalOnes) month day → ReadsDay bytes (v field.Year) month day (kind_of is_extended) rest
+unfolding dated year_and_kind kind_of_date date_after date_without_month date_of_year
 ordinal_read true bytes rest after v month day says next some most named =
     let tens = says.2.2 in
     let ones = tens.2 in
     let ordinal = v field.OrdinalTens * 10 + v field.OrdinalOnes in
-    let last = rw ones.2 at ones.1 in (
+    let last = rw ones.2 at ones.1 in
+    let three = three_after says.2.0 tens.0 rest (v field.OrdinalTens) (v field.OrdinalOnes) tens.1 last in
+    let none = month_or_none (counted months (v field.OrdinalTens)) says.2.0 tens.0 (month_of_two says.2.0 tens.0 (v field.OrdinalTens) tens.1) (no_byte hyphen 1 tens.0 (v field.OrdinalOnes, rest) refl (lit≤ tt) last) in (
       OfYear (pos (v field.Year)) ordinal,
-      extended_ordinal_pieces bytes says.0 says.2.0 tens.0 rest (v field.Year) (v field.OrdinalTens) ordinal says.1 (literal_said _ _ says.2.1) tens.1 (no_byte hyphen 1 tens.0 (v field.OrdinalOnes, rest) refl (lit≤ tt) last) (three_after says.2.0 tens.0 rest (v field.OrdinalTens) (v field.OrdinalOnes) tens.1 last) some most,
+      rw (year_of bytes (v field.Year) says.0 says.1, literal_said _ _ says.2.1, none.1, within 3 1 999 says.2.0 ordinal rest three some (omega (arith, most)), le-leb ordinal 366 (omega (arith, most))) refl,
       of_ordinal (v field.Year) ordinal month day named,
     )
 ordinal_read false bytes rest after v month day says next some most named =
     let tens = says.2 in
     let ones = tens.2 in
     let ordinal = v field.OrdinalTens * 10 + v field.OrdinalOnes in
-    let last = rw ones.2 at ones.1 in (
+    let last = rw ones.2 at ones.1 in
+    let three = three_after says.0 tens.0 rest (v field.OrdinalTens) (v field.OrdinalOnes) tens.1 last in
+    let none = month_alone (counted months (v field.OrdinalTens)) says.0 tens.0 (month_of_two says.0 tens.0 (v field.OrdinalTens) tens.1) (no_two tens.0 rest after (v field.OrdinalOnes) last next) in (
       OfYear (pos (v field.Year)) ordinal,
-      basic_ordinal_pieces bytes says.0 tens.0 rest (v field.Year) (v field.OrdinalTens) ordinal says.1 (no_byte hyphen 2 says.0 (v field.OrdinalTens, tens.0) refl (lit≤ tt) tens.1) tens.1 (no_two tens.0 rest after (v field.OrdinalOnes) last next) (three_after says.0 tens.0 rest (v field.OrdinalTens) (v field.OrdinalOnes) tens.1 last) some most,
+      rw (year_of bytes (v field.Year) says.0 says.1, no_byte hyphen 2 says.0 (v field.OrdinalTens, tens.0) refl (lit≤ tt) tens.1, none.1, within 3 1 999 says.0 ordinal rest three some (omega (arith, most)), le-leb ordinal 366 (omega (arith, most))) refl,
       of_ordinal (v field.Year) ordinal month day named,
     )
 
 week_read : (is_extended : Bool) (bytes rest : List ℕ) (v : Values) (month day : ℕ) → Says (date_parts Week is_extended) bytes v rest → 1 ≤ v field.Weekday → v field.Weekday ≤ 7 → NamesWeekDay (v field.Year) (v field.IsoWeek) (v field.Weekday - 1) month day → ReadsDay bytes (v field.Year) month day (kind_of is_extended) rest
+unfolding dated year_and_kind kind_of_date date_after month_and_day date_without_month date_of_week week_and_weekday numbered digits_within
 week_read true bytes rest v month day says some most named =
     let letter = says.2.2 in
     let week = letter.2 in
@@ -184,7 +151,7 @@ week_read true bytes rest v month day says some most named =
     let there = literal_said _ _ letter.1 in
     let no = no_number says.2.0 letter.0 (byte_is week_designator says.2.0 letter.0 there) in (
       OfWeek (pos (v field.Year)) (v field.IsoWeek) w.0,
-      extended_week_pieces bytes says.0 says.2.0 letter.0 week.0 week.2.0 rest (v field.Year) (v field.IsoWeek) w.0 says.1 (literal_said _ _ says.2.1) no.two no.three there week.1 named.some named.most (literal_said _ _ week.2.1) (numbered_weekday week.2.0 rest (v field.Weekday) w.0 (rw weekday.2 at weekday.1) some w.1),
+      rw (year_of bytes (v field.Year) says.0 says.1, literal_said _ _ says.2.1, no.two, no.three, there, within 2 1 99 letter.0 (v field.IsoWeek) week.0 week.1 named.some (omega (arith, named.most)), literal_said _ _ week.2.1, numbered_weekday week.2.0 rest (v field.Weekday) w.0 (rw weekday.2 at weekday.1) some w.1, le-leb (v field.IsoWeek) 53 named.most) refl,
       week_names (v field.Year) (v field.IsoWeek) (v field.Weekday - 1) month day w.0 w.1 named,
     )
 week_read false bytes rest v month day says some most named =
@@ -195,7 +162,7 @@ week_read false bytes rest v month day says some most named =
     let there = literal_said _ _ letter.1 in
     let no = no_number says.0 letter.0 (byte_is week_designator says.0 letter.0 there) in (
       OfWeek (pos (v field.Year)) (v field.IsoWeek) w.0,
-      basic_week_pieces bytes says.0 letter.0 week.0 rest (v field.Year) (v field.IsoWeek) w.0 says.1 no.hyphen_there no.two no.three there week.1 named.some named.most (numbered_weekday week.0 rest (v field.Weekday) w.0 (rw weekday.2 at weekday.1) some w.1),
+      rw (year_of bytes (v field.Year) says.0 says.1, no.hyphen_there, no.two, no.three, there, within 2 1 99 letter.0 (v field.IsoWeek) week.0 week.1 named.some (omega (arith, named.most)), numbered_weekday week.0 rest (v field.Weekday) w.0 (rw weekday.2 at weekday.1) some w.1, le-leb (v field.IsoWeek) 53 named.most) refl,
       week_names (v field.Year) (v field.IsoWeek) (v field.Weekday - 1) month day w.0 w.1 named,
     )
 

@@ -2,11 +2,11 @@
 use Rattle.std.proofs.Common.{◌≡◌, ℕ, ◌+◌, ◌-◌, ◌*◌, ◌/◌, ◌%◌, ◌==◌, ◌⊎◌, Bool, cond, get_or, inl, inr, ◌<◌, ◌≤◌, true, false, Ok, refl, sym, ◌∙◌, arith, ℤ, pos, ◌+ℤ◌}
 use Rattle.std.specs.Int.{IsInRange}
 use Rattle.std.specs.Prelude.{◌&&◌, nat_le, nat_lt}
-use Rattle.std.proofs.lemmas.Bool.{agree_below_at, and_parts, cases_lt, eqb-true, lt-ltb, ltb-true}
+use Rattle.std.proofs.lemmas.Bool.{agree_below_at, and_parts, cases_lt, eqb-true, le-ltb, lt-ltb, ltb-true}
 use Rattle.std.proofs.lemmas.Bool.Decides.{nat_tests}
 use Rattle.std.proofs.lemmas.Int.{ints}
 use Rattle.calendar_count.specs.Range.{greatest_year, IsYear, IsCount}
-use Rattle.calendar_count.specs.Calendar.{is_leap_year, IsDay, days_in_year, day_at, ymd, ordinal_at, weekday_at, iso_year_at, iso_week_at}
+use Rattle.calendar_count.specs.Calendar.{is_leap_year, IsDay, days_in_year, day_at, ymd, ordinal_at}
 use Rattle.calendar_count.specs.Closed.{days_before_year}
 use Rattle.calendar_count.specs.March.{march_days}
 use Rattle.calendar_count.specs.Place.{place_count, IsPlace, first_thursday, iso_count}
@@ -43,24 +43,16 @@ count_is year ordinal = refl
 count_within : (year ordinal : ℕ) → year ≤ 9999 → IsInRange 1 365 ordinal → IsCount (place_count (pos year) ordinal)
 count_within year ordinal four range = omega (arith, count_is year ordinal, range.1)
 
-is_ordinal : (y : ℤ) (o n : ℕ) → (day_at n).year ≡ y → ordinal_at n ≡ o → is_ordinal_day y o n ≡ true
-is_ordinal y o n e f = rw (e, f) (grind (arith, nat_tests, ints))
-
-year_of_ordinal : (y : ℤ) (o n : ℕ) → is_ordinal_day y o n ≡ true → (day_at n).year ≡ y
-year_of_ordinal y o n h = grind (arith, nat_tests, ints)
-
-ordinal_of : (y : ℤ) (o n : ℕ) → is_ordinal_day y o n ≡ true → ordinal_at n ≡ o
-ordinal_of y o n h = grind (arith, nat_tests)
-
 ordinal_named : (year ordinal : ℕ) → year ≤ 9999 → IsInRange 1 365 ordinal → ordinal_date_of (pos year) ordinal ≡ Ok (place_count (pos year) ordinal)
 unfolding ordinal_date_of
 ordinal_named year ordinal four range =
     let y : ℤ = pos year in
     let place = place_of year ordinal four range in
     let c = place_count y ordinal in
-    let here = is_ordinal y ordinal c (place-year y ordinal place) (place-ordinal y ordinal place) in
+    let here : is_ordinal_day y ordinal c ≡ true = rw (place-year y ordinal place, place-ordinal y ordinal place) (grind (arith, nat_tests, ints)) in
     one_day y Ordinal (is_ordinal_day y ordinal) c place.0 (count_within year ordinal four range) here (λ k within passes.
-    omega (arith, count_is year ordinal, ordinal_of y ordinal k passes, ordinal_after k (year + greatest_year) y (since year) (year_of_ordinal y ordinal k passes)))
+    let same : ordinal_at k ≡ ordinal = grind (arith, nat_tests, passes) in
+    omega (arith, count_is year ordinal, same, ordinal_after k (year + greatest_year) y (since year) (grind (arith, nat_tests, ints, passes))))
 
 -- a day by its count is one that the calendar has
 day_there : (y : ℤ) (m d count : ℕ) → IsCount count → day_at count ≡ ymd y m d → IsDay y m d
@@ -129,9 +121,6 @@ late length ordinal m d e = (grind (arith, nat_tests, e), grind (arith, nat_test
 early : (length ordinal m d : ℕ) → is_early length ordinal m d ≡ true → (march_days (m + 12) + d ≡ ordinal + 305) × (ordinal + 305 < march_days (m + 12 + 1)) × (ordinal + 305 < length) × (1 ≤ m)
 early length ordinal m d e = (grind (arith, nat_tests, e), grind (arith, nat_tests, e), grind (arith, nat_tests, e), grind (arith, nat_tests, e))
 
-not_below : (a b : ℕ) → b ≤ a → nat_lt a b ≡ false
-not_below a b le = grind (arith, nat_tests)
-
 named_by : (year ordinal m d length : ℕ) → length ≡ days_in_year (pos year) → year ≤ 9999 → IsInRange 1 365 ordinal → cond (nat_lt m 3) (is_early length ordinal m d) (is_late length ordinal m d) ≡ true → NamesOrdinal year ordinal m (d + 1)
 named_by year ordinal m d length is four range e = elim (cases_lt m 3) [
   | inl small ↦
@@ -139,7 +128,7 @@ named_by year ordinal m d length is four range e = elim (cases_lt m 3) [
       let same : m + 12 - 12 ≡ m = omega arith in
       rw same at (january_ordinal year ordinal (ordinal + 305) (m + 12) d four range refl (omega (arith, h.2, is)) h.0 h.1 (omega (arith, h.3)) (omega (arith, small)))
   | inr large ↦
-      let h = late length ordinal m d (rw (not_below m 3 large) at e) in
+      let h = late length ordinal m d (rw (le-ltb m 3 large) at e) in
       march_ordinal year ordinal (march_days m + d) m d four range (omega (arith, h.0, is)) refl h.1 large h.2
 ]
 
@@ -178,18 +167,6 @@ ordinal_split year ordinal four range =
 
 -- ---- days of weeks
 
-is_iso : (y : ℤ) (k w n : ℕ) → iso_year_at n ≡ y → iso_week_at n ≡ k → weekday_at n ≡ w → is_iso_day y k w n ≡ true
-is_iso y k w n e f g = rw (e, f, g) (grind (arith, nat_tests, ints))
-
-year_of_iso : (y : ℤ) (k w n : ℕ) → is_iso_day y k w n ≡ true → iso_year_at n ≡ y
-year_of_iso y k w n h = grind (arith, nat_tests, ints)
-
-week_of_iso : (y : ℤ) (k w n : ℕ) → is_iso_day y k w n ≡ true → iso_week_at n ≡ k
-week_of_iso y k w n h = grind (arith, nat_tests)
-
-weekday_of_iso : (y : ℤ) (k w n : ℕ) → is_iso_day y k w n ≡ true → weekday_at n ≡ w
-weekday_of_iso y k w n h = grind (arith, nat_tests)
-
 week_named : (year week weekday : ℕ) → year ≤ 9999 → 1 ≤ week → weekday ≤ 6 → first_thursday (days_before_year (year + greatest_year)) + 7 * (week - 1) < days_before_year (year + greatest_year) + days_in_year (pos year) → IsCount (iso_count (days_before_year (year + greatest_year)) week weekday) → iso_week_date_of (pos year) week weekday ≡ Ok (iso_count (days_before_year (year + greatest_year)) week weekday)
 unfolding iso_week_date_of
 week_named year week weekday four some few in_year bound =
@@ -197,8 +174,8 @@ week_named year week weekday four some few in_year bound =
     let n : ℕ = year + greatest_year in
     let c = iso_count (days_before_year n) week weekday in
     let at = iso_count-at n week weekday y (since year) some (omega arith) in_year in
-    one_day y Week (is_iso_day y week weekday) c (within year four) bound (is_iso y week weekday c at.0 at.1 at.2) (λ k within passes.
-    (iso_count-is k n week weekday y (since year) (year_of_iso y week weekday k passes) (week_of_iso y week weekday k passes) (weekday_of_iso y week weekday k passes)).0)
+    one_day y Week (is_iso_day y week weekday) c (within year four) bound (rw (at.0, at.1, at.2) (grind (arith, nat_tests, ints))) (λ k within passes.
+    (iso_count-is k n week weekday y (since year) (grind (arith, nat_tests, ints, passes)) (grind (arith, nat_tests, passes)) (grind (arith, nat_tests, passes))).0)
 
 -- 400 years have so many whole weeks
 again : (k q : ℕ) → first_thursday_of (k + 400 * q) ≡ first_thursday_of k

@@ -1,6 +1,7 @@
 -- What stands after a date: a time of day, a fraction, and an offset.
 use Rattle.std.proofs.Common.{◌≡◌, ℕ, zero, suc, ◌+◌, ◌<◌, ◌≤◌, ◌∙◌, Bool, true, false, leb, List, [], ◌∷◌, length, take, drop, get_or, Some, None, ℤ, refl, ap, arith, lit≤}
 use Rattle.std.specs.Prelude.{◌==◌, ◌||◌}
+use Rattle.std.proofs.lemmas.Bool.{le-leb, lt-ltb}
 use Rattle.std.proofs.lemmas.Bool.Decides.{nat_tests}
 use Rattle.std.proofs.lemmas.List.{length-drop, length-take-le, get_or-take}
 use Rattle.std.specs.Char.{is_ascii_digit}
@@ -10,11 +11,12 @@ use Rattle.parsing_combinator.proofs.Decimal.{count_drop, count_prefix, digit_co
 use Rattle.parsing_combinator.proofs.FractionDigits.{none_there}
 use Rattle.parsing_iso8601.specs.Designators.{time_designator}
 use Rattle.parsing_iso8601.specs.Fractions.{rounded_part_of, next_if}
+use Rattle.parsing_iso8601.specs.Kinds.{kind_of_time}
 use Rattle.parsing_iso8601.specs.Numbers.{decimal_mark}
 use Rattle.parsing_iso8601.specs.Offsets.{maybe_colon, offset}
 use Rattle.parsing_iso8601.specs.ReadView.{subsecond}
-use Rattle.parsing_iso8601.specs.Times.{time, time_of}
-use Rattle.parsing_iso8601.specs.declared.kind.Kind.TheVariants.{Extended}
+use Rattle.parsing_iso8601.specs.Times.{time, time_of, subsecond_of, designator, from_hour, minutes, from_minute, seconds, basic_seconds, extended_seconds, to_second}
+use Rattle.parsing_iso8601.specs.declared.kind.Kind.TheVariants.{Basic, Extended}
 use Rattle.parsing_iso8601.proofs.Pieces.{no_byte}
 use Rattle.parsing_iso8601.proofs.Rounding.{long_rounded}
 use Rattle.parsing_layout.specs.Layout.{Values, Says, exact_fraction}
@@ -29,7 +31,7 @@ use Rattle.parsing_places.specs.declared.ending.Ending.TheVariants.{Zulu, Colon,
 use Rattle.parsing_iso8601_shapes.specs.Layout.{clock_parts}
 use Rattle.parsing_iso8601_shapes.proofs.DateLemmas.{kind_of}
 use Rattle.parsing_iso8601_shapes.proofs.FastOffsets.{IsAllOffset, offset_read, zulu_read}
-use Rattle.parsing_iso8601_shapes.proofs.FastTimes.{time_of_pieces, minutes_of_pieces, basic_time_of_pieces, basic_minutes_of_pieces, of_fraction, short_subsecond, long_subsecond, no_subsecond}
+use Rattle.parsing_iso8601_shapes.proofs.FastTimes.{time_of_pieces, before_colon, before_digits, no_number, number_of, whole_number, of_fraction, short_subsecond, long_subsecond, no_subsecond}
 
 -- ---- the offset
 
@@ -61,19 +63,16 @@ sign_ends bytes rest mark s =
 
 pub zone_ends : (e : Ending) (bytes : List ℕ) (v : Values) → Says (zone_parts e) bytes v [] → EndTime bytes
 zone_ends Zulu bytes v says = zulu_ends bytes says.0 (byte_is upper_z bytes says.0 (literal_said _ _ says.1))
-zone_ends Colon bytes v says = (sign_ends bytes says.0 (v field.Sign) (sign_is bytes says.0 (v field.Sign) says.1)).0
-zone_ends Plain bytes v says = (sign_ends bytes says.0 (v field.Sign) (sign_is bytes says.0 (v field.Sign) says.1)).0
+zone_ends e bytes v says = (sign_ends bytes says.0 (v field.Sign) (sign_is bytes says.0 (v field.Sign) says.1)).0
 
 -- an offset with a colon ends a text of the extended format alone
 abbrev pub may_end : Bool → Ending → Bool
-may_end is_extended Zulu = true
-may_end is_extended Plain = true
 may_end is_extended Colon = is_extended
+may_end is_extended other = true
 
 pub may_be : (has_colon is_extended : Bool) → (has_colon ≡ true → is_extended ≡ true) → (e : Ending) → is_written has_colon e ≡ true → may_end is_extended e ≡ true
-may_be has_colon is_extended extended Zulu w = refl
-may_be has_colon is_extended extended Plain w = refl
 may_be has_colon is_extended extended Colon w = extended w
+may_be has_colon is_extended extended e w = refl
 
 pub colon_there : (bytes rest : List ℕ) → byte colon bytes ≡ Some (tt, rest) → maybe_colon Extended bytes ≡ Some (tt, rest)
 colon_there bytes rest e = rw e refl
@@ -148,6 +147,7 @@ ReadsFraction false bytes nanosecond rest = (bytes ≡ rest) × (nanosecond ≡ 
 
 pub clock_read : (is_extended has_second : Bool) (bytes after rest : List ℕ) (v : Values) (nanosecond : ℕ) → Says (clock_parts is_extended has_second) bytes v after → ReadsFraction has_second after nanosecond rest → EndTime rest → v field.Hour ≤ 23 → v field.Minute ≤ 59 → second_if has_second (v field.Second) ≤ 60 → nanosecond < 1_000_000_000
     → time (kind_of is_extended) true bytes ≡ Some ((time_of (v field.Hour) (v field.Minute) (second_if has_second (v field.Second)) nanosecond, kind_of is_extended), rest)
+unfolding time designator from_hour kind_of_time minutes from_minute seconds basic_seconds extended_seconds to_second
 clock_read true true bytes after rest v n says seconds ends hour_few minute_few second_few few =
     let hour = says.2 in
     let minute = hour.2.2 in
@@ -158,22 +158,28 @@ clock_read false true bytes after rest v n says seconds ends hour_few minute_few
     let hour = says.2 in
     let minute = hour.2 in
     let second = minute.2 in
+    let last = rw second.2 at second.1 in
     of_fraction after rest n seconds (λ run read is.
-    rw is at (basic_time_of_pieces bytes says.0 hour.0 minute.0 after rest (v field.Hour) (v field.Minute) (v field.Second) run (literal_said _ _ says.1) hour.1 minute.1 (rw second.2 at second.1) read hour_few minute_few second_few (rw is few)))
+    let small : subsecond_of run < 1_000_000_000 = rw is few in
+    let all : time Basic true bytes ≡ Some ((time_of (v field.Hour) (v field.Minute) (v field.Second) (subsecond_of run), Basic), rest) =
+    rw (literal_said _ _ says.1, before_digits says.0 (v field.Hour) hour.0 (v field.Minute, minute.0) hour.1 minute.1, le-leb (v field.Hour) 23 hour_few, no_byte colon 2 hour.0 (v field.Minute, minute.0) refl (lit≤ tt) minute.1, before_digits hour.0 (v field.Minute) minute.0 (v field.Second, after) minute.1 last)
+    (rw (le-leb (v field.Minute) 59 minute_few, number_of minute.0 (v field.Second) after run rest last read, le-leb (v field.Second) 60 second_few, lt-ltb (subsecond_of run) 1_000_000_000 small) refl) in
+    rw is at all)
 clock_read true false bytes after rest v n says seconds ends hour_few minute_few second_few few =
     let hour = says.2 in
     let minute = hour.2.2 in
     let last = rw (minute.2 ∙ seconds.0) at minute.1 in
-    rw seconds.1 (minutes_of_pieces bytes says.0 hour.0 hour.2.0 rest (v field.Hour) (v field.Minute) (literal_said _ _ says.1) hour.1 (literal_said _ _ hour.2.1) last ends.no_mark ends.no_colon hour_few minute_few)
+    let point = literal_said _ _ hour.2.1 in
+    rw (seconds.1, literal_said _ _ says.1, before_colon says.0 (v field.Hour) hour.0 hour.2.0 hour.1 point, le-leb (v field.Hour) 23 hour_few, point, whole_number hour.2.0 (v field.Minute) rest last ends.no_mark, le-leb (v field.Minute) 59 minute_few, ends.no_colon) refl
 clock_read false false bytes after rest v n says seconds ends hour_few minute_few second_few few =
     let hour = says.2 in
     let minute = hour.2 in
     let last = rw (minute.2 ∙ seconds.0) at minute.1 in
-    rw seconds.1 (basic_minutes_of_pieces bytes says.0 hour.0 rest (v field.Hour) (v field.Minute) (literal_said _ _ says.1) hour.1 last ends.no_mark ends.no_number hour_few minute_few)
+    rw (seconds.1, literal_said _ _ says.1, before_digits says.0 (v field.Hour) hour.0 (v field.Minute, rest) hour.1 last, le-leb (v field.Hour) 23 hour_few, no_byte colon 2 hour.0 (v field.Minute, rest) refl (lit≤ tt) last)
+    (rw (whole_number hour.0 (v field.Minute) rest last ends.no_mark, le-leb (v field.Minute) 59 minute_few, no_number rest ends.no_number) refl)
 
 -- it begins with a `T`
 pub designator_there : (is_extended has_second : Bool) (bytes after : List ℕ) (v : Values) → Says (clock_parts is_extended has_second) bytes v after → (rest : List ℕ) × (bytes ≡ time_designator ∷ rest)
 designator_there true true bytes after v says = (says.0, byte_is time_designator bytes says.0 (literal_said _ _ says.1))
-designator_there true false bytes after v says = (says.0, byte_is time_designator bytes says.0 (literal_said _ _ says.1))
 designator_there false true bytes after v says = (says.0, byte_is time_designator bytes says.0 (literal_said _ _ says.1))
-designator_there false false bytes after v says = (says.0, byte_is time_designator bytes says.0 (literal_said _ _ says.1))
+designator_there e s bytes after v says = (says.0, byte_is time_designator bytes says.0 (literal_said _ _ says.1))

@@ -32,20 +32,14 @@ pub minute_there : (bytes : List ℕ) (minute : ℕ) → digits 2 bytes ≡ Some
 unfolding offset_minute
 minute_there bytes minute e few = rw (e, le-leb minute 59 few) refl
 
-not_zulu : (kind : Kind) (bytes : List ℕ) → byte upper_z bytes ≡ None → offset kind bytes ≡ signed_offset kind bytes
-unfolding offset
-not_zulu kind bytes none = rw none refl
-
 -- one with a sign
 pub offset_read : (kind : Kind) (bytes b1 b2 b3 : List ℕ) (mark hour minute : ℕ) (m : ℤ) → byte upper_z bytes ≡ None → sign bytes ≡ Some (mark, b1) → digits 2 b1 ≡ Some (hour, b2) → maybe_colon kind b2 ≡ Some (tt, b3) → digits 2 b3 ≡ Some (minute, []) → signed_offset_of (mark == hyphen) hour minute ≡ Ok (pos 60 *ℤ m) → IsAllOffset (offset kind bytes) m
+unfolding offset
 offset_read kind bytes b1 b2 b3 mark hour minute m other e0 e1 e2 e3 value =
     let few = offset_ranges (mark == hyphen) hour minute (pos 60 *ℤ m) value in
-    let read = not_zulu kind bytes other ∙ signed_there kind bytes b1 b2 b3 mark hour minute e0 e1 few.hours e2 (minute_there b3 minute e3 few.minutes) in
+    let read : offset kind bytes ≡ Some (Offsets.offset_of (mark == hyphen) hour minute, []) = rw other (signed_there kind bytes b1 b2 b3 mark hour minute e0 e1 few.hours e2 (minute_there b3 minute e3 few.minutes)) in
     (Offsets.offset_of (mark == hyphen) hour minute, read, seconds_of (mark == hyphen) hour minute ∙ value)
 
-zulu_there : (kind : Kind) (bytes : List ℕ) → byte upper_z bytes ≡ Some (tt, []) → offset kind bytes ≡ Some (zulu, [])
-unfolding offset
-zulu_there kind bytes e = rw e refl
-
 pub zulu_read : (kind : Kind) (bytes : List ℕ) (m : ℤ) → byte upper_z bytes ≡ Some (tt, []) → signed_offset_of false 0 0 ≡ Ok (pos 60 *ℤ m) → IsAllOffset (offset kind bytes) m
-zulu_read kind bytes m e value = (zulu, zulu_there kind bytes e, seconds_of false 0 0 ∙ value)
+unfolding offset
+zulu_read kind bytes m e value = (zulu, rw e refl, seconds_of false 0 0 ∙ value)

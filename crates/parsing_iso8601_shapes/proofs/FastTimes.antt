@@ -6,12 +6,12 @@ use Rattle.base.specs.Bytes.{colon}
 use Rattle.parsing_combinator.specs.Pieces.{digits, digit_count, digit_run, fraction, byte}
 use Rattle.parsing_iso8601.specs.Designators.{time_designator}
 use Rattle.parsing_iso8601.specs.Fractions.{rounded_part_of}
-use Rattle.parsing_iso8601.specs.declared.kind.Kind.TheVariants.{Basic, Extended}
+use Rattle.parsing_iso8601.specs.declared.kind.Kind.TheVariants.{Extended}
 use Rattle.parsing_iso8601.specs.Kinds.{kind_of_time}
 use Rattle.parsing_iso8601.specs.Numbers.{number, decimal_mark, fraction_digits, due_digits}
 use Rattle.parsing_iso8601.specs.ReadView.{subsecond}
-use Rattle.parsing_iso8601.specs.Times.{time_of, subsecond_of, time, designator, from_hour, minutes, from_minute, seconds, basic_seconds, extended_seconds, due_second, to_second}
-use Rattle.parsing_iso8601.proofs.Pieces.{only_byte, no_byte, no_mark, mapped, fraction_run, run_length}
+use Rattle.parsing_iso8601.specs.Times.{time_of, subsecond_of, time, designator, from_hour, minutes, from_minute, seconds, extended_seconds, due_second, to_second}
+use Rattle.parsing_iso8601.proofs.Pieces.{only_byte, no_mark, mapped, fraction_run, run_length}
 use Rattle.parsing_iso8601.proofs.Rounding.{short_fraction}
 
 -- two digits without a fraction
@@ -36,36 +36,12 @@ time_of_pieces b0 b1 b2 b3 b4 b5 b6 rest h m s run p0 p1 p2 p3 p4 p5 p6 hh hm hs
     rw (p0, before_colon b1 h b2 b3 p1 p2, le-leb h 23 hh, p2, before_colon b3 m b4 b5 p3 p4, le-leb m 59 hm, p4, number_of b5 s b6 run rest p5 p6)
     (rw (le-leb s 60 hs, lt-ltb (subsecond_of run) 1_000_000_000 hn) refl)
 
--- the time to a minute, after which no second stands
-pub minutes_of_pieces : (b0 b1 b2 b3 b4 : List ℕ) (h m : ℕ) → byte time_designator b0 ≡ Some (tt, b1) → digits 2 b1 ≡ Some (h, b2) → byte colon b2 ≡ Some (tt, b3) → digits 2 b3 ≡ Some (m, b4) → decimal_mark b4 ≡ None → byte colon b4 ≡ None
-    → h ≤ 23 → m ≤ 59 → time Extended true b0 ≡ Some ((time_of h m 0 0, Extended), b4)
-unfolding time designator from_hour kind_of_time minutes from_minute seconds extended_seconds
-minutes_of_pieces b0 b1 b2 b3 b4 h m p0 p1 p2 p3 unmarked colonless hh hm =
-    rw (p0, before_colon b1 h b2 b3 p1 p2, le-leb h 23 hh, p2, whole_number b3 m b4 p3 unmarked, le-leb m 59 hm, colonless) refl
-
 pub before_digits : (bytes : List ℕ) (n : ℕ) (rest : List ℕ) (x : ℕ × List ℕ) → digits 2 bytes ≡ Some (n, rest) → digits 2 rest ≡ Some x → number bytes ≡ Some ((n, None), rest)
 before_digits bytes n rest x e f = whole_number bytes n rest e (no_mark 2 rest x (lit< tt) f)
 
--- the time of the basic kind whose pieces these are
-pub basic_time_of_pieces : (b0 b1 b2 b3 b4 rest : List ℕ) (h m s : ℕ) (run : Option (List ℕ)) → byte time_designator b0 ≡ Some (tt, b1) → digits 2 b1 ≡ Some (h, b2) → digits 2 b2 ≡ Some (m, b3) → digits 2 b3 ≡ Some (s, b4) → fraction_digits b4 ≡ Some (run, rest)
-    → h ≤ 23 → m ≤ 59 → s ≤ 60 → subsecond_of run < 1_000_000_000
-    → time Basic true b0 ≡ Some ((time_of h m s (subsecond_of run), Basic), rest)
-unfolding time designator from_hour kind_of_time minutes from_minute seconds basic_seconds to_second
-basic_time_of_pieces b0 b1 b2 b3 b4 rest h m s run p0 p1 p2 p3 p4 hh hm hs hn =
-    rw (p0, before_digits b1 h b2 (m, b3) p1 p2, le-leb h 23 hh, no_byte colon 2 b2 (m, b3) refl (lit< tt) p2, before_digits b2 m b3 (s, b4) p2 p3)
-    (rw (le-leb m 59 hm, number_of b3 s b4 run rest p3 p4, le-leb s 60 hs, lt-ltb (subsecond_of run) 1_000_000_000 hn) refl)
-
-no_number : (bytes : List ℕ) → digits 2 bytes ≡ None → number bytes ≡ None
+pub no_number : (bytes : List ℕ) → digits 2 bytes ≡ None → number bytes ≡ None
 unfolding number
 no_number bytes e = rw e refl
-
--- the same to a minute
-pub basic_minutes_of_pieces : (b0 b1 b2 b3 : List ℕ) (h m : ℕ) → byte time_designator b0 ≡ Some (tt, b1) → digits 2 b1 ≡ Some (h, b2) → digits 2 b2 ≡ Some (m, b3) → decimal_mark b3 ≡ None → digits 2 b3 ≡ None
-    → h ≤ 23 → m ≤ 59 → time Basic true b0 ≡ Some ((time_of h m 0 0, Basic), b3)
-unfolding time designator from_hour kind_of_time minutes from_minute seconds basic_seconds
-basic_minutes_of_pieces b0 b1 b2 b3 h m p0 p1 p2 unmarked none hh hm =
-    rw (p0, before_digits b1 h b2 (m, b3) p1 p2, le-leb h 23 hh, no_byte colon 2 b2 (m, b3) refl (lit< tt) p2)
-    (rw (whole_number b2 m b3 p2 unmarked, le-leb m 59 hm, no_number b3 none) refl)
 
 -- ---- fractions
 

@@ -1,5 +1,5 @@
 -- The rows of the table of forms: each fact is computed for each row.
-use Rattle.std.proofs.Common.{◌≡◌, ◌≤◌, ◌<◌, ◌+◌, ℕ, zero, suc, Bool, true, false, [], get_or, refl, arith}
+use Rattle.std.proofs.Common.{◌≡◌, ◌≤◌, ◌<◌, ◌+◌, ℕ, suc, Bool, true, false, [], get_or, refl, arith}
 use Rattle.std.specs.Prelude.{◌==◌, ◌||◌, nat_le, nat_lt}
 use Rattle.std.proofs.lemmas.Bool.{agree_below, agree_below_at}
 use Rattle.std.proofs.lemmas.Bool.Decides.{nat_tests}
@@ -48,19 +48,8 @@ Right at = (p : are_moves (row at).lanes ≡ true) (q : are_moves (row at).back.
     × ((a : 0 < (row at).back.at → (row at).back.at + 16 ≤ (row at).length) (b : lets_year (windows_of (row at) p q) (row at).length 0 ≡ true) (d : are_bounded (windows_of (row at) p q) true ≡ true) → fits (shape_of (row at) p q a b d) (front_parts (row at).dating (row at).is_extended (nat_lt at 6)) ≡ true)
 
 pub right : (at : ℕ) → at < 12 → Right at
-right zero lt = λ p q. (refl, refl, λ a b d. refl)
-right (suc zero) lt = λ p q. (refl, refl, λ a b d. refl)
-right (suc (suc zero)) lt = λ p q. (refl, refl, λ a b d. refl)
-right (suc (suc (suc zero))) lt = λ p q. (refl, refl, λ a b d. refl)
-right (suc (suc (suc (suc zero)))) lt = λ p q. (refl, refl, λ a b d. refl)
-right (suc (suc (suc (suc (suc zero))))) lt = λ p q. (refl, refl, λ a b d. refl)
-right (suc (suc (suc (suc (suc (suc zero)))))) lt = λ p q. (refl, refl, λ a b d. refl)
-right (suc (suc (suc (suc (suc (suc (suc zero))))))) lt = λ p q. (refl, refl, λ a b d. refl)
-right (suc (suc (suc (suc (suc (suc (suc (suc zero)))))))) lt = λ p q. (refl, refl, λ a b d. refl)
-right (suc (suc (suc (suc (suc (suc (suc (suc (suc zero))))))))) lt = λ p q. (refl, refl, λ a b d. refl)
-right (suc (suc (suc (suc (suc (suc (suc (suc (suc (suc zero)))))))))) lt = λ p q. (refl, refl, λ a b d. refl)
-right (suc (suc (suc (suc (suc (suc (suc (suc (suc (suc (suc zero))))))))))) lt = λ p q. (refl, refl, λ a b d. refl)
 right (suc (suc (suc (suc (suc (suc (suc (suc (suc (suc (suc (suc n)))))))))))) lt = absurd (omega (arith, lt))
+right at lt = λ p q. (refl, refl, λ a b d. refl)
 
 second_of : (form at : ℕ) (s : Bool) → form < 6 → at ≡ row_of form s → nat_lt at 6 ≡ s
 second_of form at true lt is = grind (arith, nat_tests)

@@ -194,6 +194,7 @@ fn row_of(form: usize, has_second: bool) -> usize
 }
 
 /// One of the forms, with a second or without.
+#[tactic(auto, using(crate::proofs::FormLemmas::front_moves, crate::proofs::FormLemmas::back_moves, crate::proofs::FormLemmas::within))]
 #[inline(always)]
 pub(crate) fn form_at(form: usize, has_second: bool) -> Form
     requires { form < FORMS }

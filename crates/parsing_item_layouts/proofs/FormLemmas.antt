@@ -200,53 +200,18 @@ anything : (line : List ℕ) (x : Result (Read × List ℕ) Fault) → IfOk x (�
 anything line (Ok y) = ((λ place lt. refl), λ e. absurd cc)
 anything line (Err e) = tt
 
-time_goes : (c : Component) → Formed c (form_of_time c)
-unfolding period reads_component reads_modern date_piece year_piece time_piece offset_piece ignored
-time_goes (component.Hour24 m) line = two_goes (between 0 23 read.Hour24) _ m.padding field.Hour line
-time_goes (component.Hour12 m) line = two_goes (between 1 12 read.Hour12) _ m.padding field.HourOfHalf line
-time_goes (component.Minute m) line = two_goes (between 0 59 read.Minute) _ m.padding field.Minute line
-time_goes (component.Second m) line = two_goes (between 0 60 read.Second) _ m.padding field.Second line
-time_goes (component.Period m) line = named_goes half_number (λ x. Some (read.Afternoon x)) _ (part.Name names.HalfOfDay (m.is_uppercase && m.case_sensitive)) line (taken (named (m.is_uppercase && m.case_sensitive) periods) line) refl
-time_goes (component.Subsecond m) line = kept_rest (IsFormed (one (fraction_part m.digits)) line) (λ n. Some (read.Subsecond n)) _ (taken (parsed.fraction_of m.digits) line) (fraction_cut m.digits line)
-time_goes (component.OffsetHour m) line = hour_goes (up_to 25 (λ negative hour. read.OffsetHour hour negative)) _ m.padding m.sign_is_mandatory line
-time_goes (component.OffsetMinute m) line = two_goes (between 0 59 read.OffsetMinute) _ m.padding field.OffsetMinute line
-time_goes (component.OffsetSecond m) line = bytes_go (between 0 59 read.OffsetSecond) _ m.padding 2 line
-time_goes (component.UnixTimestampSecond m) line = timestamp_goes (since_epoch read.Unix 1_000_000_000) _ m.sign_is_mandatory 14 (piece.Part (part.Run field.Unix 14)) line (run_cut field.Unix 14)
-time_goes (component.UnixTimestampMillisecond m) line = timestamp_goes (since_epoch read.Unix 1_000_000) _ m.sign_is_mandatory 17 some_digits line (digits_cut 17)
-time_goes (component.UnixTimestampMicrosecond m) line = timestamp_goes (since_epoch read.Unix 1_000) _ m.sign_is_mandatory 20 some_digits line (digits_cut 20)
-time_goes (component.UnixTimestampNanosecond m) line = timestamp_goes (since_epoch read.Unix 1) _ m.sign_is_mandatory 23 some_digits line (digits_cut 23)
-time_goes (component.Ignore m) line = ignored_goes _ m.count line (nat_le m.count (length line))
-time_goes c line = anything line (reads_component c line)
-
-year_formed : (c : Component) → Formed c (form_of_year c)
-unfolding reads_component reads_modern date_piece year_piece
-year_formed (component.CalendarYearFullExtendedRange m) line = year_goes (up_to greatest_year (λ negative y. read.Year y)) _ m.padding m.sign_is_mandatory true (full_year m.padding) line (full_year_cut m.padding)
-year_formed (component.CalendarYearFullStandardRange m) line = year_goes (up_to greatest_year (λ negative y. read.Year y)) _ m.padding m.sign_is_mandatory false (full_year m.padding) line (full_year_cut m.padding)
-year_formed (component.IsoYearFullExtendedRange m) line = year_goes (up_to greatest_year (λ negative y. read.IsoYear y)) _ m.padding m.sign_is_mandatory true (padded_bytes m.padding 4 true) line (exact_cut m.padding 4)
-year_formed (component.IsoYearFullStandardRange m) line = year_goes (up_to greatest_year (λ negative y. read.IsoYear y)) _ m.padding m.sign_is_mandatory false (padded_bytes m.padding 4 true) line (exact_cut m.padding 4)
-year_formed (component.CalendarYearCenturyExtendedRange m) line = century_goes (up_to greatest_century (λ negative n. read.YearCentury n negative)) _ m.padding m.sign_is_mandatory true line
-year_formed (component.CalendarYearCenturyStandardRange m) line = century_goes (up_to greatest_century (λ negative n. read.YearCentury n negative)) _ m.padding m.sign_is_mandatory false line
-year_formed (component.IsoYearCenturyExtendedRange m) line = century_goes (up_to greatest_century (λ negative n. read.IsoYearCentury n negative)) _ m.padding m.sign_is_mandatory true line
-year_formed (component.IsoYearCenturyStandardRange m) line = century_goes (up_to greatest_century (λ negative n. read.IsoYearCentury n negative)) _ m.padding m.sign_is_mandatory false line
-year_formed (component.CalendarYearLastTwo m) line = bytes_go (between 0 99 read.YearLastTwo) _ m.padding 2 line
-year_formed (component.IsoYearLastTwo m) line = bytes_go (between 0 99 read.IsoYearLastTwo) _ m.padding 2 line
-year_formed c line = time_goes c line
+ruleset goes = (two_goes, bytes_go, digit_goes, year_goes, century_goes, timestamp_goes, hour_goes, anything, full_year_cut, exact_cut, digits_cut, run_cut)
 
 pub component_formed : (c : Component) → Formed c (form_of c)
-unfolding reads_component reads_modern date_piece
-component_formed (component.Day m) line = two_goes (between 1 31 read.Day) _ m.padding field.Day line
-component_formed (component.MonthNumerical m) line = two_goes (λ n. option_map read.Month (counted true months n)) _ m.padding field.Month line
+unfolding period reads_component reads_modern date_piece year_piece time_piece offset_piece ignored
+component_formed (component.Period m) line = named_goes half_number (λ x. Some (read.Afternoon x)) _ (part.Name names.HalfOfDay (m.is_uppercase && m.case_sensitive)) line (taken (named (m.is_uppercase && m.case_sensitive) periods) line) refl
+component_formed (component.Subsecond m) line = kept_rest (IsFormed (one (fraction_part m.digits)) line) (λ n. Some (read.Subsecond n)) _ (taken (parsed.fraction_of m.digits) line) (fraction_cut m.digits line)
+component_formed (component.Ignore m) line = ignored_goes _ m.count line (nat_le m.count (length line))
 component_formed (component.MonthShort m) line = named_goes month_number (λ x. Some (read.Month x)) _ (part.Name names.ShortMonth m.case_sensitive) line (taken (named m.case_sensitive short_months) line) refl
 component_formed (component.MonthLong m) line = named_goes month_number (λ x. Some (read.Month x)) _ (part.Name names.LongMonth m.case_sensitive) line (taken (named m.case_sensitive long_months) line) refl
 component_formed (component.WeekdayShort m) line = named_goes weekday_number (λ x. Some (read.Weekday x)) _ (part.Name names.ShortWeekday m.case_sensitive) line (taken (named m.case_sensitive short_weekdays) line) refl
 component_formed (component.WeekdayLong m) line = named_goes weekday_number (λ x. Some (read.Weekday x)) _ (part.Name names.LongWeekday m.case_sensitive) line (taken (named m.case_sensitive long_weekdays) line) refl
-component_formed (component.WeekNumberIso m) line = two_goes (between 1 53 read.IsoWeek) _ m.padding field.IsoWeek line
-component_formed (component.Ordinal m) line = bytes_go (between 1 366 read.Ordinal) _ m.padding 3 line
-component_formed (component.WeekNumberSunday m) line = bytes_go (between 0 53 read.SundayWeek) _ m.padding 2 line
-component_formed (component.WeekNumberMonday m) line = bytes_go (between 0 53 read.MondayWeek) _ m.padding 2 line
-component_formed (component.WeekdaySunday m) line = digit_goes (λ n. option_map read.Weekday (counted m.one_indexed from_sunday n)) _ line
-component_formed (component.WeekdayMonday m) line = digit_goes (λ n. option_map read.Weekday (counted m.one_indexed from_monday n)) _ line
-component_formed c line = year_formed c line
+component_formed c line = search goes
 
 pub component_formed_v3 : (c : Component) (line : List ℕ) → IfOk (reads_component_v3 c line) (λ x. IsFormed (form_of c) line x.1)
 unfolding reads_component_v3 ignored

@@ -10,6 +10,7 @@ use Rattle.description_items.specs.Tree.{Tree, Trees, Literal, Compound, Optiona
 use Rattle.description_items.specs.Tree as tree
 use Rattle.parsing_combinator.specs.Fault.{Fault, literal}
 use Rattle.parsing_combinator.specs.Readings.{then_read, give}
+use Rattle.parsing_components.proofs.lemmas.Sizes.{from, split}
 use Rattle.parsing_components.specs.Put.{put}
 use Rattle.parsing_components.specs.declared.said.Read.{Read}
 use Rattle.parsing_components.specs.Meaning.{Meaning, Answer, Counted, then_counted, all_of, or_unchanged, optionally, or_next, first_success, found_or, or_found, first_of, literally}
@@ -25,10 +26,6 @@ mapped P Q (Err e) f h = tt
 put_at : (P : List ℕ → Type 0) (r : Record) (x : Result (Read × List ℕ) Fault) → IfOk x (λ y. P y.1) → IfOk (then_read x (λ said. give (put said r))) (λ y. P y.1)
 put_at P r (Ok y) h = h
 put_at P r (Err e) h = tt
-
--- the trees of the items from a place on
-abbrev pub from : {X : Type 0} → (X → Tree) → List X → ℕ → Trees
-from t xs i = listed (map t (drop i xs))
 
 module _ {F : Type 0} (fits : Bool → F → List ℕ → Type 0) (language : Language) where
   -- whatever fits the one fits the other
@@ -97,22 +94,20 @@ module _ {F : Type 0} (fits : Bool → F → List ℕ → Type 0) (language : La
   abbrev pub EachLeads : {X : Type 0} → (X → Tree) → List X → ℕ → F → F → Type 0
   EachLeads {X} t xs n after before = (i : ℕ) (default : X) → i < n → Leads fits (reading language (t (get_or xs i default))) after before
 
-  Succeeds : Bool → Option Answer → F → F → List ℕ → Type 0
+  abbrev Succeeds : Bool → Option Answer → F → F → List ℕ → Type 0
   Succeeds whole o after before line = IfSome o (λ x. Passes whole x after before line)
 
   next_succeeds : (whole : Bool) (x : Answer) (n : ℕ) (others : Option Answer × ℕ) (after before : F) (line : List ℕ) → Passes whole x after before line → Succeeds whole others.0 after before line → Succeeds whole (or_next x n others).0 after before line
-  unfolding Succeeds
   next_succeeds whole (Ok y) n others after before line h k = h
   next_succeeds whole (Err e) n others after before line h k = k
 
   each_succeeds : {X : Type 0} (t : X → Tree) (xs : List X) (whole : Bool) (r : Record) (line : List ℕ) (after before : F) → EachLeads t xs (length xs) after before → Succeeds whole (first_success (each_reads language (listed (map t xs))) r line).0 after before line
-  unfolding Succeeds each_reads first_success
+  unfolding each_reads first_success
   each_succeeds t [] whole r line after before h = tt
   each_succeeds t (x ∷ xs) whole r line after before h =
       next_succeeds whole (reads language (t x) r line).0 (reads language (t x) r line).1 (first_success (each_reads language (listed (map t xs))) r line) after before line (h 0 x (omega arith) whole r line) (each_succeeds t xs whole r line after before (λ i default lt. h (suc i) default (omega (arith, lt))))
 
   found_passes : (whole : Bool) (f : Fault) (o : Option Answer) (after before : F) (line : List ℕ) → Succeeds whole o after before line → Passes whole (found_or f o) after before line
-  unfolding Succeeds
   found_passes whole f None after before line h = tt
   found_passes whole f (Some x) after before line h = h
 
@@ -143,9 +138,6 @@ module _ {F : Type 0} (fits : Bool → F → List ℕ → Type 0) (language : La
         rw same (leads_kept (reading language (t x)) after choice all k takes)
   ]
 
-  from_more : {X : Type 0} (t : X → Tree) (xs : List X) (i : ℕ) (x : X) → i < length xs → x ≡ get_or xs i x → from t xs i ≡ also (t x) (from t xs (i + 1))
-  from_more t xs i x lt is = ap (λ ys. listed (map t ys)) (drop_more xs i x lt) ∙ ap (λ y. also (t y) (from t xs (i + 1))) (sym is)
-
   -- the one before the last so many
   pub back_leads : {X : Type 0} (t : X → Tree) (xs : List X) (i at : ℕ) (x : X) (after mid before : F) → i < length xs → at ≡ length xs - 1 - i → x ≡ get_or xs at x → Leads fits (reading_of_all language (from t xs (length xs - i))) after mid → Leads fits (reading language (t x)) mid before
       → Leads fits (reading_of_all language (from t xs (length xs - (i + 1)))) after before
@@ -153,7 +145,7 @@ module _ {F : Type 0} (fits : Bool → F → List ℕ → Type 0) (language : La
       let here : length xs - (i + 1) ≡ at = omega (arith, lt, place) in
       let next : length xs - i ≡ at + 1 = omega (arith, lt, place) in
       let others : Leads fits (reading_of_all language (from t xs (at + 1))) after mid = rw next at h in
-      rw (here, from_more t xs at x (omega (arith, lt, place)) is) (next_leads (t x) (from t xs (at + 1)) after mid before k others)
+      rw (here, split t xs at x (omega (arith, lt, place)) is) (next_leads (t x) (from t xs (at + 1)) after mid before k others)
 
   pub none_leads : {X : Type 0} (t : X → Tree) (xs : List X) (front : F) → Leads fits (reading_of_all language (from t xs (length xs - 0))) front front
   none_leads t xs front = let none : drop (length xs - 0) xs ≡ [] = drop_all (length xs - 0) xs (omega arith) in rw none (nothing_leads front)

@@ -1,5 +1,6 @@
 -- Lines that have a byte outside of its range, or more bytes than are read.
 use Rattle.std.specs.Prelude.{◌≡◌, ◌⊎◌, ℕ, Bool, true, false, List, Option, None}
+use Rattle.std.specs.Option.{IsSomeAnd}
 use Rattle.std.specs.Result.{result_ok}
 use Rattle.parsing_layout.specs.Bounds.{Admits}
 use Rattle.parsing_components.specs.Meaning.{Meaning}
@@ -7,9 +8,9 @@ use Rattle.parsing_components.specs.declared.fields.Record.{Record}
 use Rattle.parsing_components.specs.Whole.{whole}
 use Rattle.parsing_item_layouts.specs.declared.first_bounds.FirstBounds.{FirstBounds}
 
--- a line is within the one bounds or the other
+-- a line is within the bounds, or within those of lines with a sign
 abbrev pub IsWithin : Bool → FirstBounds → List ℕ → Type 0
-IsWithin all b line = Admits all b.usual line ⊎ Admits all b.signed line
+IsWithin all b line = Admits all b.usual line ⊎ IsSomeAnd b.signed (λ s. Admits all s line)
 
 -- it begins otherwise than all that is within them
 abbrev pub IsOutside : FirstBounds → List ℕ → Type 0

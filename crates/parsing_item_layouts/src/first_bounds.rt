@@ -1,5 +1,7 @@
 //! The range of bytes at each of the first places of a line, and how long a line is.
-ghost use Rattle.std.specs.Prelude.{◌≡◌, true, map};
+ghost use Rattle.std.specs.Prelude.{◌≡◌, ℕ, Bool, List, true, map};
+ghost use Rattle.std.specs.Option.{IsSomeAnd};
+ghost use Rattle.parsing_layout.specs.Bounds.{Admits};
 ghost use Rattle.description_items.specs.Tree.{trees, listed};
 ghost use Rattle.description_tree.specs.Description.{v3_tree};
 ghost use Rattle.parsing_components.specs.Component.{reads_component, reads_component_v3};
@@ -21,7 +23,25 @@ use parsing_layout::{Bounds, Stretch};
 #[derive(Clone, Copy)]
 pub struct FirstBounds {
     usual: Bounds,
-    signed: Bounds,
+    /// Those of the lines with a sign, where a line may have one.
+    signed: Option<Bounds>,
+}
+
+// The bounds of some texts and of others, where there are any.
+fn joined(some: Option<Bounds>, others: &Option<Bounds>) -> Option<Bounds>
+    ensures some { (whole : Bool) (line : List ℕ) → IsSomeAnd some (λ b. Admits whole b line)
+        → IsSomeAnd result (λ b. Admits whole b line) }
+    ensures others { (whole : Bool) (line : List ℕ) → IsSomeAnd others.now (λ b. Admits whole b line)
+        → IsSomeAnd result (λ b. Admits whole b line) }
+{
+    match (some, others) {
+        (Some(mut bounds), Some(more)) => {
+            bounds.join(more);
+            Some(bounds)
+        }
+        (Some(bounds), None) => Some(bounds),
+        (None, others) => *others,
+    }
 }
 
 impl FirstBounds {
@@ -49,7 +69,13 @@ impl FirstBounds {
     pub fn rule_out(&self, line: &[u8]) -> bool
         ensures { result ≡ true → IsOutside self.now line.now }
     {
-        self.usual.rule_out(line) && self.signed.rule_out(line)
+        if !self.usual.rule_out(line) {
+            return false;
+        }
+        match &self.signed {
+            Some(signed) => signed.rule_out(line),
+            None => true,
+        }
     }
 
     /// Whether that shows, or the length of a line, that the line is not read as a whole: `false` says nothing of it.
@@ -58,7 +84,13 @@ impl FirstBounds {
         ensures { result ≡ true → (m : Meaning) → AreBoundsOf m self.now
             → ReadsNoneWhole m line.now }
     {
-        self.usual.rule_out_whole(line) && self.signed.rule_out_whole(line)
+        if !self.usual.rule_out_whole(line) {
+            return false;
+        }
+        match &self.signed {
+            Some(signed) => signed.rule_out_whole(line),
+            None => true,
+        }
     }
 }
 
@@ -68,30 +100,33 @@ impl Front for FirstBounds {
     fn end() -> FirstBounds {
         FirstBounds {
             usual: Bounds::end(),
-            signed: Bounds::none(),
+            signed: None,
         }
     }
 
     fn none() -> FirstBounds {
         FirstBounds {
             usual: Bounds::none(),
-            signed: Bounds::none(),
+            signed: None,
         }
     }
 
     fn put(&mut self, stretch: Stretch) {
         self.usual.put(stretch);
-        self.signed.put(stretch);
+        if let Some(signed) = &mut self.signed {
+            signed.put(stretch);
+        }
     }
 
     fn join(&mut self, other: &FirstBounds) {
         self.usual.join(&other.usual);
-        self.signed.join(&other.signed);
+        self.signed = joined(self.signed, &other.signed);
     }
 
     fn join_signed(&mut self, other: &FirstBounds) {
-        self.usual.join(&self.signed);
-        self.signed = other.usual;
-        self.signed.join(&other.signed);
+        if let Some(signed) = &self.signed {
+            self.usual.join(signed);
+        }
+        self.signed = joined(Some(other.usual), &other.signed);
     }
 }

@@ -195,17 +195,12 @@ fn form_of_time(component: &Component) -> Form
         Component::OffsetSecond(m) => return Form::Bare(padded_bytes(m.padding, 2, true)),
         Component::OffsetHour(m) => return hour_form(m.padding, m.sign_is_mandatory),
         Component::UnixTimestampSecond(m) => {
-            return timestamp_form(m.sign_is_mandatory, Piece::Part(Part::Run(Field::Unix, 14)));
+            let seconds = Piece::Part(Part::Run(Field::Unix, 14));
+            return signed_form(m.sign_is_mandatory, some_digits(), seconds);
         }
-        Component::UnixTimestampMillisecond(m) => {
-            return timestamp_form(m.sign_is_mandatory, some_digits());
-        }
-        Component::UnixTimestampMicrosecond(m) => {
-            return timestamp_form(m.sign_is_mandatory, some_digits());
-        }
-        Component::UnixTimestampNanosecond(m) => {
-            return timestamp_form(m.sign_is_mandatory, some_digits());
-        }
+        Component::UnixTimestampMillisecond(m) => return digits_form(m.sign_is_mandatory),
+        Component::UnixTimestampMicrosecond(m) => return digits_form(m.sign_is_mandatory),
+        Component::UnixTimestampNanosecond(m) => return digits_form(m.sign_is_mandatory),
         Component::Ignore(m) => {
             return Form::Bare(Piece::Bytes(Stretch::of(Kind::Any, usize::from(m.count))));
         }
@@ -221,11 +216,11 @@ fn some_digits() -> Piece
     Piece::Bytes(Stretch::from(Kind::Digit, 1))
 }
 
-// A timestamp after a sign, or without one. Seconds without a sign are a field; nothing else is, since a field has no unit.
-fn timestamp_form(is_mandatory: bool, bare: Piece) -> Form
-    ensures { result ≡ timestamp_form is_mandatory bare }
+// A timestamp after a sign, or without one. Only seconds without a sign are a field, since a field has no unit.
+fn digits_form(is_mandatory: bool) -> Form
+    ensures { result ≡ timestamp_form is_mandatory some_digits }
 {
-    signed_form(is_mandatory, some_digits(), bare)
+    signed_form(is_mandatory, some_digits(), some_digits())
 }
 
 // The hours of an offset. Without a sign they are no part: what an offset says is told by its sign.

@@ -1,3 +1,4 @@
+pub mod Assumed
 pub mod Items
 pub mod Recorded
 pub mod Kind

@@ -14,6 +14,8 @@ use Rattle.parsing_values.specs.Moment.{moment_of}
 use Rattle.parsing_values.specs.declared.fields.Fields.{Fields}
 use Rattle.parsing_item_parts.specs.Items.{AreItems, items_kept}
 use Rattle.parsing_item_parts.specs.declared.listed.Listed.{Listed}
+use Rattle.parsing_item_parts.specs.declared.reading.ListedAt.{ListedAt}
+use Rattle.parsing_item_parts.specs.Assumed.{Assumes}
 
 abbrev pub items_listed : Listed → List Item
 items_listed l = items_kept l.items
@@ -34,6 +36,10 @@ pub record IsWay (l : Listed) (has : Said) (v : Values) : Type 0 where
 -- what a text says by the items, the description reads
 abbrev pub IsListOf : Meaning → Listed → Type 0
 IsListOf m l = AreItems m (items_listed l)
+
+-- the offset that is assumed has the minutes that count where lines have none
+abbrev pub ListedAssumes : ListedAt → Option ℤ → Type 0
+ListedAssumes way assumed = Assumes way.listed.now.kind.has_offset assumed way.minutes.number
 
 -- fields that are found are those of the moment that each such meaning names of the whole line, with an offset assumed or none
 abbrev pub NamesWhole : (Meaning → Type 0) → List ℕ → Option ℤ → Option Fields → Type 0

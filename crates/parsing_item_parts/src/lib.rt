@@ -3,10 +3,13 @@
 
 mod list;
 mod listed;
+mod minutes;
 mod nodes;
 mod parts;
 mod reading;
 
 pub use list::{Items, Parts};
 pub use listed::Listed;
+pub use minutes::Minutes;
 pub use parts::part_of;
+pub use reading::ListedAt;

@@ -23,6 +23,7 @@ pub struct Kind {
     /// The hour is one of half a day.
     pub(crate) is_half: bool,
     pub(crate) has_second: bool,
+    /// An offset, or Unix time, beside which none counts.
     pub(crate) has_offset: bool,
 }
 
@@ -55,7 +56,7 @@ impl Kind {
             is_unix: say(certain, Field::Unix),
             is_half: !say(possible, Field::Hour),
             has_second: say(possible, Field::Second),
-            has_offset: say(possible, Field::OffsetHour),
+            has_offset: say(certain, Field::Unix) || say(possible, Field::OffsetHour),
         }
     }
 

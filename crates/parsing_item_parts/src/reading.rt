@@ -10,12 +10,13 @@ ghost use Rattle.parsing_components.specs.Parts.{time_parts};
 ghost use Rattle.parsing_components.specs.Prefix.{NamesPrefix, beginning};
 ghost use Rattle.parsing_components.specs.Whole.{whole, moment_named, offset_named};
 ghost use Rattle.parsing_values.specs.NamedTime.{hour_of};
-ghost use Rattle.parsing_item_parts.specs.Listed.{IsListOf, IsWay, NamesWhole};
+ghost use Rattle.parsing_item_parts.specs.Assumed.{Assumes};
+ghost use Rattle.parsing_item_parts.specs.Listed.{IsListOf, IsWay, ListedAssumes, NamesWhole};
 ghost use Rattle.parsing_item_parts.specs.Recorded.{recorded};
 
 use crate::listed::Listed;
+use crate::minutes::Minutes;
 use calendar::UtcOffset;
-use parsing_components::assumed_minutes;
 use parsing_layout::Field;
 use parsing_strides::Found;
 use parsing_values::{Fields, has_day, offset_minutes};
@@ -40,25 +41,22 @@ impl Listed {
         hour
     }
 
-    // The minutes of the offset.
+    // The minutes of the offset, or else those that are assumed.
     #[inline(always)]
-    fn offset(&self, found: &Found, assumed: Option<UtcOffset>) -> Option<i16>
+    fn offset(&self, found: &Found, minutes: Minutes) -> i16
         requires dated { self.now.kind.is_unix ≡ false }
         requires range { IsAllInRange (values_in found.now) }
-        ensures named { (has : Said) → IsWay self.now has (values_in found.now) → IfSome result (λ o.
-            offset_named (recorded has (values_in found.now) (beginning assumed)) ≡ Ok (pos 60 *ℤ o)) }
-        ensures bound { IfSome result (λ o. unsigned_abs o ≤ 1559) }
+        ensures named { (has : Said) (assumed : Option ℤ) → IsWay self.now has (values_in found.now)
+            → Assumes self.now.kind.has_offset assumed minutes.number
+            → offset_named (recorded has (values_in found.now) (beginning assumed)) ≡ Ok (pos 60 *ℤ result) }
+        ensures bound { unsigned_abs result ≤ 1559 }
     {
         if !self.kind.has_offset {
-            let offset = assumed?;
-            return Some(assumed_minutes(offset));
+            return minutes.number;
         }
         let is_behind = found.get(Field::Sign) == b'-';
-        Some(offset_minutes(
-            is_behind,
-            found.get(Field::OffsetHour),
-            found.get(Field::OffsetMinute),
-        ))
+        let (hour, minute) = (found.get(Field::OffsetHour), found.get(Field::OffsetMinute));
+        offset_minutes(is_behind, hour, minute)
     }
 
     // The fields of Unix time, in UTC.
@@ -74,13 +72,14 @@ impl Listed {
 
     // The fields of a date and a time of day.
     #[inline(always)]
-    fn dated_fields(&self, found: &Found, assumed: Option<UtcOffset>) -> Option<Fields>
+    fn dated_fields(&self, found: &Found, minutes: Minutes) -> Option<Fields>
         requires dated { self.now.kind.is_unix ≡ false }
         requires range { IsAllInRange (values_in found.now) }
-        ensures { (has : Said) → IsWay self.now has (values_in found.now) → IfSome result
+        ensures { (has : Said) (assumed : Option ℤ) → IsWay self.now has (values_in found.now)
+            → Assumes self.now.kind.has_offset assumed minutes.number → IfSome result
             (λ f. moment_named (recorded has (values_in found.now) (beginning assumed)) ≡ Ok (moment_of f)) }
     {
-        let offset = self.offset(found, assumed)?;
+        let offset = self.offset(found, minutes);
         let year = found.year();
         let (month, day) = (found.get(Field::Month), found.get(Field::Day));
         if !has_day(year, month, day) {
@@ -93,9 +92,10 @@ impl Listed {
 
     // The fields of what was found.
     #[inline(always)]
-    fn fields(&self, found: &Found, assumed: Option<UtcOffset>) -> Option<Fields>
+    fn fields(&self, found: &Found, minutes: Minutes) -> Option<Fields>
         ensures range { IfSome result (λ _. IsAllInRange (values_in found.now)) }
-        ensures named { (has : Said) → IsWay self.now has (values_in found.now) → IfSome result
+        ensures named { (has : Said) (assumed : Option ℤ) → IsWay self.now has (values_in found.now)
+            → Assumes self.now.kind.has_offset assumed minutes.number → IfSome result
             (λ f. moment_named (recorded has (values_in found.now) (beginning assumed)) ≡ Ok (moment_of f)) }
     {
         if !found.is_in_range() {
@@ -104,8 +104,19 @@ impl Listed {
         if self.kind.is_unix {
             return self.unix_fields(found);
         }
-        let fields = self.dated_fields(found, assumed)?;
-        Some(fields)
+        self.dated_fields(found, minutes)
+    }
+
+    /// With an offset that is assumed or none, which counts only where lines have none: `None` where they name no moment, since they
+    /// have no offset and none is assumed.
+    #[inline(always)]
+    pub fn at(&self, assumed: Option<UtcOffset>) -> Option<ListedAt<'_>>
+        ensures listed { IfSome result (λ way. way.listed.now ≡ self.now) }
+        ensures assumed { IfSome result (λ way. ListedAssumes way assumed) }
+    {
+        let minutes = Minutes::assumed(self.kind.has_offset, assumed)?;
+        let listed = self;
+        Some(ListedAt { listed, minutes })
     }
 
     /// The fields of a line, with an offset assumed or none, which counts only where the line has none: `None` says nothing of
@@ -114,12 +125,7 @@ impl Listed {
     pub fn read(&self, line: &[u8], assumed: Option<UtcOffset>) -> Option<Fields>
         ensures { NamesWhole (λ m. IsListOf m self.now) line.now assumed result }
     {
-        let mut found = self.unread;
-        let rest = self.strides.read(line, &mut found)?;
-        if rest.len() > 0 {
-            return None;
-        }
-        self.fields(&found, assumed)
+        self.at(assumed)?.read(line)
     }
 
     /// The fields of a prefix of a line, and what stands after the prefix: `None` says nothing of the line.
@@ -133,9 +139,33 @@ impl Listed {
             (λ x. NamesPrefix m (beginning assumed) line.now x.1.now (moment_of x.0)) }
         ensures end { IfSome result (λ x. EndsWith line.now x.1.now) }
     {
+        let minutes = Minutes::assumed(self.kind.has_offset, assumed)?;
         let mut found = self.unread;
         let rest = self.strides.read(line, &mut found)?;
-        let fields = self.fields(&found, assumed)?;
+        let fields = self.fields(&found, minutes)?;
         Some((fields, rest))
+    }
+}
+
+/// The parts of a description, with the offset that is assumed for its lines.
+#[derive(Clone, Copy)]
+pub struct ListedAt<'p> {
+    pub listed: &'p Listed,
+    pub minutes: Minutes,
+}
+
+impl ListedAt<'_> {
+    /// The fields of a line: `None` says nothing of the line.
+    #[inline(always)]
+    pub fn read(&self, line: &[u8]) -> Option<Fields>
+        ensures { (assumed : Option ℤ) → ListedAssumes self.now assumed
+            → NamesWhole (λ m. IsListOf m self.now.listed.now) line.now assumed result }
+    {
+        let mut found = self.listed.unread;
+        let rest = self.listed.strides.read(line, &mut found)?;
+        if rest.len() > 0 {
+            return None;
+        }
+        self.listed.fields(&found, self.minutes)
     }
 }

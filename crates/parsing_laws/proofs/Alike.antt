@@ -39,33 +39,20 @@ first_alike t items h k r bytes =
     ∙ same_after _ _ (reading reads_component t r bytes) k
     ∙ sym (first_in_turn reads_component t (listed items) r bytes)
 
-literal_alike : (own : List ℕ) (r : Record) (bytes : List ℕ) → reading reads_component_v3 (Literal own) r bytes ≡ reading reads_component (Literal own) r bytes
-unfolding reads
-literal_alike own r bytes = refl
-
 part_alike : (c : Component) → ((m : Ignore) → ¬ (c ≡ component.Ignore m)) → (r : Record) (bytes : List ℕ) → reading reads_component_v3 (Part c) r bytes ≡ reading reads_component (Part c) r bytes
 unfolding reads
 part_alike c h r bytes = ap (λ (a : Result (Read × List ℕ) Fault). then_read a (λ said. give (put said r))) (component_alike c h bytes)
 
 items_alike : (text : List ℕ) (items : List Tree) → SpellsRanged text items → IgnoresNothing items → (r : Record) (bytes : List ℕ) → items_read reads_component_v3 items r bytes ≡ items_read reads_component items r bytes
-unfolding each_reads
+unfolding reads each_reads
 items_alike text [] h n r bytes = refl
-items_alike text (Literal own ∷ items) (first, more, parts, one, others) n r bytes = first_alike (Literal own) items (literal_alike own) (items_alike more items others (after_is_other (Literal own) items n)) r bytes
+items_alike text (Literal own ∷ items) (first, more, parts, one, others) n r bytes = first_alike (Literal own) items (λ _ _. refl) (items_alike more items others (after_is_other (Literal own) items n)) r bytes
 items_alike text (Part c ∷ items) (first, more, parts, one, says, others) n r bytes = first_alike (Part c) items (part_alike c (first_is_other c items n)) (items_alike more items others (after_is_other (Part c) items n)) r bytes
-items_alike text (Compound us ∷ items) h n r bytes = absurd h
-items_alike text (Optional f t ∷ items) h n r bytes = absurd h
-items_alike text (First us ∷ items) h n r bytes = absurd h
-
-same_readings : (text : List ℕ) (items : List Tree) → SpellsRanged text items → IgnoresNothing items → (r : Record) (bytes : List ℕ) → by_tree (joined items) r bytes ≡ by_items items r bytes
-unfolding reads
-same_readings text items h n r bytes = items_alike text items h n r bytes
-
-same_moments : (m n : Meaning) → ((r : Record) (bytes : List ℕ) → m r bytes ≡ n r bytes) → (defaults : Option Record) (line : List ℕ) → names moment_named (whole m defaults line) ≡ names moment_named (whole n defaults line)
-unfolding whole
-same_moments m n h defaults line = ap (λ (a : Answer). names moment_named (all_ended a)) (h (starting defaults) line)
+items_alike text (other ∷ items) h n r bytes = absurd h
 
 pub read_by_both : ((text : List ℕ) (items : List Tree) → SpellsRanged text items → Spells Three text items × Spells Two text items) → (text : List ℕ) (items : List Tree) → SpellsRanged text items → IgnoresNothing items → IsReadByBoth text items
+unfolding reads whole
 read_by_both ranged text items h n =
     let accepted = ranged text items h in
-    let same = same_readings text items h n in
-    record { in_three = accepted.0; others = items; in_two = accepted.1; same_reading = same; same_moment = same_moments (by_tree (joined items)) (by_items items) same }
+    let same : (r : Record) (bytes : List ℕ) → by_tree (joined items) r bytes ≡ by_items items r bytes = items_alike text items h n in
+    record { in_three = accepted.0; others = items; in_two = accepted.1; same_reading = same; same_moment = λ defaults line. ap (λ (a : Answer). names moment_named (all_ended a)) (same (starting defaults) line) }

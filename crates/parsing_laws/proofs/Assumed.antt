@@ -13,7 +13,8 @@ use Rattle.parsing_parsable.specs.TwoRoads.{AgreeOn, HoldsAtMostAnOffset}
 use Rattle.parsing_parsable.proofs.Assumed.{assumed, as_staged}
 use Rattle.parsing_parsable.proofs.Iso8601Road.{from_unread}
 use Rattle.parsing_laws.specs.TwoFormats.{IsReadAlike, rounded}
-use Rattle.parsing_laws.proofs.Moments.{whole_alike}
+use Rattle.parsing_laws.proofs.Moments.{placed, accepted, not_accepted}
+use Rattle.parsing_laws.proofs.RfcPieces.{text_pieces}
 
 pub same_moment : (x y : Result Shown Fault) (m : Shown) → result_ok x ≡ result_ok y → y ≡ Ok m → x ≡ Ok m
 same_moment (Ok x) y m alike e = let is : Some x ≡ Some m = alike ∙ ap result_ok e in ap (λ (v : Shown). Ok v) (same x m is)
@@ -31,8 +32,8 @@ pub two_formats : (bytes : List ℕ) → AgreeOn direct reads_rfc3339 bytes
     → ((m : Shown) → IsOfOffset bytes m → (defaults : Option Record) → HoldsAtMostAnOffset defaults → names moment_named (whole reads_iso8601 defaults bytes) ≡ Ok m)
     → (defaults : Option Record) → HoldsAtMostAnOffset defaults → (m : Shown) → by_roads direct reads_rfc3339 defaults bytes ≡ Ok m → IsReadAlike defaults bytes m
 two_formats bytes agree one_way defaults holds m named =
-    let alike = whole_alike bytes m (named_directly bytes defaults m agree holds named) in
+    let text = placed bytes m (text_pieces bytes m (named_directly bytes defaults m agree holds named)) in
     record {
-      named = λ both. one_way (rounded bytes m) (alike.named both) defaults holds;
-      refused = λ neither. from_unread bytes (alike.unread neither) defaults;
+      named = λ both. one_way (rounded bytes m) (accepted bytes m text both) defaults holds;
+      refused = λ neither. from_unread bytes (not_accepted bytes m text neither) defaults;
     }

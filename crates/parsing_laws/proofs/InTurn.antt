@@ -26,10 +26,7 @@ items_in_turn join l version s t a b h k = joins_in_turn l version s t a b (join
 -- the items of a tree
 items_of : (text : List ℕ) (tree : Tree) → SpellsTree Three text tree → (items : List Tree) × (tree ≡ joined items) × Spells Three text items
 items_of text (Compound ts) h = (unlisted ts, sym (ap Compound (listed_again ts)), subst (λ (x : Trees). SpellsItems Three false 127 text x) (sym (listed_again ts)) h)
-items_of text (Literal bytes) h = absurd h
-items_of text (Part c) h = absurd h
-items_of text (Optional f t) h = absurd h
-items_of text (First ts) h = absurd h
+items_of text other h = absurd h
 
 pub trees_in_turn : AllJoin → (s t : List ℕ) (a b : Tree) → SpellsTree Three s a → SpellsTree Three t b → IsReadInTurn (SpellsTree Three (s ++ t)) by_tree a b
 unfolding reads

@@ -3,7 +3,7 @@ use Rattle.std.proofs.Common.{◌≡◌, ℕ, Bool, true, false, cond, List, [],
 use Rattle.std.specs.Prelude.{◌&&◌, nat_eq, bytes_eq}
 use Rattle.description_items.specs.Tree.{Tree, Trees, Literal, also, listed}
 use Rattle.parsing_combinator.specs.Fault.{Fault, literal}
-use Rattle.parsing_combinator.specs.Readings.{then_read}
+use Rattle.parsing_combinator.specs.Readings.{Reading, then_read}
 use Rattle.parsing_components.specs.declared.fields.Record.{Record}
 use Rattle.parsing_record.specs.Meaning.{Answer, Meaning, Counted, meaning, literally, unchanged, then_counted, all_of}
 use Rattle.parsing_record.specs.Reads.{Language, reads, each_reads, reading, reading_of_all}
@@ -12,25 +12,6 @@ use Rattle.parsing_laws.specs.Joined.{in_turn, IsReadInTurn}
 -- what items read in a language
 abbrev pub items_read : Language → List Tree → Meaning
 items_read l items = reading_of_all l (listed items)
-
--- ---- items after others
-
-then_in_turn : (a : Answer) (n : ℕ) (cs ds all : List Counted) → ((r : Record) (bytes : List ℕ) → meaning (all_of all) r bytes ≡ in_turn (meaning (all_of cs)) (meaning (all_of ds)) r bytes) → (then_counted a n (all_of all)).0 ≡ then_read (then_counted a n (all_of cs)).0 (meaning (all_of ds))
-then_in_turn (Ok x) n cs ds all h = h x.0 x.1
-then_in_turn (Err f) n cs ds all h = refl
-
-all_in_turn : (cs ds : List Counted) (r : Record) (bytes : List ℕ) → meaning (all_of (cs ++ ds)) r bytes ≡ in_turn (meaning (all_of cs)) (meaning (all_of ds)) r bytes
-unfolding all_of
-all_in_turn [] ds r bytes = refl
-all_in_turn (c ∷ cs) ds r bytes = then_in_turn (c r bytes).0 (c r bytes).1 cs ds (cs ++ ds) (all_in_turn cs ds)
-
-each_after : (l : Language) (xs ys : List Tree) → each_reads l (listed (xs ++ ys)) ≡ each_reads l (listed xs) ++ each_reads l (listed ys)
-unfolding each_reads
-each_after l [] ys = refl
-each_after l (x ∷ xs) ys = ap (λ (cs : List Counted). reads l x ∷ cs) (each_after l xs ys)
-
-items_in_turn : (l : Language) (xs ys : List Tree) (r : Record) (bytes : List ℕ) → items_read l (xs ++ ys) r bytes ≡ in_turn (items_read l xs) (items_read l ys) r bytes
-items_in_turn l xs ys r bytes = ap (λ (cs : List Counted). meaning (all_of cs) r bytes) (each_after l xs ys) ∙ all_in_turn (each_reads l (listed xs)) (each_reads l (listed ys)) r bytes
 
 -- ---- the first item and those after it
 
@@ -46,6 +27,22 @@ first_in_turn l t ts r bytes = step (reads l t r bytes).0 (reads l t r bytes).1
 pub same_after : (m n : Meaning) (a : Answer) → ((r : Record) (bytes : List ℕ) → m r bytes ≡ n r bytes) → then_read a m ≡ then_read a n
 same_after m n (Ok x) h = h x.0 x.1
 same_after m n (Err f) h = refl
+
+-- a reading, and another after it, after one
+regrouped : {A B C : Type 0} (a : Result (A × List ℕ) Fault) (f : A → Reading B) (g : B → Reading C) → then_read (then_read a f) g ≡ then_read a (λ x rest. then_read (f x rest) g)
+regrouped (Ok x) f g = refl
+regrouped (Err e) f g = refl
+
+-- ---- items after others
+
+items_in_turn : (l : Language) (xs ys : List Tree) (r : Record) (bytes : List ℕ) → items_read l (xs ++ ys) r bytes ≡ in_turn (items_read l xs) (items_read l ys) r bytes
+unfolding all_of each_reads
+items_in_turn l [] ys r bytes = refl
+items_in_turn l (x ∷ xs) ys r bytes =
+    first_in_turn l x (listed (xs ++ ys)) r bytes
+    ∙ same_after _ _ (reading l x r bytes) (items_in_turn l xs ys)
+    ∙ sym (regrouped (reading l x r bytes) (items_read l xs) (items_read l ys))
+    ∙ ap (λ (a : Answer). then_read a (items_read l ys)) (sym (first_in_turn l x (listed xs) r bytes))
 
 -- ---- a literal that is cut in two
 
@@ -66,33 +63,23 @@ cut (x ∷ xs) ys (b ∷ bytes) = one_byte_more (nat_eq b x) xs ys bytes (cut xs
 
 literal_in_turn : (l : Language) (xs ys : List ℕ) (r : Record) (bytes : List ℕ) → reading l (Literal (xs ++ ys)) r bytes ≡ in_turn (reading l (Literal xs)) (reading l (Literal ys)) r bytes
 unfolding reads
-literal_in_turn l xs ys r bytes = ap kept (cut xs ys bytes) ∙ regroup (literally xs bytes)
-  where
-    kept : Result (Unit {0} × List ℕ) Fault → Answer
-    kept a = then_read a (λ _ rest. Ok (r, rest))
+literal_in_turn l xs ys r bytes =
+    ap (λ (a : Result (Unit {0} × List ℕ) Fault). then_read a (λ _ rest. Ok (r, rest))) (cut xs ys bytes)
+    ∙ regrouped (literally xs bytes) _ _ ∙ sym (regrouped (literally xs bytes) _ _)
 
-    regroup : (a : Result (Unit {0} × List ℕ) Fault) → kept (then_read a (λ _. literally ys)) ≡ then_read (kept a) (unchanged (literally ys))
-    regroup (Ok x) = refl
-    regroup (Err f) = refl
-
-cut_among : (l : Language) (before : List Tree) (xs ys : List ℕ) (after : List Tree) (r : Record) (bytes : List ℕ) → items_read l (before ++ Literal (xs ++ ys) ∷ after) r bytes ≡ items_read l (before ++ Literal xs ∷ (Literal ys ∷ after)) r bytes
-cut_among l [] xs ys after r bytes =
+cut_first : (l : Language) (xs ys : List ℕ) (after : List Tree) (r : Record) (bytes : List ℕ) → items_read l (Literal (xs ++ ys) ∷ after) r bytes ≡ items_read l (Literal xs ∷ Literal ys ∷ after) r bytes
+cut_first l xs ys after r bytes =
     first_in_turn l (Literal (xs ++ ys)) (listed after) r bytes
     ∙ ap (λ (a : Answer). then_read a (items_read l after)) (literal_in_turn l xs ys r bytes)
-    ∙ regroup (reading l (Literal xs) r bytes)
+    ∙ regrouped (reading l (Literal xs) r bytes) (reading l (Literal ys)) (items_read l after)
+    ∙ same_after _ _ (reading l (Literal xs) r bytes) (λ q rest. sym (first_in_turn l (Literal ys) (listed after) q rest))
     ∙ sym (first_in_turn l (Literal xs) (listed (Literal ys ∷ after)) r bytes)
-  where
-    regroup : (a : Answer) → then_read (then_read a (reading l (Literal ys))) (items_read l after) ≡ then_read a (items_read l (Literal ys ∷ after))
-    regroup (Ok x) = sym (first_in_turn l (Literal ys) (listed after) x.0 x.1)
-    regroup (Err f) = refl
-cut_among l (t ∷ before) xs ys after r bytes =
-    first_in_turn l t (listed (before ++ Literal (xs ++ ys) ∷ after)) r bytes
-    ∙ same_after _ _ (reading l t r bytes) (cut_among l before xs ys after)
-    ∙ sym (first_in_turn l t (listed (before ++ Literal xs ∷ (Literal ys ∷ after))) r bytes)
 
 one_literal : (l : Language) (before : List Tree) (xs ys : List ℕ) (after : List Tree) (r : Record) (bytes : List ℕ) → items_read l (before ++ Literal (xs ++ ys) ∷ after) r bytes ≡ in_turn (items_read l (before ++ Literal xs ∷ [])) (items_read l (Literal ys ∷ after)) r bytes
 one_literal l before xs ys after r bytes =
-    cut_among l before xs ys after r bytes
+    items_in_turn l before (Literal (xs ++ ys) ∷ after) r bytes
+    ∙ same_after _ _ (items_read l before r bytes) (cut_first l xs ys after)
+    ∙ sym (items_in_turn l before (Literal xs ∷ Literal ys ∷ after) r bytes)
     ∙ ap (λ (ts : List Tree). items_read l ts r bytes) (sym (append_assoc before (Literal xs ∷ []) (Literal ys ∷ after)))
     ∙ items_in_turn l (before ++ Literal xs ∷ []) (Literal ys ∷ after) r bytes
 

@@ -6,7 +6,7 @@ use Rattle.std.specs.Str.Parse.{digits_value}
 use Rattle.std.proofs.lemmas.Bool.{cases_Bool}
 use Rattle.std.proofs.lemmas.Bool.Decides.{nat_tests}
 use Rattle.std.proofs.lemmas.Int.{ints}
-use Rattle.base.specs.Bytes.{hyphen, colon}
+use Rattle.base.specs.Bytes.{colon, dot, hyphen}
 use Rattle.calendar_count.specs.Month.{month_number}
 use Rattle.calendar_count.specs.declared.month.Month.{Month}
 use Rattle.calendar_count.specs.declared.component_range.ComponentRange.{ComponentRange}
@@ -17,7 +17,6 @@ use Rattle.parsing_combinator.specs.Readings.{value_read}
 use Rattle.parsing_combinator.specs.Pieces.{byte, byte_of, skip_of, nanoseconds_of}
 use Rattle.parsing_values.specs.Resolution.{leap_time_of}
 use Rattle.parsing_values.specs.StandIn.{leap_checked}
-use Rattle.parsing_rfc3339.specs.Direct.{direct}
 use Rattle.parsing_iso8601.specs.Designators.{time_designator}
 use Rattle.parsing_iso8601.specs.declared.kind.Kind.TheVariants.{Extended}
 use Rattle.parsing_iso8601.specs.declared.written.WrittenDate.{WrittenDate}
@@ -35,7 +34,7 @@ use Rattle.parsing_laws.proofs.Places.{digits_place, byte_place, any_place, furt
 use Rattle.parsing_laws.proofs.RfcPieces.{ThreePieces, date_pieces, clock_pieces, TextPieces, text_pieces, nanosecond, shown}
 use Rattle.parsing_laws.proofs.SameDates.{read_date}
 use Rattle.parsing_laws.proofs.SameOffsets.{SameOffset, same_zone}
-use Rattle.parsing_laws.proofs.SameTimes.{no_time, designated, run_of, SameFraction, same_fraction, rounded_cut, cut_is, same_time, refused_time}
+use Rattle.parsing_laws.proofs.SameTimes.{no_time, designated, run_of, SameFraction, fraction_by, rounded_cut, same_time, refused_time}
 use Rattle.parsing_laws.proofs.NearTimes.{same_leap, next_time}
 use Rattle.parsing_values.proofs.lemmas.Ranges.{date_ranges, TimeRanges, time_ranges}
 use Rattle.parsing_components.proofs.Entries.{month_with}
@@ -51,12 +50,8 @@ no_offset_trails : (bytes b1 : List ℕ) (d : WrittenDate) (t : WrittenTime) (c 
 unfolding whole iso8601
 no_offset_trails bytes b1 d t c cs hd ht ho = rw hd (rw ht (rw ho refl))
 
-small_refused : offset Extended (122 ∷ []) ≡ None
-unfolding offset signed_offset skip_of byte_of
-small_refused = refl
-
 -- what a text has in both formats, with the place of each piece
-record Placed (bytes : List ℕ) (m : Shown) : Type 0 where
+pub record Placed (bytes : List ℕ) (m : Shown) : Type 0 where
   p : TextPieces bytes m
   month : Month
   named : month_number month ≡ p.d.1
@@ -78,7 +73,7 @@ three_place n mark bytes d rest p =
     let last = digits_place 2 p.b4 d.2 rest p.three in
     (rw three last.0, further (n + 1 + 2 + 1) 2 bytes p.b4 rest three last.1)
 
-placed : (bytes : List ℕ) (m : Shown) → TextPieces bytes m → Placed bytes m
+pub placed : (bytes : List ℕ) (m : Shown) → TextPieces bytes m → Placed bytes m
 unfolding fraction_of
 placed bytes m p =
     let ranges = date_ranges (pos p.d.0) p.d.1 p.d.2 p.day p.date_named in
@@ -90,7 +85,7 @@ placed bytes m p =
     let clock_at = three_place 2 colon p.b2 p.t p.b3 (clock_pieces p.b2 p.t p.b3 p.clock_read) in
     let nineteen : drop 19 bytes ≡ p.b3 = further 11 8 bytes p.b2 p.b3 eleven clock_at.1 in
     let seventeen : drop 17 bytes ≡ drop 6 p.b2 = further 11 6 bytes p.b2 (drop 6 p.b2) eleven refl in
-    let fraction = same_fraction p.b3 p.fraction (nanosecond p) p.b4 p.z [] p.fraction_read refl p.offset_read in
+    let fraction = fraction_by p.b3 p.fraction (nanosecond p) p.b4 p.z [] (byte dot p.b3) refl p.fraction_read refl p.offset_read in
     record {
       p = p;
       month = month.is;
@@ -105,12 +100,6 @@ placed bytes m p =
       at = nineteen;
     }
 
-abbrev fine : Shown → Result Shown ComponentRange
-fine x = Ok x
-
-same_shown : (x y : Shown) → fine x ≡ fine y → x ≡ y
-same_shown x y h = cc
-
 -- a moment without a leap second is not tested
 plain : (b : Bool) (x : Shown) → b ≡ false → leap_checked b x ≡ Ok x
 unfolding leap_checked
@@ -123,18 +112,6 @@ next_wall day time = omega (arith, ints)
 all_parts : (a b c : Bool) → (a && (not b && not c)) ≡ true → (a ≡ true) × (b ≡ false) × (c ≡ false)
 all_parts a b c e = (grind arith, grind arith, grind arith)
 
-no_part_fails : (a b c : Bool) → a ≡ true → b ≡ false → c ≡ false → (a && (not b && not c)) ≡ true
-no_part_fails a b c e f g = rw (e, f, g) refl
-
--- the nearest nanosecond, which may be that of the next second
-small_nanos : (up : Bool) (n cut nanos : ℕ) → nanos ≡ cond up (n + 1) n → cut ≡ n → n < 1_000_000_000 → (up && (cut == 999_999_999)) ≡ false → nanos < 1_000_000_000
-small_nanos true n cut nanos is same below fits = grind (arith, nat_tests)
-small_nanos false n cut nanos is same below fits = omega arith
-
-full_nanos : (up : Bool) (n cut nanos : ℕ) → nanos ≡ cond up (n + 1) n → cut ≡ n → (up && (cut == 999_999_999)) ≡ true → 1_000_000_000 ≤ nanos
-full_nanos true n cut nanos is same full = grind (arith, nat_tests)
-full_nanos false n cut nanos is same full = absurd cc
-
 -- ---- by the separator, the fraction and the zone
 
 module _ (bytes : List ℕ) (m : Shown) (q : Placed bytes m) where
@@ -145,11 +122,11 @@ module _ (bytes : List ℕ) (m : Shown) (q : Placed bytes m) where
   abbrev nanos : ℕ
   nanos = subsecond_of q.fraction.run
 
-  nanos_is : nanos ≡ cond (rounds_up ds) (nanosecond q.p + 1) (nanosecond q.p)
-  nanos_is = rounded_cut q.fraction.run ∙ rw (q.run, q.fraction.value) refl
+  cut_nanos : nanoseconds_of ds ≡ nanosecond q.p
+  cut_nanos = sym (ap nanoseconds_of q.run) ∙ q.fraction.value
 
-  cut_nanos : nanoseconds_of ds ≡ (nanosecond q.p)
-  cut_nanos = sym (ap nanoseconds_of q.run) ∙ sym (cut_is q.fraction.run) ∙ q.fraction.value
+  nanos_is : nanos ≡ cond (rounds_up ds) (nanosecond q.p + 1) (nanosecond q.p)
+  nanos_is = rounded_cut q.fraction.run ∙ rw (q.run, cut_nanos) refl
 
   -- another separator
   other_separator : (separator bytes == 84) ≡ false → value_read (whole bytes) ≡ Err trailing
@@ -172,8 +149,9 @@ module _ (bytes : List ℕ) (m : Shown) (q : Placed bytes m) where
 
       -- a small `z`
       small_zone : q.p.b4 ≡ 122 ∷ [] → value_read (whole bytes) ≡ Err trailing
+      unfolding offset signed_offset skip_of byte_of
       small_zone is =
-          no_offset_trails bytes q.p.b1 _ (time_of q.p.t.0 q.p.t.1 q.p.t.2 nanos) 122 [] q.date (rw is at time_read) small_refused
+          no_offset_trails bytes q.p.b1 _ (time_of q.p.t.0 q.p.t.1 q.p.t.2 nanos) 122 [] q.date (rw is at time_read) refl
 
       -- the moment that all three parts name
       all_named : (o : SameOffset q.p.b4 q.p.seconds) (nanosecond : ℕ) (x : Shown) → leap_time_of q.p.t.0 q.p.t.1 q.p.t.2 nanos ≡ Ok nanosecond → leap_checked (q.p.t.2 == 60) (shown q.p.day nanosecond q.p.seconds) ≡ Ok x → IsOfOffset bytes x
@@ -188,10 +166,10 @@ module _ (bytes : List ℕ) (m : Shown) (q : Placed bytes m) where
           }
 
   is_small : fills_second ds ≡ false → nanos < 1_000_000_000
-  is_small fits = small_nanos (rounds_up ds) _ _ nanos nanos_is cut_nanos q.fraction.below fits
+  is_small fits = grind (arith, nat_tests, nanos_is, cut_nanos, q.fraction.below)
 
   is_full : fills_second ds ≡ true → 1_000_000_000 ≤ nanos
-  is_full full = full_nanos (rounds_up ds) _ _ nanos nanos_is cut_nanos full
+  is_full full = grind (arith, nat_tests, nanos_is, cut_nanos)
 
   last_is : 0 < length q.p.b4 → last_byte bytes ≡ last_byte q.p.b4
   last_is some =
@@ -219,7 +197,7 @@ module _ (bytes : List ℕ) (m : Shown) (q : Placed bytes m) where
                     let is : nanos ≡ nanosecond q.p + 1 = nanos_is ∙ rw up refl in
                     let less : nanosecond q.p < 999_999_999 = let small : nanos < 1_000_000_000 = is_small fits in omega (arith, is) in
                     let named : leap_time_of q.p.t.0 q.p.t.1 q.p.t.2 nanos ≡ Ok (q.p.time + 1) = rw is (next_time q.p.t.0 q.p.t.1 q.p.t.2 (nanosecond q.p) q.p.time other less q.p.time_named) in
-                    let shown_is : shown q.p.day q.p.time q.p.seconds ≡ m = same_shown _ m (sym (plain (q.p.t.2 == 60) (shown q.p.day q.p.time q.p.seconds) other) ∙ q.p.checked) in
+                    let shown_is : shown q.p.day q.p.time q.p.seconds ≡ m = cc (plain (q.p.t.2 == 60) (shown q.p.day q.p.time q.p.seconds) other, q.p.checked) in
                     let read : IsOfOffset bytes (shown q.p.day (q.p.time + 1) q.p.seconds) = all_named is_t (is_small fits) o (q.p.time + 1) _ named (plain (q.p.t.2 == 60) (shown q.p.day (q.p.time + 1) q.p.seconds) other) in
                     let next : Shown = record { wall = wall_clock q.p.day q.p.time +ℤ pos 1; offset = q.p.seconds } in
                     let later : IsOfOffset bytes next = rw (next_wall q.p.day q.p.time) at read in
@@ -230,7 +208,7 @@ module _ (bytes : List ℕ) (m : Shown) (q : Placed bytes m) where
   zone : (q.p.b4 ≡ 122 ∷ []) ⊎ SameOffset q.p.b4 q.p.seconds
   zone = same_zone q.p.b4 q.p.z q.p.seconds q.p.offset_read q.p.offset_named
 
-  accepted : is_of_both bytes ≡ true → IsOfOffset bytes (rounded bytes m)
+  pub accepted : is_of_both bytes ≡ true → IsOfOffset bytes (rounded bytes m)
   accepted both =
       let parts = all_parts (separator bytes == 84) (last_byte bytes == 122) (fills_second ds) both in
       elim zone [
@@ -241,7 +219,7 @@ module _ (bytes : List ℕ) (m : Shown) (q : Placed bytes m) where
         | inr o ↦ both_named parts.0 parts.2 o
       ]
 
-  not_accepted : is_of_both bytes ≡ false → IsErr (value_read (whole bytes))
+  pub not_accepted : is_of_both bytes ≡ false → IsErr (value_read (whole bytes))
   not_accepted neither =
       elim (cases_Bool (separator bytes == 84)) [
         | inr other ↦ rw (other_separator other) refl
@@ -253,17 +231,7 @@ module _ (bytes : List ℕ) (m : Shown) (q : Placed bytes m) where
                     | inl small ↦ rw (small_zone is_t (is_small fits) small) refl
                     | inr o ↦
                         let large : (last_byte bytes == 122) ≡ false = rw (last_is o.some) o.large in
-                        absurd (let never : true ≡ false = sym (no_part_fails (separator bytes == 84) (last_byte bytes == 122) (fills_second ds) is_t large fits) ∙ neither in cc)
+                        absurd (let never : true ≡ false = rw (is_t, large, fits) at neither in cc)
                   ]
             ]
       ]
-
--- what ISO 8601 reads of a text for which RFC 3339 names a moment directly
-pub record IsWholeAlike (bytes : List ℕ) (m : Shown) : Type 0 where
-  pub named : is_of_both bytes ≡ true → IsOfOffset bytes (rounded bytes m)
-  pub unread : is_of_both bytes ≡ false → IsErr (value_read (whole bytes))
-
-pub whole_alike : (bytes : List ℕ) (m : Shown) → direct bytes ≡ Ok m → IsWholeAlike bytes m
-whole_alike bytes m h =
-    let q = placed bytes m (text_pieces bytes m h) in
-    record { named = accepted bytes m q; unread = not_accepted bytes m q }

@@ -10,7 +10,7 @@ use Rattle.calendar.specs.UtcOffset.{offset_of}
 use Rattle.parsing_combinator.specs.Pieces.{digits, byte, byte_of, skip_of, sign}
 use Rattle.std.proofs.lemmas.List.Sums.{prefix_len_passes}
 use Rattle.parsing_combinator.proofs.Decimal.{digit_here, digit_count_within}
-use Rattle.parsing_combinator.proofs.FractionDigits.{digits_read}
+use Rattle.parsing_combinator.proofs.FractionDigits.{cut_of, digits_read}
 use Rattle.parsing_combinator.specs.declared.zone.Zone.{Zone}
 use Rattle.parsing_values.specs.Resolution.{signed_offset_of}
 use Rattle.parsing_rfc3339.specs.Reading as rfc
@@ -21,7 +21,7 @@ use Rattle.parsing_iso8601_shapes.proofs.EndLemmas.{colon_there}
 use Rattle.parsing_iso8601_shapes.proofs.FastOffsets.{seconds_of, signed_there, minute_there}
 use Rattle.parsing_laws.specs.TwoFormats.{last_byte}
 use Rattle.parsing_laws.proofs.Inversion.{due_piece, due_check, same_end}
-use Rattle.parsing_laws.proofs.Places.{digits_place, byte_place, further, last_of_rest, passed_value}
+use Rattle.parsing_laws.proofs.Places.{digits_place, byte_place, further, last_of_rest}
 use Rattle.parsing_values.proofs.lemmas.Ranges.{offset_ranges}
 
 -- an offset that both formats read, all that is there
@@ -35,28 +35,15 @@ pub record SameOffset (bytes : List ℕ) (seconds : ℤ) : Type 0 where
 sign_place : (bytes : List ℕ) (mark : ℕ) (rest : List ℕ) → sign bytes ≡ Some (mark, rest) → drop 1 bytes ≡ rest
 unfolding byte_of
 sign_place [] mark rest e = absurd (cc)
-sign_place (c ∷ cs) mark rest e = ap (λ (x : ℕ × List ℕ). x.1) (passed_value ((c == 43) || (c == 45)) (c, cs) (mark, rest) e)
+sign_place (c ∷ cs) mark rest e = ap (λ (x : ℕ × List ℕ). x.1) (cut_of ((c == 43) || (c == 45)) (c, cs) (mark, rest) e).1
 
 -- two digits at the end
-pub record EndsInDigits (bytes : List ℕ) : Type 0 where
-  pub some : 0 < length bytes
-  pub large : (last_byte bytes == 122) ≡ false
-
-two_last : (bytes : List ℕ) (v : ℕ) → digits 2 bytes ≡ Some (v, []) → EndsInDigits bytes
+two_last : (bytes : List ℕ) (v : ℕ) → digits 2 bytes ≡ Some (v, []) → (0 < length bytes) × ((last_byte bytes == 122) ≡ false)
 two_last bytes v e =
     let read = digits_read 2 bytes v [] e in
     let long : length bytes ≡ 2 = omega (arith, length-drop 2 bytes, ap length read.after, read.enough, digit_count_within bytes) in
     let d = digit_here (get_or bytes 1 0) (prefix_len_passes is_ascii_digit bytes 1 0 (omega (arith, read.enough))) in
-    record { some = omega arith; large = rw long (grind (arith, nat_tests)) }
-
--- the same, after other pieces
-ends_later : (n : ℕ) (bytes rest : List ℕ) → drop n bytes ≡ rest → EndsInDigits rest → EndsInDigits bytes
-ends_later n bytes rest e h =
-    let some : 0 < length (drop n bytes) = rw e h.some in
-    record {
-      some = omega (arith, length-drop n bytes);
-      large = rw (last_of_rest n bytes some) (rw e h.large);
-    }
+    (omega arith, rw long (grind (arith, nat_tests)))
 
 no_zulu : (c : ℕ) (cs : List ℕ) → (c == 90) ≡ false → byte 90 (c ∷ cs) ≡ None
 unfolding skip_of
@@ -84,13 +71,14 @@ signed_zone c cs z seconds plain h hs =
     let few = offset_ranges (mark == hyphen) hours minutes seconds named in
     let signed = signed_there Extended (c ∷ cs) b1 b2 b3 mark hours minutes p0 p1 few.hours (colon_there b2 b3 p2) (minute_there b3 minutes (rw left at p3) few.minutes) in
     let place : drop 4 (c ∷ cs) ≡ b3 = further 3 1 (c ∷ cs) b2 b3 (further 1 2 (c ∷ cs) b1 b2 (sign_place (c ∷ cs) mark b1 p0) (digits_place 2 b1 hours b2 p1).1) (byte_place colon b2 b3 p2) in
-    let ends = ends_later 4 (c ∷ cs) b3 place (two_last b3 minutes (rw left at p3)) in
+    let last = two_last b3 minutes (rw left at p3) in
+    let some : 0 < length (drop 4 (c ∷ cs)) = rw place last.0 in
     record {
       read = iso.offset_of (mark == hyphen) hours minutes;
       is = rw (no_zulu c cs plain) signed;
       value = seconds_of (mark == hyphen) hours minutes ∙ named;
-      some = ends.some;
-      large = ends.large;
+      some = omega arith;
+      large = rw (last_of_rest 4 (c ∷ cs) some) (rw place last.1);
     })))))
 
 zulu_zone : (cs : List ℕ) (z : Zone) (seconds : ℤ) → rfc.offset false (90 ∷ cs) ≡ Ok (z, []) → signed_offset_of z.is_negative z.hours z.minutes ≡ Ok seconds → SameOffset (90 ∷ cs) seconds

@@ -36,11 +36,6 @@ pub designated : (c : ℕ) (cs : List ℕ) → (c == 84) ≡ true → byte time_
 unfolding skip_of
 designated c cs is = rw is refl
 
--- the nanoseconds of a fraction as RFC 3339 cuts them
-abbrev pub cut_of : Option (List ℕ) → ℕ
-cut_of None = 0
-cut_of (Some ds) = nanoseconds_of ds
-
 abbrev pub run_of : Option (List ℕ) → List ℕ
 run_of None = []
 run_of (Some ds) = ds
@@ -50,7 +45,7 @@ pub record SameFraction (bytes : List ℕ) (n : ℕ) (rest : List ℕ) : Type 0 
   pub below : n < 1_000_000_000
   pub run : Option (List ℕ)
   pub read : fraction_digits bytes ≡ Some (run, rest)
-  pub value : cut_of run ≡ n
+  pub value : nanoseconds_of (run_of run) ≡ n
   pub digits : digits_after (byte dot bytes) ≡ run_of run
   pub place : ℕ
   pub after : drop place bytes ≡ rest
@@ -102,7 +97,7 @@ with_point bytes after n rest point h =
     fraction_run after n rest h (λ run e is.
     record { below = rw (← is) (below_second run (run_digits after run rest e)); run = Some run; read = rw (point_marks bytes after point) (rw e refl); value = is; digits = rw point (run_parts after run rest e).0; place = 1 + digit_count after; after = further 1 (digit_count after) bytes after rest (byte_place dot bytes after point) (run_parts after run rest e).1 })
 
-fraction_by : (bytes : List ℕ) (o : Option ℕ) (n : ℕ) (rest : List ℕ) (z : Zone) (last : List ℕ) (point : Option (Unit {0} × List ℕ)) → byte dot bytes ≡ point → subsecond bytes ≡ Ok (o, rest) → unwrap_or o 0 ≡ n → offset false rest ≡ Ok (z, last) → SameFraction bytes n rest
+pub fraction_by : (bytes : List ℕ) (o : Option ℕ) (n : ℕ) (rest : List ℕ) (z : Zone) (last : List ℕ) (point : Option (Unit {0} × List ℕ)) → byte dot bytes ≡ point → subsecond bytes ≡ Ok (o, rest) → unwrap_or o 0 ≡ n → offset false rest ≡ Ok (z, last) → SameFraction bytes n rest
 unfolding subsecond due_fraction fraction_digits
 fraction_by bytes o n rest z last None e h is zone =
     let none : (None, bytes) ≡ (o, rest) = same_end (None, bytes) (o, rest) (rw e at h) in
@@ -117,18 +112,11 @@ fraction_by bytes o n rest z last (Some x) e h is zone =
     let left : after ≡ rest = ap (λ (y : Option ℕ × List ℕ). y.1) there in
     with_point bytes x.1 n rest e (rw (← value, ← left) p))
 
-pub same_fraction : (bytes : List ℕ) (o : Option ℕ) (n : ℕ) (rest : List ℕ) (z : Zone) (last : List ℕ) → subsecond bytes ≡ Ok (o, rest) → unwrap_or o 0 ≡ n → offset false rest ≡ Ok (z, last) → SameFraction bytes n rest
-same_fraction bytes o n rest z last h is zone = fraction_by bytes o n rest z last (byte dot bytes) refl h is zone
-
 -- ISO 8601's nanoseconds of the fraction, by those of RFC 3339
-pub rounded_cut : (run : Option (List ℕ)) → subsecond_of run ≡ cond (rounds_up (run_of run)) (cut_of run + 1) (cut_of run)
+pub rounded_cut : (run : Option (List ℕ)) → subsecond_of run ≡ cond (rounds_up (run_of run)) (nanoseconds_of (run_of run) + 1) (nanoseconds_of (run_of run))
 unfolding rounds_up
 rounded_cut None = refl
 rounded_cut (Some ds) = rounded ds
-
-pub cut_is : (run : Option (List ℕ)) → cut_of run ≡ nanoseconds_of (run_of run)
-cut_is None = refl
-cut_is (Some ds) = refl
 
 -- the time of day of both
 pub same_time : (b0 b1 rest : List ℕ) (t : ℕ × ℕ × ℕ) (b2 : List ℕ) (n : ℕ) (f : SameFraction b2 n rest) → byte time_designator b0 ≡ Some (tt, b1) → clock false b1 ≡ Ok (t, b2) → t.0 ≤ 23 → t.1 ≤ 59 → t.2 ≤ 60 → subsecond_of f.run < 1_000_000_000

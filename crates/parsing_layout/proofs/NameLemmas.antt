@@ -1,120 +1,77 @@
 -- The short names of months and weekdays that tables hold as numbers.
-use Rattle.std.proofs.Common.{◌≡◌, ◌≤◌, ◌<◌, ◌+◌, ◌-◌, ◌*◌, ◌%◌, ◌^◌, ◌∙◌, ℕ, zero, suc, true, List, [], ◌∷◌, drop, length, get_or, Option, Some, None, refl, sym, ap, arith, lit<, lit≤}
-use Rattle.std.specs.Prelude.{IfSome}
-use Rattle.std.proofs.lemmas.List.{drop-drop, drop_more}
+use Rattle.std.proofs.Common.{◌≡◌, ◌≤◌, ◌<◌, ◌+◌, ◌-◌, ◌*◌, ◌/◌, ◌%◌, ◌^◌, ◌∙◌, ◌==◌, ◌&&◌, ℕ, true, List, take, drop, length, get_or, Option, Some, None, unwrap_or, refl, ap, arith, inl, inr}
+use Rattle.std.specs.Prelude.{option_map, nat_lt}
+use Rattle.std.specs.Int.{w32, from_le_bytes}
+use Rattle.std.proofs.lemmas.Bool.{agree_below_at, and_parts, cases_lt, eqb-true, ltb-true}
+use Rattle.std.proofs.lemmas.List.{drop-drop}
 use Rattle.calendar_count.specs.Month.{month_number}
-use Rattle.calendar_count.specs.declared.month.Month.{Month}
-use Rattle.calendar_count.specs.declared.month.Month.TheVariants.{January, February, March, April, May, June, July, August, September, October, November, December}
-use Rattle.calendar_count.specs.declared.weekday.Weekday.{Weekday}
-use Rattle.calendar_count.specs.declared.weekday.Weekday.TheVariants.{Monday, Tuesday, Wednesday, Thursday, Friday, Saturday, Sunday}
-use Rattle.parsing_combinator.specs.Names.{named, found, begins, short_months, short_weekdays}
+use Rattle.parsing_combinator.specs.Names.{named, short_months, short_weekdays}
 use Rattle.parsing_combinator.specs.Shape.{taken}
-use Rattle.parsing_combinator.proofs.NameLemmas.{apart, taken_named, taken_short_weekday}
-use Rattle.parsing_layout.specs.Layout.{Names, name_piece, weekday_number}
-use Rattle.parsing_layout.specs.Letters.{IsNamed}
+use Rattle.parsing_combinator.proofs.Lanes.{spelled_is}
+use Rattle.parsing_combinator.proofs.NameLemmas.{are_even, taken_even}
+use Rattle.parsing_layout.specs.Layout.{as_number, name_piece, weekday_number}
+use Rattle.parsing_layout.specs.Letters.{letters_of}
+use Rattle.parsing_layout.specs.declared.names.TheConstants.{MONTHS, WEEKDAYS, NUMBERS}
 use Rattle.parsing_layout.specs.declared.parts.Names.TheVariants as names
-
--- ---- the letters of a name
-
-abbrev IsMonth : Month → ℕ → ℕ → ℕ → Type 0
-IsMonth m a b c = (rest : List ℕ) → found true short_months (a ∷ b ∷ c ∷ rest) ≡ Some (m, rest)
-
-apart_months : apart true short_months ≡ true
-unfolding begins
-apart_months = refl
-
-month_named : (m : Month) (a b c : ℕ) → IsMonth m a b c → IsNamed names.ShortMonth a b c (month_number m)
-month_named m a b c name = λ rest.
-    let here : taken (named true short_months) (a ∷ b ∷ c ∷ rest) ≡ Some (m, rest) = taken_named true short_months (a ∷ b ∷ c ∷ rest) apart_months ∙ name rest in
-    rw here refl
-
-abbrev IsWeekday : Weekday → ℕ → ℕ → ℕ → Type 0
-IsWeekday w a b c = (rest : List ℕ) → found true short_weekdays (a ∷ b ∷ c ∷ rest) ≡ Some (w, rest)
-
-weekday_named : (w : Weekday) (a b c : ℕ) → IsWeekday w a b c → IsNamed names.ShortWeekday a b c (weekday_number w)
-weekday_named w a b c name = λ rest.
-    let here : taken (named true short_weekdays) (a ∷ b ∷ c ∷ rest) ≡ Some (w, rest) = taken_short_weekday true (a ∷ b ∷ c ∷ rest) ∙ name rest in
-    rw here refl
 
 -- ---- at a place of a text
 
-three_there : (text : List ℕ) (place : ℕ) → place + 3 ≤ length text → drop place text ≡ get_or text place 0 ∷ get_or text (place + 1) 0 ∷ get_or text (place + 2) 0 ∷ drop (place + 3) text
-three_there text place room =
-    let second : place + 1 + 1 ≡ place + 2 = omega arith in
-    let third : place + 2 + 1 ≡ place + 3 = omega arith in
-    drop_more text place 0 (omega (arith, room))
-    ∙ ap (λ (xs : List ℕ). get_or text place 0 ∷ xs) (
-    drop_more text (place + 1) 0 (omega (arith, room))
-    ∙ rw second (ap (λ (xs : List ℕ). get_or text (place + 1) 0 ∷ xs) (drop_more text (place + 2) 0 (omega (arith, room)) ∙ rw third refl)))
+pub letters_there : (text : List ℕ) (place four : ℕ) → place + 4 ≤ length text → ((k : ℕ) → get_or text k 0 < 256) → four ≡ from_le_bytes w32 (take 4 (drop place text)) → letters_of (four * 256 % 2 ^ 32) ≡ take 3 (drop place text)
+letters_there text place four room fit is =
+    let sum : four ≡ get_or text place 0 + get_or text (place + 1) 0 * 256 + get_or text (place + 1 + 1) 0 * 65_536 + get_or text (place + 1 + 1 + 1) 0 * 16_777_216 = omega (arith, rw (spelled_is 4 place text room) at is) in
+    let a : four * 256 % 2 ^ 32 / 256 % 256 ≡ get_or text place 0 = omega (arith, fit place) in
+    let b : four * 256 % 2 ^ 32 / 65_536 % 256 ≡ get_or text (place + 1) 0 = omega (arith, fit place, fit (place + 1)) in
+    let c : four * 256 % 2 ^ 32 / 16_777_216 ≡ get_or text (place + 1 + 1) 0 = omega (arith, fit place, fit (place + 1), fit (place + 1 + 1)) in
+    rw (spelled_is 3 place text (omega arith), a, b, c) refl
 
--- what is returned that looks for the letters at a place in a table
-pub named_there : (kind : Names) (place : ℕ) (text : List ℕ) (o : Option ℕ) → place + 3 ≤ length text → IfSome o (IsNamed kind (get_or text place 0) (get_or text (place + 1) 0) (get_or text (place + 2) 0))
-    → IfSome o (λ n. name_piece kind true (drop place text) ≡ Some (n, drop (place + 3) text))
-named_there kind place text None room h = tt
-named_there kind place text (Some n) room h = ap (name_piece kind true) (three_there text place room) ∙ h (drop (place + 3) text)
+numbered : {A : Type 0} (f : A → ℕ) (o : Option A) (n : ℕ) (rest : List ℕ) → option_map f o ≡ Some n → option_map {U = ℕ × List ℕ} (λ x. (f x.0, x.1)) (option_map {U = A × List ℕ} (λ x. (x, rest)) o) ≡ Some (n, rest)
+numbered f (Some x) n rest e = ap (option_map {U = ℕ × List ℕ} (λ (k : ℕ). (k, rest))) e
+numbered f None n rest e = absurd (cc)
+
+three_at : {A : Type 0} (f : A → ℕ) (entries : List (List ℕ × A)) → are_even 3 entries ≡ true → (text : List ℕ) (place n : ℕ) → option_map f (named true entries (take 3 (drop place text))) ≡ Some n
+    → as_number f (taken (named true entries)) (drop place text) ≡ Some (n, drop (place + 3) text)
+three_at {A = A} f entries even text place n is =
+    ap (option_map {T = A × List ℕ} {U = ℕ × List ℕ} (λ x. (f x.0, x.1))) (taken_even true 3 entries (drop place text) even) ∙ rw (drop-drop 3 place text) (numbered f (named true entries (take 3 (drop place text))) n (drop (place + 3) text) is)
+
+pub month_at : (text : List ℕ) (place n : ℕ) → option_map month_number (named true short_months (take 3 (drop place text))) ≡ Some n → name_piece names.ShortMonth true (drop place text) ≡ Some (n, drop (place + 3) text)
+month_at = three_at month_number short_months refl
+
+pub weekday_at : (text : List ℕ) (place n : ℕ) → option_map weekday_number (named true short_weekdays (take 3 (drop place text))) ≡ Some n → name_piece names.ShortWeekday true (drop place text) ≡ Some (n, drop (place + 3) text)
+weekday_at = three_at weekday_number short_weekdays refl
 
 -- ---- the tables
 
-abbrev pub months : List ℕ
-months = 0 ∷ 1_952_665_354 ∷ 1_650_804_226 ∷ 0 ∷ 1_667_580_940 ∷ 1_819_625_991 ∷ 1_987_005_963 ∷ 1_851_869_697 ∷ 1_853_180_422 ∷ 0 ∷ 2_036_419_845 ∷ 1_885_688_585 ∷ 1_735_737_608 ∷ 0 ∷ 1_918_979_331 ∷ 1_919_959_300 ∷ []
+-- the number that letters name, or 0
+abbrev month_of : ℕ → ℕ
+month_of word = unwrap_or (option_map month_number (named true short_months (letters_of word))) 0
 
-abbrev pub weekdays : List ℕ
-weekdays = 1_769_096_704 ∷ 1_702_188_032 ∷ 1_952_535_296 ∷ 1_852_787_968 ∷ 1_853_182_720 ∷ 1_684_363_008 ∷ 1_969_771_520 ∷ 1 ∷ []
+abbrev weekday_of : ℕ → ℕ
+weekday_of word = unwrap_or (option_map weekday_number (named true short_weekdays (letters_of word))) 0
 
-abbrev pub numbers : List ℕ
-numbers = 5 ∷ 2 ∷ 6 ∷ 1 ∷ 7 ∷ 3 ∷ 4 ∷ 1 ∷ []
+said : (o : Option ℕ) (n : ℕ) → 0 < n → unwrap_or o 0 ≡ n → o ≡ Some n
+said (Some m) n some e = ap Some e
+said None n some e = absurd (omega arith)
 
--- the number that letters leave of an entry of the table of months
-abbrev pub left : ℕ → ℕ → ℕ → ℕ → ℕ
-left entry a b c = (entry + (2 ^ 32 - (a * 256 + b * 65_536 + c * 16_777_216))) % 2 ^ 32
+pub month_in : (place word number : ℕ) → place < 16 → word < 2 ^ 32 → word % 256 ≡ 0 → (get_or MONTHS place 0 + (2 ^ 32 - word)) % 2 ^ 32 ≡ number → 1 ≤ number → number ≤ 12 → option_map month_number (named true short_months (letters_of word)) ≡ Some number
+unfolding named
+month_in place word number lt fits zero is low high =
+    let listed = and_parts _ _ (agree_below_at (λ k. (month_of (get_or MONTHS k 0) == get_or MONTHS k 0 % 256) && nat_lt (get_or MONTHS k 0) (2 ^ 32)) (λ _. true) 16 place refl lt) in
+    let small = ltb-true _ _ listed.1 in
+    let whole : get_or MONTHS place 0 ≡ word + number = omega (arith, small) in
+    let a : (word + number) / 256 % 256 ≡ word / 256 % 256 = omega arith in
+    let b : (word + number) / 65_536 % 256 ≡ word / 65_536 % 256 = omega arith in
+    let c : (word + number) / 16_777_216 ≡ word / 16_777_216 = omega arith in
+    let d : (word + number) % 256 ≡ number = omega arith in
+    let named_entry : month_of (get_or MONTHS place 0) ≡ get_or MONTHS place 0 % 256 = eqb-true _ _ listed.0 in
+    said _ number low (rw (whole, a, b, c, d) at named_entry)
 
-month_of_entry : (a b c x y z number : ℕ) (m : Month) → a < 256 → b < 256 → c < 256 → x < 256 → y < 256 → z < 256 → month_number m ≤ 12 → left (month_number m + x * 256 + y * 65_536 + z * 16_777_216) a b c ≡ number → 1 ≤ number → number ≤ 12 → IsMonth m x y z → IsNamed names.ShortMonth a b c number
-month_of_entry a b c x y z number m ha hb hc hx hy hz most e low high name =
-    let whole : month_number m + x * 256 + y * 65_536 + z * 16_777_216 ≡ number + (a * 256 + b * 65_536 + c * 16_777_216) = omega arith in
-    let same : month_number m ≡ number = omega arith in
-    let first : a ≡ x = omega arith in
-    let second : b ≡ y = omega arith in
-    let third : c ≡ z = omega arith in
-    rw (first, second, third, ← same) (month_named m x y z name)
-
-no_entry : (a b c number : ℕ) → a < 256 → b < 256 → c < 256 → left 0 a b c ≡ number → 1 ≤ number → number ≤ 12 → ⊥
-no_entry a b c number ha hb hc e low high = omega arith
-
-pub month_in : (place a b c number : ℕ) → place < 16 → a < 256 → b < 256 → c < 256 → left (get_or months place 0) a b c ≡ number → 1 ≤ number → number ≤ 12 → IsNamed names.ShortMonth a b c number
-unfolding found begins
-month_in zero a b c number lt ha hb hc e low high = absurd (no_entry a b c number ha hb hc e low high)
-month_in (suc zero) a b c number lt ha hb hc e low high = month_of_entry a b c 79 99 116 number October ha hb hc (lit< tt) (lit< tt) (lit< tt) (lit≤ tt) e low high (λ rest. refl)
-month_in (suc (suc zero)) a b c number lt ha hb hc e low high = month_of_entry a b c 70 101 98 number February ha hb hc (lit< tt) (lit< tt) (lit< tt) (lit≤ tt) e low high (λ rest. refl)
-month_in (suc (suc (suc zero))) a b c number lt ha hb hc e low high = absurd (no_entry a b c number ha hb hc e low high)
-month_in (suc (suc (suc (suc zero)))) a b c number lt ha hb hc e low high = month_of_entry a b c 68 101 99 number December ha hb hc (lit< tt) (lit< tt) (lit< tt) (lit≤ tt) e low high (λ rest. refl)
-month_in (suc (suc (suc (suc (suc zero))))) a b c number lt ha hb hc e low high = month_of_entry a b c 74 117 108 number July ha hb hc (lit< tt) (lit< tt) (lit< tt) (lit≤ tt) e low high (λ rest. refl)
-month_in (suc (suc (suc (suc (suc (suc zero)))))) a b c number lt ha hb hc e low high = month_of_entry a b c 78 111 118 number November ha hb hc (lit< tt) (lit< tt) (lit< tt) (lit≤ tt) e low high (λ rest. refl)
-month_in (suc (suc (suc (suc (suc (suc (suc zero))))))) a b c number lt ha hb hc e low high = month_of_entry a b c 74 97 110 number January ha hb hc (lit< tt) (lit< tt) (lit< tt) (lit≤ tt) e low high (λ rest. refl)
-month_in (suc (suc (suc (suc (suc (suc (suc (suc zero)))))))) a b c number lt ha hb hc e low high = month_of_entry a b c 74 117 110 number June ha hb hc (lit< tt) (lit< tt) (lit< tt) (lit≤ tt) e low high (λ rest. refl)
-month_in (suc (suc (suc (suc (suc (suc (suc (suc (suc zero))))))))) a b c number lt ha hb hc e low high = absurd (no_entry a b c number ha hb hc e low high)
-month_in (suc (suc (suc (suc (suc (suc (suc (suc (suc (suc zero)))))))))) a b c number lt ha hb hc e low high = month_of_entry a b c 77 97 121 number May ha hb hc (lit< tt) (lit< tt) (lit< tt) (lit≤ tt) e low high (λ rest. refl)
-month_in (suc (suc (suc (suc (suc (suc (suc (suc (suc (suc (suc zero))))))))))) a b c number lt ha hb hc e low high = month_of_entry a b c 83 101 112 number September ha hb hc (lit< tt) (lit< tt) (lit< tt) (lit≤ tt) e low high (λ rest. refl)
-month_in (suc (suc (suc (suc (suc (suc (suc (suc (suc (suc (suc (suc zero)))))))))))) a b c number lt ha hb hc e low high = month_of_entry a b c 65 117 103 number August ha hb hc (lit< tt) (lit< tt) (lit< tt) (lit≤ tt) e low high (λ rest. refl)
-month_in (suc (suc (suc (suc (suc (suc (suc (suc (suc (suc (suc (suc (suc zero))))))))))))) a b c number lt ha hb hc e low high = absurd (no_entry a b c number ha hb hc e low high)
-month_in (suc (suc (suc (suc (suc (suc (suc (suc (suc (suc (suc (suc (suc (suc zero)))))))))))))) a b c number lt ha hb hc e low high = month_of_entry a b c 77 97 114 number March ha hb hc (lit< tt) (lit< tt) (lit< tt) (lit≤ tt) e low high (λ rest. refl)
-month_in (suc (suc (suc (suc (suc (suc (suc (suc (suc (suc (suc (suc (suc (suc (suc zero))))))))))))))) a b c number lt ha hb hc e low high = month_of_entry a b c 65 112 114 number April ha hb hc (lit< tt) (lit< tt) (lit< tt) (lit≤ tt) e low high (λ rest. refl)
-month_in (suc (suc (suc (suc (suc (suc (suc (suc (suc (suc (suc (suc (suc (suc (suc (suc k)))))))))))))))) a b c number lt ha hb hc e low high = absurd (omega arith)
-
-weekday_of_entry : (a b c x y z number : ℕ) (weekday : Weekday) → a < 256 → b < 256 → c < 256 → x < 256 → y < 256 → z < 256 → x * 256 + y * 65_536 + z * 16_777_216 ≡ a * 256 + b * 65_536 + c * 16_777_216 → IsWeekday weekday x y z → weekday_number weekday ≡ number → IsNamed names.ShortWeekday a b c number
-weekday_of_entry a b c x y z number weekday ha hb hc hx hy hz e name is =
-    let first : a ≡ x = omega arith in
-    let second : b ≡ y = omega arith in
-    let third : c ≡ z = omega arith in
-    rw (first, second, third, ← is) (weekday_named weekday x y z name)
-
-pub weekday_in : (place a b c number : ℕ) → place < 8 → a < 256 → b < 256 → c < 256 → get_or weekdays place 0 ≡ a * 256 + b * 65_536 + c * 16_777_216 → get_or numbers place 0 ≡ number → IsNamed names.ShortWeekday a b c number
-unfolding found begins
-weekday_in zero a b c number lt ha hb hc e is = weekday_of_entry a b c 70 114 105 number Friday ha hb hc (lit< tt) (lit< tt) (lit< tt) e (λ rest. refl) is
-weekday_in (suc zero) a b c number lt ha hb hc e is = weekday_of_entry a b c 84 117 101 number Tuesday ha hb hc (lit< tt) (lit< tt) (lit< tt) e (λ rest. refl) is
-weekday_in (suc (suc zero)) a b c number lt ha hb hc e is = weekday_of_entry a b c 83 97 116 number Saturday ha hb hc (lit< tt) (lit< tt) (lit< tt) e (λ rest. refl) is
-weekday_in (suc (suc (suc zero))) a b c number lt ha hb hc e is = weekday_of_entry a b c 77 111 110 number Monday ha hb hc (lit< tt) (lit< tt) (lit< tt) e (λ rest. refl) is
-weekday_in (suc (suc (suc (suc zero)))) a b c number lt ha hb hc e is = weekday_of_entry a b c 83 117 110 number Sunday ha hb hc (lit< tt) (lit< tt) (lit< tt) e (λ rest. refl) is
-weekday_in (suc (suc (suc (suc (suc zero))))) a b c number lt ha hb hc e is = weekday_of_entry a b c 87 101 100 number Wednesday ha hb hc (lit< tt) (lit< tt) (lit< tt) e (λ rest. refl) is
-weekday_in (suc (suc (suc (suc (suc (suc zero)))))) a b c number lt ha hb hc e is = weekday_of_entry a b c 84 104 117 number Thursday ha hb hc (lit< tt) (lit< tt) (lit< tt) e (λ rest. refl) is
-weekday_in (suc (suc (suc (suc (suc (suc (suc zero))))))) a b c number lt ha hb hc e is = absurd (omega (arith, e))
-weekday_in (suc (suc (suc (suc (suc (suc (suc (suc k)))))))) a b c number lt ha hb hc e is = absurd (omega arith)
+pub weekday_in : (place word : ℕ) → place < 8 → word % 256 ≡ 0 → get_or WEEKDAYS place 0 ≡ word → option_map weekday_number (named true short_weekdays (letters_of word)) ≡ Some (get_or NUMBERS place 0)
+unfolding named
+weekday_in place word lt zero is =
+    elim (cases_lt place 7) [
+      | inl less ↦
+          let listed = and_parts _ _ (agree_below_at (λ k. (weekday_of (get_or WEEKDAYS k 0) == get_or NUMBERS k 0) && nat_lt 0 (get_or NUMBERS k 0)) (λ _. true) 7 place refl less) in
+          let entry : weekday_of (get_or WEEKDAYS place 0) ≡ get_or NUMBERS place 0 = eqb-true _ _ listed.0 in
+          said _ (get_or NUMBERS place 0) (ltb-true _ _ listed.1) (rw is at entry)
+      | inr last ↦ absurd (let same : place ≡ 7 = omega arith in let one : 1 ≡ word = rw same at is in omega arith)
+    ]

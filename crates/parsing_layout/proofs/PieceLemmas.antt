@@ -1,11 +1,11 @@
 -- What pieces that were read stand in their bytes.
 use Rattle.std.proofs.Common.{◌≡◌, ℕ, ◌<◌, ◌≤◌, Bool, true, false, List, [], ◌∷◌, drop, take, Option, Some, None, refl, sym, ap, arith}
-use Rattle.std.specs.Prelude.{◌==◌, ◌||◌, nat_le, if◌then◌else◌}
+use Rattle.std.specs.Prelude.{◌==◌, ◌||◌, nat_le}
 use Rattle.std.proofs.lemmas.Bool.Decides.{nat_tests}
 use Rattle.base.specs.Bytes.{plus, hyphen}
 use Rattle.parsing_combinator.specs.Pieces.{digits, byte, byte_of, skip_of, sign, digit_count, digit_run, fraction, nanoseconds_of}
 use Rattle.parsing_combinator.proofs.Decimal.{count_drop}
-use Rattle.parsing_combinator.proofs.FractionDigits.{none_there}
+use Rattle.parsing_combinator.proofs.FractionDigits.{cut_of, none_there}
 use Rattle.parsing_layout.specs.Layout.{exact_fraction}
 use Rattle.parsing_layout.proofs.LayoutLemmas.{numbered}
 use Rattle.parsing_layout.proofs.TestLemmas.{at_most, same}
@@ -20,15 +20,10 @@ literal_said {n = n} (Some x) after e = ap (λ (z : ℕ × List ℕ). Some (tt, 
 
 -- ---- a fraction
 
--- what was read under a test
-pub chosen : {A : Type 0} (b : Bool) (x y : A) → (if b then Some x else None) ≡ Some y → (b ≡ true) × (x ≡ y)
-chosen true x y e = (refl, inside x y e)
-chosen false x y e = absurd cc
-
 pub exact_said : (b : Bool) (bytes rest : List ℕ) (count n : ℕ) → nat_le count (digit_count bytes) ≡ b → exact_fraction count bytes ≡ Some (n, rest) → (count ≤ digit_count bytes) × (nanoseconds_of (take count bytes) ≡ n) × (drop count bytes ≡ rest)
 unfolding exact_fraction
 exact_said b bytes rest count n is e =
-    let cut = chosen (nat_le count (digit_count bytes)) (nanoseconds_of (take count bytes), drop count bytes) (n, rest) e in
+    let cut = cut_of (nat_le count (digit_count bytes)) (nanoseconds_of (take count bytes), drop count bytes) (n, rest) e in
     (at_most count (digit_count bytes) cut.0, ap (λ (z : ℕ × List ℕ). z.0) cut.1, ap (λ (z : ℕ × List ℕ). z.1) cut.1)
 
 pub fraction_read : (bytes rest : List ℕ) (count n : ℕ) → 0 < count → exact_fraction count bytes ≡ Some (n, rest) → digits 1 rest ≡ None → fraction bytes ≡ Some (n, rest)
@@ -48,7 +43,7 @@ pub skip_is : (p : ℕ → Bool) (bytes rest : List ℕ) → skip_of p bytes ≡
 unfolding skip_of
 skip_is p [] rest e = absurd cc
 skip_is p (x ∷ xs) rest e =
-    let cut = chosen (p x) (tt, xs) (tt, rest) e in
+    let cut = cut_of (p x) (tt, xs) (tt, rest) e in
     (x, ap (λ (z : Unit {0} × List ℕ). x ∷ z.1) cut.1, cut.0)
 
 pub byte_is : (c : ℕ) (bytes rest : List ℕ) → byte c bytes ≡ Some (tt, rest) → bytes ≡ c ∷ rest
@@ -63,6 +58,6 @@ pub sign_is : (bytes rest : List ℕ) (mark : ℕ) → sign bytes ≡ Some (mark
 unfolding byte_of
 sign_is [] rest mark e = absurd cc
 sign_is (x ∷ xs) rest mark e =
-    let cut = chosen ((x == plus) || (x == hyphen)) (x, xs) (mark, rest) e in
+    let cut = cut_of ((x == plus) || (x == hyphen)) (x, xs) (mark, rest) e in
     let is : x ≡ mark = ap (λ (z : ℕ × List ℕ). z.0) cut.1 in
     record { all = ap (λ (z : ℕ × List ℕ). z.0 ∷ z.1) cut.1; is = rw is at cut.0 }

@@ -1,5 +1,5 @@
 -- Runs of digits, and what they are as a fraction.
-use Rattle.std.proofs.Common.{◌≡◌, ◌∙◌, ◌≤◌, ◌<◌, ◌+◌, ◌-◌, ◌*◌, ◌^◌, ℕ, zero, suc, min, Bool, true, false, List, [], ◌∷◌, length, take, drop, Option, Some, None, refl, sym, ap, arith, lit<, cond}
+use Rattle.std.proofs.Common.{◌≡◌, ◌∙◌, ◌≤◌, ◌<◌, ◌+◌, ◌-◌, ℕ, min, Bool, true, false, List, [], length, take, drop, Option, Some, None, refl, sym, ap, arith}
 use Rattle.std.specs.Prelude.{◌==◌, nat_le, option_map}
 use Rattle.std.specs.Str.Parse.{digits_value}
 use Rattle.std.specs.Char.{is_ascii_digit}
@@ -7,14 +7,12 @@ use Rattle.std.proofs.lemmas.Bool.{eq-eqb, eqb-true, le-leb}
 use Rattle.std.proofs.lemmas.Bool.Decides.{nat_tests}
 use Rattle.std.proofs.lemmas.List.{length-take-le, length-drop, nil_from_length, take-append-drop, take_all, take-take}
 use Rattle.std.proofs.lemmas.List.Folds.{prefix_len-append}
-use Rattle.std.proofs.Math.Nat.{pow-le-pow_right}
 use Rattle.parsing_combinator.specs.Pieces.{digit_count, digit_run, fraction, nanoseconds_of}
 use Rattle.parsing_combinator.specs.Shape.{taken, digits_between}
 use Rattle.parsing_combinator.proofs.Decimal.{digit_count_within, count_drop, count_prefix}
 use Rattle.parsing_combinator.proofs.FractionDigits.{long_fraction, short_fraction}
 use Rattle.parsing_values.specs.Written.{WriteFraction}
 use Rattle.parsing_combinator.proofs.Longest.{taken_digits}
-use Rattle.parsing_combinator.proofs.Numbers.{Next, next_digit}
 use Rattle.parsing_layout.specs.Layout.{exact_fraction}
 use Rattle.parsing_layout.proofs.PieceLemmas.{inside, exact_said}
 
@@ -89,21 +87,3 @@ long_written bytes first left count n many before e none_left more =
     let power : 9 - length (take 9 bytes) ≡ 0 = omega (arith, nine_long) in
     let last : digits_value 10 (take 9 bytes) ≡ nanoseconds_of (take 9 bytes) = let short = rw power at (short_fraction (take 9 bytes) (omega (arith, nine_long))) in omega (arith, short) in
     record { enough = enough; value = sym nine.1 ∙ sym last ∙ all_of }
-
--- ---- a number, digit by digit
-
-most_fits : (i value : ℕ) → i < 19 → value < 10 ^ i → value * 10 + 9 < 2 ^ 64
-most_fits i value lt below =
-    let most : 10 ^ i ≤ 1000000000000000000 = pow-le-pow_right {n = 10} (lit< tt) {i = i} {j = 18} (omega arith) in
-    omega (arith, most, below)
-
--- what is needed at one more digit
-pub record More (run : List ℕ) (i value : ℕ) : Type 0 where
-  pub next : Next run i value
-  pub few : value * 10 + 9 < 2 ^ 64
-
-pub one_more : (run : List ℕ) (i value : ℕ) → length run ≤ 19 → digit_count run ≡ length run → i < length run → value ≡ digits_value 10 (take i run) → value < 10 ^ i → More run i value
-one_more run i value short all lt is below = record {
-  next = next_digit run i value (omega (arith, short)) all lt is below;
-  few = most_fits i value (omega (arith, short, lt)) below;
-}

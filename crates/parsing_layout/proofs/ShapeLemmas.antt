@@ -1,16 +1,18 @@
 -- What the texts of shapes begin with, and so what is taken of them.
-use Rattle.std.proofs.Common.{◌≡◌, ◌≤◌, ◌<◌, ◌∙◌, ◌&&◌, ◌||◌, ◌==◌, ◌-◌, ◌+◌, ℕ, zero, suc, Bool, true, false, not, List, [], ◌∷◌, length, get_or, map, take, drop, Option, Some, None, refl, sym, ap, arith, inl, inr}
+use Rattle.std.proofs.Common.{◌≡◌, ◌≤◌, ◌<◌, ◌∙◌, ◌&&◌, ◌||◌, ◌==◌, ◌-◌, ◌+◌, ℕ, zero, suc, Bool, true, false, not, List, [], ◌∷◌, length, get_or, take, drop, Option, Some, None, refl, sym, ap, arith, inl, inr}
 use Rattle.std.specs.Prelude.{option_map, nat_lt, nat_le, nat_eq, IfSome, if◌then◌else◌}
 use Rattle.std.specs.Char.{is_ascii_digit, to_ascii_lowercase}
 use Rattle.std.specs.List.{list_all, list_any}
 use Rattle.std.proofs.lemmas.Bool.{cases_lt}
 use Rattle.std.proofs.lemmas.Bool.Decides.{nat_tests}
-use Rattle.std.proofs.lemmas.List.{get_or-take, get_or-drop, get_or-map, length-map, length-take-le, length-drop}
+use Rattle.std.proofs.lemmas.List.{get_or-take, get_or-drop, length-take-le, length-drop}
 use Rattle.std.proofs.lemmas.List.Sums.{AllPass-from_list_all, prefix_len_passes, prefix_len-le-length}
+use Rattle.std.proofs.Math.ListN.{get_or-map}
 use Rattle.std.proofs.lemmas.Slice.Eq.{bytes_eq-Decides}
 use Rattle.parsing_combinator.specs.Pieces.{Piece}
 use Rattle.parsing_combinator.specs.Shape.{Shape, or_before, greatest, prefix, taken, is_space, space_count, are_digits, digits_as, spaced_between}
 use Rattle.parsing_combinator.specs.Names.{compared, is_name, named}
+use Rattle.parsing_combinator.proofs.NameLemmas.{is_name_length}
 use Rattle.parsing_layout.specs.Stretch.{Begins, Leaves, name_stands}
 use Rattle.parsing_layout.proofs.TestLemmas.{at_most, both, less}
 
@@ -130,25 +132,19 @@ are_names_of initials least whole (entry ∷ entries) = is_name_of initials leas
 late_kept : (c : ℕ) → nat_lt 57 (to_ascii_lowercase c) ≡ true → nat_lt 57 c ≡ true
 late_kept c e = grind (arith, nat_tests)
 
-same_length : (b : Bool) (name text : List ℕ) → compared b name ≡ compared b text → length name ≡ length text
-same_length true name text e = ap length e
-same_length false name text e = sym (length-map name to_ascii_lowercase) ∙ ap length e ∙ length-map text to_ascii_lowercase
-
 -- in small letters they are the same
-same_small : (b : Bool) (name text : List ℕ) (place : ℕ) → compared b name ≡ compared b text → place < length name → to_ascii_lowercase (get_or name place 0) ≡ to_ascii_lowercase (get_or text place 0)
-same_small true name text place e lt = ap (λ t. to_ascii_lowercase (get_or t place 0)) e
-same_small false name text place e lt =
-    let n = same_length false name text e in
-    sym (get_or-map to_ascii_lowercase name place 0 0 lt) ∙ ap (λ t. get_or t place 0) e ∙ get_or-map to_ascii_lowercase text place 0 0 (omega (arith, n, lt))
+same_small : (b : Bool) (name text : List ℕ) (place : ℕ) → compared b name ≡ compared b text → to_ascii_lowercase (get_or name place 0) ≡ to_ascii_lowercase (get_or text place 0)
+same_small true name text place e = ap (λ t. to_ascii_lowercase (get_or t place 0)) e
+same_small false name text place e = sym (get_or-map to_ascii_lowercase name place 0) ∙ ap (λ t. get_or t place 0) e ∙ get_or-map to_ascii_lowercase text place 0
 
 late_at : (b : Bool) (name text : List ℕ) (place : ℕ) → compared b name ≡ compared b text → list_all late name ≡ true → place < length name → nat_lt 57 (get_or text place 0) ≡ true
 late_at b name text place e all lt =
     let here = both (nat_lt 57 (get_or name place 0)) (nat_lt 57 (to_ascii_lowercase (get_or name place 0))) (all_at late name place all lt) in
-    late_kept (get_or text place 0) (ap (λ c. nat_lt 57 c) (sym (same_small b name text place e lt)) ∙ here.1)
+    late_kept (get_or text place 0) (ap (λ c. nat_lt 57 c) (sym (same_small b name text place e)) ∙ here.1)
 
-begins_at : (b : Bool) (initials name text : List ℕ) → compared b name ≡ compared b text → 0 < length name → list_any (λ initial. initial == to_ascii_lowercase (get_or name 0 0)) initials ≡ true
+begins_at : (b : Bool) (initials name text : List ℕ) → compared b name ≡ compared b text → list_any (λ initial. initial == to_ascii_lowercase (get_or name 0 0)) initials ≡ true
     → list_any (λ initial. initial == to_ascii_lowercase (get_or text 0 0)) initials ≡ true
-begins_at b initials name text e lt first = ap (λ c. list_any (λ initial. initial == c) initials) (sym (same_small b name text 0 e lt)) ∙ first
+begins_at b initials name text e first = ap (λ c. list_any (λ initial. initial == c) initials) (sym (same_small b name text 0 e)) ∙ first
 
 -- what is_name_of tells of a name
 record NameOf (initials : List ℕ) (least : ℕ) (whole : Bool) (name : List ℕ) : Type 0 where
@@ -170,7 +166,7 @@ not_first : (place : ℕ) → (suc place == 0) ≡ false
 not_first place = grind (arith, nat_tests)
 
 name_begins : (b : Bool) (initials : List ℕ) (least : ℕ) (whole : Bool) (name text : List ℕ) → NameOf initials least whole name → compared b name ≡ compared b text → Begins (name_stands initials) least text
-name_begins b initials least whole name text it e zero lt = begins_at b initials name text e (omega (arith, lt, it.few)) it.first
+name_begins b initials least whole name text it e zero lt = begins_at b initials name text e it.first
 name_begins b initials least whole name text it e (suc place) lt = rw (not_first place) (late_at b name text (suc place) e it.all (omega (arith, lt, it.few)))
 
 name_or_others : {A : Type 0} (b c : Bool) (initials : List ℕ) (least : ℕ) (whole : Bool) (name text : List ℕ) (x : A) (others : Option A) → is_name_of initials least whole name ≡ true → is_name b name text ≡ c
@@ -178,7 +174,7 @@ name_or_others : {A : Type 0} (b c : Bool) (initials : List ℕ) (least : ℕ) (
 name_or_others b true initials least whole name text x others good same h =
     let it = name_of initials least whole name good in
     let e = (bytes_eq-Decides (compared b name) (compared b text)).0 same in
-    let n = same_length b name text e in
+    let n = is_name_length b name text same in
     (name_begins b initials least whole name text it e, (omega (arith, n, it.few), λ w. omega (arith, n, it.exact w)))
 name_or_others b false initials least whole name text x others good e h = h
 

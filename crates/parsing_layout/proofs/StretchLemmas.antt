@@ -1,15 +1,14 @@
 -- What a part reads is its stretch.
-use Rattle.std.proofs.Common.{◌≡◌, ◌≤◌, ◌||◌, ℕ, Bool, true, false, List, [], ◌∷◌, drop, Option, Some, None, refl, sym, ap, arith}
-use Rattle.std.specs.Prelude.{IfSome, nat_le, ◌==◌}
+use Rattle.std.proofs.Common.{◌≡◌, ◌≤◌, ◌||◌, ℕ, Bool, true, false, List, ◌∷◌, Option, Some, None, refl, sym, ap, arith}
+use Rattle.std.specs.Prelude.{IfSome, ◌==◌}
 use Rattle.std.specs.Char.{is_ascii_digit}
-use Rattle.std.proofs.lemmas.Bool.Decides.{nat_tests}
 use Rattle.std.proofs.lemmas.List.Sums.{prefix_len_passes}
-use Rattle.parsing_combinator.specs.Pieces.{byte_of, skip_of, sign, digit_count}
+use Rattle.parsing_combinator.specs.Pieces.{skip_of, digit_count}
 use Rattle.parsing_combinator.specs.Shape.{taken, is_sign, is_space, digits_as, spaced_between}
 use Rattle.parsing_combinator.specs.Names.{named, short_months, long_months, short_weekdays, long_weekdays, periods}
 use Rattle.parsing_combinator.proofs.FractionDigits.{digits_read}
 use Rattle.parsing_layout.specs.Stretch.{Begins, Leaves, IsCut, stretch_of, initials, name_stands}
-use Rattle.parsing_layout.specs.Layout.{Names, Part, piece_of, name_piece, exact_fraction}
+use Rattle.parsing_layout.specs.Layout.{Names, Part, piece_of, name_piece}
 use Rattle.parsing_layout.specs.declared.parts.Names.TheVariants as names
 use Rattle.parsing_layout.specs.declared.parts.Part.TheVariants as part
 use Rattle.parsing_layout.proofs.LayoutLemmas.{numbered}

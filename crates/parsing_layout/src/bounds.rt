@@ -125,8 +125,18 @@ impl Bounds {
         *self = bounds;
     }
 
-    // Whether the byte at a place of a line can't stand there; after the line stands NUL.
+    // Whether each of sixteen bytes can stand at its place.
     #[inline(always)]
+    fn are_within(&self, bytes: u8x16) -> bool
+        ensures { ((place : ℕ) → place < PLACES → get_or self.now.low place 0 ≤ get_or bytes place 0)
+            → ((place : ℕ) → place < PLACES → get_or bytes place 0 ≤ get_or self.now.high place 0) → result ≡ true }
+    {
+        let above = u8x16::from_array(self.low).simd_le(bytes);
+        let below = bytes.simd_le(u8x16::from_array(self.high));
+        (above & below).all()
+    }
+
+    // Whether the byte at a place of a line can't stand there; after the line stands NUL.
     fn is_outside(&self, line: &[u8], place: usize) -> bool
         requires { place < PLACES }
         ensures { result ≡ true → ¬ Admits false self.now line.now }
@@ -150,8 +160,6 @@ impl Bounds {
 
     /// Whether one of the first sixteen bytes of a line can't stand at its place, so that the line begins with none of the
     /// texts: `false` says nothing of it. A line that is shorter counts as one that goes on with NUL.
-    ///
-    /// All places are compared at once, and the first one that seems to be outside is looked at.
     #[inline(always)]
     pub fn rule_out(&self, line: &[u8]) -> bool
         ensures { result ≡ true → ¬ Admits false self.now line.now }
@@ -159,11 +167,7 @@ impl Bounds {
         if line.len() < PLACES {
             return self.is_outside_short(line);
         }
-        let bytes = u8x16::from_slice(line);
-        let below = bytes.simd_lt(u8x16::from_array(self.low)).to_bitmask();
-        let above = bytes.simd_gt(u8x16::from_array(self.high)).to_bitmask();
-        let place = (below | above).trailing_zeros() as usize;
-        place < PLACES && self.is_outside(line, place)
+        !self.are_within(u8x16::from_slice(line))
     }
 
     /// Whether that shows, or the length of a line, that the line is none of the texts: `false` says nothing of it.

@@ -1,7 +1,10 @@
 //! Names of three letters at places of a text, each looked up at once with the byte beside it.
-ghost use Rattle.std.specs.Prelude.{◌≡◌, ◌≤◌, ◌+◌, ℕ, Some, IfSome, drop, get_or, length, true};
+ghost use Rattle.std.specs.Prelude.{◌≡◌, ◌≤◌, ◌+◌, ◌%◌, Some, IfSome, take, drop, length, true, option_map};
+ghost use Rattle.calendar_count.specs.Month as Month;
+ghost use Rattle.parsing_combinator.specs.Names.{named, short_months, short_weekdays};
+ghost use Rattle.parsing_layout.specs.Layout as Layout;
 ghost use Rattle.parsing_layout.specs.Layout.{name_piece};
-ghost use Rattle.parsing_layout.specs.Letters.{AreLetters, IsNamed};
+ghost use Rattle.parsing_layout.specs.Letters.{letters_of};
 ghost use Rattle.parsing_layout.specs.declared.parts.Names.TheVariants as names;
 
 use std::simd::prelude::*;
@@ -47,8 +50,8 @@ static NUMBERS: [u8; 8] = [5, 2, 6, 1, 7, 3, 4, 1];
 #[inline(always)]
 fn letters_at(text: &[u8], place: usize) -> u32
     requires { place + 4 ≤ length text.now }
-    ensures { AreLetters result (get_or text.now place 0) (get_or text.now (place + 1) 0)
-        (get_or text.now (place + 2) 0) }
+    ensures zero { result % 256 ≡ 0 }
+    ensures letters { letters_of result ≡ take 3 (drop place text.now) }
 {
     let four = u8x4::from_slice(&text[place..]).to_array();
     u32::from_le_bytes(four).wrapping_mul(256)
@@ -57,8 +60,9 @@ fn letters_at(text: &[u8], place: usize) -> u32
 // The number of the month that has these letters.
 #[inline(always)]
 fn month_number(word: u32) -> Option<u8>
-    ensures named { (first second third : ℕ) → AreLetters word first second third
-        → IfSome result (IsNamed names.ShortMonth first second third) }
+    requires { word % 256 ≡ 0 }
+    ensures named { IfSome result
+        (λ n. option_map Month.month_number (named true short_months (letters_of word)) ≡ Some n) }
     ensures bound { IfSome result (λ n. (1 ≤ n) × (n ≤ 12)) }
 {
     let place = word.wrapping_mul(0x11c) >> 28;
@@ -72,8 +76,9 @@ fn month_number(word: u32) -> Option<u8>
 // The number of the weekday that has these letters.
 #[inline(always)]
 fn weekday_number(word: u32) -> Option<u8>
-    ensures named { (first second third : ℕ) → AreLetters word first second third
-        → IfSome result (IsNamed names.ShortWeekday first second third) }
+    requires { word % 256 ≡ 0 }
+    ensures named { IfSome result
+        (λ n. option_map Layout.weekday_number (named true short_weekdays (letters_of word)) ≡ Some n) }
     ensures bound { IfSome result (λ n. (1 ≤ n) × (n ≤ 7)) }
 {
     let place = word.wrapping_mul(0x7c) >> 29;
@@ -85,22 +90,26 @@ fn weekday_number(word: u32) -> Option<u8>
 
 /// The number of the month whose short name is at a place, as it is written.
 #[inline(always)]
+#[tactic(auto, using(crate::proofs::NameLemmas::month_at))]
 pub fn month_name_at(text: &[u8], place: usize) -> Option<u8>
     requires { place + 4 ≤ length text.now }
     ensures says { IfSome result (λ n. name_piece names.ShortMonth true (drop place text.now)
         ≡ Some (n, drop (place + 3) text.now)) }
     ensures bound { IfSome result (λ n. (1 ≤ n) × (n ≤ 12)) }
 {
-    month_number(letters_at(text, place))
+    let number = month_number(letters_at(text, place))?;
+    Some(number)
 }
 
 /// The number of the weekday whose short name is at a place, as it is written: 1 is Monday.
 #[inline(always)]
+#[tactic(auto, using(crate::proofs::NameLemmas::weekday_at))]
 pub fn weekday_name_at(text: &[u8], place: usize) -> Option<u8>
     requires { place + 4 ≤ length text.now }
     ensures says { IfSome result (λ n. name_piece names.ShortWeekday true (drop place text.now)
         ≡ Some (n, drop (place + 3) text.now)) }
     ensures bound { IfSome result (λ n. (1 ≤ n) × (n ≤ 7)) }
 {
-    weekday_number(letters_at(text, place))
+    let number = weekday_number(letters_at(text, place))?;
+    Some(number)
 }

@@ -1,6 +1,5 @@
 //! Numbers at the start of a text.
 ghost use Rattle.std.specs.Prelude.{◌≡◌, ◌≤◌, ◌<◌, ◌^◌, None, Some, IfSome, length};
-ghost use Rattle.std.specs.Str.Parse.{digits_value};
 ghost use Rattle.parsing_combinator.specs.Pieces as Pieces;
 ghost use Rattle.parsing_combinator.specs.Shape as Shape;
 ghost use Rattle.parsing_layout.specs.Layout as Layout;
@@ -9,8 +8,9 @@ use crate::parts::{Names, Part};
 use calendar_count::Weekday;
 use description_modifiers::Padding;
 use parsing_combinator::{
-    any_byte, byte, digit_run, four_digits, fraction, fraction_between, long_month, long_weekday,
-    one_digit, padded_two, period, short_month, short_weekday, sign, three_digits, two_digits,
+    any_byte, byte, digit_run, four_digits, fraction, fraction_between, long_month, long_number,
+    long_weekday, one_digit, padded_two, period, short_month, short_weekday, sign, three_digits,
+    two_digits,
 };
 
 // A number of so many digits, at most four.
@@ -42,21 +42,6 @@ fn digits(count: usize, text: &[u8]) -> Option<(u64, &[u8])>
 // The most digits whose number always fits.
 const MOST_DIGITS: usize = 19;
 
-// The number that these digits write.
-#[inline(always)]
-fn number(run: &[u8]) -> u64
-    requires short { length run.now ≤ MOST_DIGITS }
-    requires all { Pieces.digit_count run.now ≡ length run.now }
-    ensures value { result ≡ digits_value 10 run.now }
-    ensures bound { result < 10 ^ length run.now }
-{
-    let mut value = 0;
-    for b in run {
-        value = value * 10 + u64::from(*b - b'0');
-    }
-    value
-}
-
 // The number of all digits, at least one: `None` where they are more than so many, or than always fit.
 #[tactic(auto, using(crate::proofs::RunLemmas::run_taken))]
 #[inline(always)]
@@ -67,7 +52,7 @@ fn run(most: usize, text: &[u8]) -> Option<(u64, &[u8])>
     if digits.len() > most.min(MOST_DIGITS) {
         return None;
     }
-    Some((number(digits), rest))
+    Some((long_number(digits), rest))
 }
 
 // So many digits, at least one, as the nanoseconds of a fraction of a second.

@@ -41,14 +41,10 @@ record Laid (d : Option WrittenDate) (t : Option WrittenTime) (hour minute : Opt
   second : r.offset_second ≡ None
 
 laid : (d : Option WrittenDate) (t : Option WrittenTime) (hour minute : Option ℤ) → Laid d t hour minute (put_time t (put_date d (permitted hour minute)))
-laid None None hour minute = record { parts = refl; sign = refl; hours = refl; minutes = refl; second = refl }
-laid None (Some t) hour minute = record { parts = refl; sign = refl; hours = refl; minutes = refl; second = refl }
-laid (Some (OfMonth y m d)) None hour minute = record { parts = refl; sign = refl; hours = refl; minutes = refl; second = refl }
 laid (Some (OfMonth y m d)) (Some t) hour minute = record { parts = refl; sign = refl; hours = refl; minutes = refl; second = refl }
-laid (Some (OfYear y n)) None hour minute = record { parts = refl; sign = refl; hours = refl; minutes = refl; second = refl }
-laid (Some (OfYear y n)) (Some t) hour minute = record { parts = refl; sign = refl; hours = refl; minutes = refl; second = refl }
-laid (Some (OfWeek y w d)) None hour minute = record { parts = refl; sign = refl; hours = refl; minutes = refl; second = refl }
-laid (Some (OfWeek y w d)) (Some t) hour minute = record { parts = refl; sign = refl; hours = refl; minutes = refl; second = refl }
+laid (Some (OfMonth y m d)) None hour minute = record { parts = refl; sign = refl; hours = refl; minutes = refl; second = refl }
+laid d None hour minute = record { parts = refl; sign = refl; hours = refl; minutes = refl; second = refl }
+laid d (Some t) hour minute = record { parts = refl; sign = refl; hours = refl; minutes = refl; second = refl }
 
 -- an offset that is written
 with_offset : (d : Option WrittenDate) (t : Option WrittenTime) (o : WrittenOffset) (hour minute : Option ℤ) (r : Record) → Laid d t hour minute r → moment_named (put_offset (Some o) r) ≡ named_moment (parts d t) (written.offset_parts (Some o))
@@ -69,16 +65,11 @@ parts_named w = named_moment (parts_of w) (offset_parts_of w)
 abbrev set_named : Record → Result (Iso8601Parts × List ℕ) Fault → Result Shown Fault
 set_named defaults r = names moment_named (all_read (then_read r (λ w rest. Ok (put_iso8601 w defaults, rest))))
 
-value_of : Iso8601Parts → Result Iso8601Parts Fault → Iso8601Parts
-value_of other (Ok w) = w
-value_of other (Err e) = other
-
 abbrev read_as : Iso8601Parts → Result Iso8601Parts Fault
 read_as w = Ok w
 
 same_written : (v w : Iso8601Parts) → read_as v ≡ read_as w → v ≡ w
-unfolding value_of
-same_written v w e = ap (value_of v) e
+same_written v w e = cc
 
 holding_by_rest : (v : Iso8601Parts) (rest : List ℕ) (w : Iso8601Parts) (m : Shown) (hour minute : Option ℤ) → value_read (read_whole (Ok (v, rest))) ≡ Ok w → IsSome w.offset → parts_named w ≡ Ok m → set_named (holding hour minute) (Ok (v, rest)) ≡ Ok m
 holding_by_rest v [] w m hour minute read some named = rw (same_written v w read) (holding_named w.date w.time w.offset hour minute some ∙ named)

@@ -20,7 +20,7 @@ use Rattle.parsing_rfc2822.specs.Reading.{rfc2822}
 use Rattle.parsing_parsable.specs.Put.{put_rfc2822}
 use Rattle.parsing_parsable.specs.Staged.{reads_rfc2822}
 use Rattle.parsing_parsable.specs.TwoRoads.{holding, AgreeOn}
-use Rattle.parsing_parsable.proofs.RoadParts.{of_parts, named_parts, offset_last, AreNamed, none_or_named}
+use Rattle.parsing_parsable.proofs.RoadParts.{of_parts, named_parts, offset_last, AreNamed, none_or_named, agree_by}
 use Rattle.parsing_parsable.proofs.RoadNumbers.{not_all, month_in_range, same_date, same_offset, no_more}
 
 abbrev date : Rfc2822Parts → Result ℕ ComponentRange
@@ -73,14 +73,7 @@ read_alike : (w : Rfc2822Parts) (rest : List ℕ) (hour minute : Option ℤ) →
 read_alike w [] hour minute range = direct_parts w ∙ sym (staged_parts w hour minute)
 read_alike w (c ∷ cs) hour minute range = rw (not_all c cs) (direct_rest w c cs)
 
-agree_by : (strict other : Result (Rfc2822Parts × List ℕ) Fault) → ((w : Rfc2822Parts) (rest : List ℕ) → (strict ≡ Ok (w, rest)) ↔ ((other ≡ Ok (w, rest)) × AreInRange w)) → (hour minute : Option ℤ) → result_ok (value_read (then_read other moment_of)) ≡ result_ok (names moment_named (all_read (then_read strict (λ w rest. Ok (put_rfc2822 w (holding hour minute), rest)))))
-agree_by (Ok x) other iff hour minute =
-    let both = (iff x.0 x.1).0 refl in
-    rw both.0 (read_alike x.0 x.1 hour minute both.1)
-agree_by (Err e) (Err f) iff hour minute = refl
-agree_by (Err e) (Ok y) iff hour minute = refused y.0 y.1 (λ range. let strict = (iff y.0 y.1).1 (refl, range) in cc)
-
 -- what the strict reading has to do with the other one decides it
 pub agree : (bytes : List ℕ) → ((w : Rfc2822Parts) (rest : List ℕ) → (rfc2822 true bytes ≡ Ok (w, rest)) ↔ ((rfc2822 false bytes ≡ Ok (w, rest)) × AreInRange w)) → AgreeOn direct reads_rfc2822 bytes
 unfolding direct moment whole reads_rfc2822
-agree bytes iff hour minute = agree_by (rfc2822 true bytes) (rfc2822 false bytes) iff hour minute
+agree bytes iff hour minute = agree_by moment_of (λ w. put_rfc2822 w (holding hour minute)) AreInRange refused (λ w rest. read_alike w rest hour minute) (rfc2822 true bytes) (rfc2822 false bytes) iff

@@ -1,10 +1,11 @@
 -- Nine digits in lanes, as a fraction.
-use Rattle.std.proofs.Common.{◌≡◌, ◌≤◌, ◌<◌, ◌+◌, ◌-◌, ◌*◌, ◌^◌, ◌∙◌, ℕ, zero, suc, true, List, [], ◌∷◌, ◌++◌, length, get_or, take, drop, replicate, refl, sym, ap, inl, inr, arith, w64, take-append-drop}
+use Rattle.std.proofs.Common.{◌≡◌, ◌≤◌, ◌<◌, ◌+◌, ◌-◌, ◌*◌, ◌^◌, ◌∙◌, ℕ, true, List, [], ◌∷◌, ◌++◌, length, get_or, take, drop, replicate, refl, sym, ap, inl, inr, arith, w64, take-append-drop}
 use Rattle.std.specs.Char.{is_ascii_digit}
 use Rattle.std.specs.Int.{from_le_bytes, to_le_bytes}
 use Rattle.std.specs.Str.Parse.{digits_value}
-use Rattle.std.proofs.lemmas.Bool.{cases_lt}
+use Rattle.std.proofs.lemmas.Bool.{cases_lt, false≢true}
 use Rattle.std.proofs.lemmas.List.{ext_get_or, get_or-take, get_or-drop, get_or-replicate, length-take-le, length-drop, length-replicate}
+use Rattle.std.proofs.lemmas.List.Sums.{prefix_len_stops}
 use Rattle.std.proofs.lemmas.Nat.{le_bytes_8}
 use Rattle.parsing_combinator.specs.Pieces.{digit_count, nanoseconds_of}
 use Rattle.parsing_combinator.proofs.Decimal.{value_append, value_zeros, digit_count_within}
@@ -17,12 +18,10 @@ use lib.Lanes.{number_l, chunk}
 
 -- digits before are counted
 counted : (xs : List ℕ) (n : ℕ) → n ≤ length xs → ((k : ℕ) → k < n → is_ascii_digit (get_or xs k 0) ≡ true) → n ≤ digit_count xs
-counted xs zero le h = omega arith
-counted [] (suc n) le h = absurd (omega (arith, le))
-counted (x ∷ xs) (suc n) le h =
-    let here : is_ascii_digit x ≡ true = h 0 (omega arith) in
-    let rest = counted xs n (omega (arith, le)) (λ k lt. h (suc k) (omega (arith, lt))) in
-    rw here (omega (arith, rest))
+counted xs n le h = elim (cases_lt (digit_count xs) n) [
+  | inl less ↦ absurd (false≢true (sym (prefix_len_stops is_ascii_digit xs 0 (omega (arith, less, le))) ∙ h (digit_count xs) less))
+  | inr far ↦ far
+]
 
 -- the first nine lanes as the digits of a fraction are kept
 nine_is : (xs : List ℕ) (first last : ℕ) → length xs ≡ 16 → ((k : ℕ) → get_or xs k 0 < 256) → first ≡ number_l 256 (chunk 0 8 xs) → last ≡ get_or xs 8 0 → nine_digits first last ≡ take 9 xs

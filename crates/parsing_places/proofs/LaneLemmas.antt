@@ -1,11 +1,11 @@
 -- Lanes of vectors.
-use Rattle.std.proofs.Common.{◌≡◌, ◌≤◌, ◌<◌, ◌+◌, ◌*◌, ◌^◌, ◌/◌, ◌%◌, ◌∙◌, ℕ, zero, suc, Bool, true, false, cond, List, [], ◌∷◌, length, get_or, take, drop, map, refl, sym, ap, arith, w8, lit<, inl, inr}
+use Rattle.std.proofs.Common.{◌≡◌, ◌≤◌, ◌<◌, ◌+◌, ◌*◌, ◌^◌, ◌/◌, ◌%◌, ◌∙◌, ℕ, suc, Bool, true, false, cond, List, [], ◌∷◌, length, get_or, take, drop, map, refl, sym, ap, arith, w8, lit<, inl, inr}
 use Rattle.std.specs.Int.Bits.{bit_and}
-use Rattle.std.specs.Prelude.{◌-◌, nat_le, nat_lt, nat_eq, replicate}
-use Rattle.std.proofs.lemmas.Bool.{cases_lt, agree_below_at, eqb-true, le-ltb, leb-true, lt-ltb}
+use Rattle.std.specs.Prelude.{nat_le, nat_lt, nat_eq, replicate}
+use Rattle.std.proofs.lemmas.Bool.{cases_lt, agree_below_at, eqb-true, leb-true}
 use Rattle.std.proofs.lemmas.Bool.Decides.{nat_tests}
 use Rattle.std.proofs.lemmas.List.{drop_more, length-map, get_or-map, take_all}
-use Rattle.std.proofs.lemmas.Simd.{swz_l, get_or-swz_l, get_or_wider, get_or_narrower, below_from_Fits, get_or-zip2, length-zip2, mask_l-mod, get_or-replicate}
+use Rattle.std.proofs.lemmas.Simd.{swz_l, get_or-swz_l, get_or_wider, get_or_narrower, below_from_Fits, get_or-zip2, length-zip2, mask_l-mod, bit_mask_l, get_or-replicate}
 use Rattle.parsing_combinator.proofs.Lanes.{spelled, spelled_is}
 use Rattle.parsing_places.specs.Lanes.{are_moves}
 use lib.Dec.{T, ltb}
@@ -63,13 +63,9 @@ shifted a b = a / 2 ^ b
 pub numbers_lane : (xs : List ℕ) (j : ℕ) → length xs ≡ 8 → j < 8 → get_or (zip2 shifted (zip2 times xs (replicate 8 2561)) (replicate 8 8)) j 0 ≡ get_or xs j 0 * 2561 % 2 ^ 16 / 256
 numbers_lane xs j n lt =
     let tens : List ℕ = replicate 8 2561 in
-    let eights : List ℕ = replicate 8 8 in
     let long : length (zip2 times xs tens) ≡ 8 = length-zip2 times xs tens n ∙ n in
-    let p : get_or (zip2 times xs tens) j 0 ≡ times (get_or xs j 0) (get_or tens j 0) = get_or-zip2 times xs tens j 0 0 0 (omega (arith, n, lt)) lt in
-    let q : get_or (zip2 shifted (zip2 times xs tens) eights) j 0 ≡ shifted (get_or (zip2 times xs tens) j 0) (get_or eights j 0) = get_or-zip2 shifted (zip2 times xs tens) eights j 0 0 0 (omega (arith, long, lt)) lt in
-    let ten : get_or tens j 0 ≡ 2561 = get_or-replicate 8 j 2561 0 lt in
-    let eight : get_or eights j 0 ≡ 8 = get_or-replicate 8 j 8 0 lt in
-    q ∙ ap (λ v. shifted v (get_or eights j 0)) p ∙ ap (λ v. shifted (times (get_or xs j 0) v) (get_or eights j 0)) ten ∙ ap (λ v. shifted (times (get_or xs j 0) 2561) v) eight
+    let product = get_or-zip2 times xs tens j 0 0 0 (omega (arith, n, lt)) lt in
+    get_or-zip2 shifted (zip2 times xs tens) (replicate 8 8) j 0 0 0 (omega (arith, long, lt)) lt ∙ rw (product, get_or-replicate {A = ℕ} 8 j 2561 0 lt, get_or-replicate {A = ℕ} 8 j 8 0 lt) refl
 
 -- ---- lanes that are moved
 
@@ -86,23 +82,12 @@ no_lane xs js k n lt large =
 
 -- ---- a test of all lanes
 
-all_true : (ms : List Bool) (n : ℕ) → length ms ≡ n → mask_l ms + 1 ≡ 2 ^ n → (k : ℕ) → k < n → get_or ms k false ≡ true
-all_true [] n long e k lt = absurd (omega (arith, long, lt))
-all_true (m ∷ ms) zero long e k lt = absurd (omega (arith, lt))
-all_true (true ∷ ms) (suc n) long e zero lt = refl
-all_true (true ∷ ms) (suc n) long e (suc k) lt = all_true ms n (omega (arith, long)) (omega (arith, e)) k (omega (arith, lt))
-all_true (false ∷ ms) (suc n) long e k lt = absurd (omega (arith, e))
-
 abbrev pub tests : List ℕ → List ℕ → List ℕ
 tests = zip2 (λ a b. cond (nat_le a b) 255 0)
 
 three_true : (p q r : Bool) → top 7 (bit_and (bit_and (cond p 255 0) (cond q 255 0)) (cond r 255 0)) ≡ true → (p ≡ true) × (q ≡ true) × (r ≡ true)
 three_true true true true e = (refl, refl, refl)
-three_true true true false e = absurd cc
-three_true true false true e = absurd cc
-three_true true false false e = absurd cc
-three_true false q true e = absurd cc
-three_true false q false e = absurd cc
+three_true p q r e = absurd cc
 
 one_true : (p : Bool) → top 7 (cond p 255 0) ≡ true → p ≡ true
 one_true true e = refl
@@ -124,8 +109,10 @@ every_lane zs k n e lt =
     let n4 : length bits ≡ 16 = length-map zs (top 7) ∙ n in
     let same = mask_l-mod bits 64 (omega (arith, n4)) in
     let all : mask_l bits % 18446744073709551616 ≡ 65535 = grind (arith, nat_tests, e) in
-    let whole : mask_l bits + 1 ≡ 2 ^ 16 = omega (arith, same, all) in
-    sym (get_or-map (top 7) zs k 0 false (omega (arith, n, lt))) ∙ all_true bits 16 n4 whole k lt
+    let whole : mask_l bits ≡ 65535 = omega (arith, same, all) in
+    let one = agree_below_at (λ k. nat_eq (65535 / 2 ^ k % 2) 1) (λ _. true) 16 k refl lt in
+    let bit : cond (get_or bits k false) 1 0 ≡ 1 = sym (bit_mask_l bits k) ∙ rw whole (eqb-true _ _ one) in
+    sym (get_or-map (top 7) zs k 0 false (omega (arith, n, lt))) ∙ grind (arith, nat_tests, bit)
 
 pub all_pass : (xs ys : List ℕ) → length xs ≡ 16 → length ys ≡ 16 → nat_eq (mask_l (map (top 7) (tests xs ys)) % 18446744073709551616) 65535 ≡ true
     → (k : ℕ) → k < 16 → get_or xs k 0 ≤ get_or ys k 0
@@ -141,12 +128,9 @@ all_pass_three f fh s sh t th nf nfh ns nsh nt nth e k lt =
     let both = zip2 bit_and (tests f fh) (tests s sh) in
     let nb : length both ≡ 16 = length-zip2 bit_and (tests f fh) (tests s sh) (one ∙ sym two) ∙ one in
     let na : length (zip2 bit_and both (tests t th)) ≡ 16 = length-zip2 bit_and both (tests t th) (nb ∙ sym three) ∙ nb in
-    let here = every_lane (zip2 bit_and both (tests t th)) k na e lt in
-    let b : get_or both k 0 ≡ bit_and (get_or (tests f fh) k 0) (get_or (tests s sh) k 0) = get_or-zip2 bit_and (tests f fh) (tests s sh) k 0 0 0 (omega (arith, one, lt)) (omega (arith, two, lt)) in
-    let a : get_or (zip2 bit_and both (tests t th)) k 0 ≡ bit_and (get_or both k 0) (get_or (tests t th) k 0) = get_or-zip2 bit_and both (tests t th) k 0 0 0 (omega (arith, nb, lt)) (omega (arith, three, lt)) in
     let is : get_or (zip2 bit_and both (tests t th)) k 0 ≡ bit_and (bit_and (cond (nat_le (get_or f k 0) (get_or fh k 0)) 255 0) (cond (nat_le (get_or s k 0) (get_or sh k 0)) 255 0)) (cond (nat_le (get_or t k 0) (get_or th k 0)) 255 0) =
-    a ∙ rw (b, test_at f fh k nf nfh lt, test_at s sh k ns nsh lt, test_at t th k nt nth lt) refl in
-    let all = three_true (nat_le (get_or f k 0) (get_or fh k 0)) (nat_le (get_or s k 0) (get_or sh k 0)) (nat_le (get_or t k 0) (get_or th k 0)) (sym (ap (top 7) is) ∙ here) in
+    rw (get_or-zip2 bit_and both (tests t th) k 0 0 0 (omega (arith, nb, lt)) (omega (arith, three, lt)), get_or-zip2 bit_and (tests f fh) (tests s sh) k 0 0 0 (omega (arith, one, lt)) (omega (arith, two, lt)), test_at f fh k nf nfh lt, test_at s sh k ns nsh lt, test_at t th k nt nth lt) refl in
+    let all = three_true (nat_le (get_or f k 0) (get_or fh k 0)) (nat_le (get_or s k 0) (get_or sh k 0)) (nat_le (get_or t k 0) (get_or th k 0)) (sym (ap (top 7) is) ∙ every_lane (zip2 bit_and both (tests t th)) k na e lt) in
     (leb-true _ _ all.0, leb-true _ _ all.1, leb-true _ _ all.2)
 
 abbrev plus : ℕ → ℕ → ℕ
@@ -156,17 +140,10 @@ plus a b = (a + b) % 256
 abbrev nine_zeros : List ℕ
 nine_zeros = 48 ∷ 48 ∷ 48 ∷ 48 ∷ 48 ∷ 48 ∷ 48 ∷ 48 ∷ 48 ∷ 0 ∷ 0 ∷ 0 ∷ 0 ∷ 0 ∷ 0 ∷ 0 ∷ []
 
-nine_at : (k : ℕ) → k < 16 → get_or nine_zeros k 0 ≡ cond (nat_lt k 9) 48 0
-nine_at k lt = let h = agree_below_at (λ k. nat_eq (get_or nine_zeros k 0) (cond (nat_lt k 9) 48 0)) (λ _. true) 16 k refl lt in eqb-true _ _ h
-
-text_at : (xs : List ℕ) (k : ℕ) → length xs ≡ 16 → k < 16 → get_or (zip2 plus xs nine_zeros) k 0 ≡ plus (get_or xs k 0) (cond (nat_lt k 9) 48 0)
-text_at xs k n lt = get_or-zip2 plus xs nine_zeros k 0 0 0 (omega (arith, n, lt)) lt ∙ ap (plus (get_or xs k 0)) (nine_at k lt)
-
-pub text_lane : (xs : List ℕ) (k : ℕ) → length xs ≡ 16 → k < 9 → get_or (zip2 plus xs nine_zeros) k 0 ≡ (get_or xs k 0 + 48) % 256
-text_lane xs k n lt = text_at xs k n (omega (arith, lt)) ∙ rw (lt-ltb k 9 lt) refl
-
-pub rest_lane : (xs : List ℕ) (k : ℕ) → length xs ≡ 16 → 9 ≤ k → k < 16 → get_or xs k 0 ≡ 0 → get_or (zip2 plus xs nine_zeros) k 0 ≡ 0
-rest_lane xs k n le lt is = text_at xs k n lt ∙ rw (le-ltb k 9 le, is) refl
+pub text_at : (xs : List ℕ) (k : ℕ) → length xs ≡ 16 → k < 16 → get_or (zip2 plus xs nine_zeros) k 0 ≡ plus (get_or xs k 0) (cond (nat_lt k 9) 48 0)
+text_at xs k n lt =
+    let nine = eqb-true _ _ (agree_below_at (λ k. nat_eq (get_or nine_zeros k 0) (cond (nat_lt k 9) 48 0)) (λ _. true) 16 k refl lt) in
+    get_or-zip2 plus xs nine_zeros k 0 0 0 (omega (arith, n, lt)) lt ∙ ap (plus (get_or xs k 0)) nine
 
 -- the ninth byte alone is in the second half
 pub ninth_alone : (xs : List ℕ) → length xs ≡ 16 → ((k : ℕ) → 9 ≤ k → k < 16 → get_or xs k 0 ≡ 0) → ((k : ℕ) → get_or xs k 0 < 256) → number_l 256 xs / 18446744073709551616 % 18446744073709551616 ≡ get_or xs 8 0

@@ -1,9 +1,9 @@
 -- The numbers that lanes take of a text, and its bytes, by tests of windows.
-use Rattle.std.proofs.Common.{◌≡◌, ◌≤◌, ◌<◌, ◌+◌, ◌-◌, ◌*◌, ◌∙◌, ◌&&◌, ◌==◌, ℕ, Bool, true, false, List, [], length, get_or, drop, replicate, refl, sym, arith, inl, inr, lit<, lit≤}
-use Rattle.std.specs.Prelude.{nat_lt, nat_le, if◌then◌else◌}
+use Rattle.std.proofs.Common.{◌≡◌, ◌≤◌, ◌<◌, ◌+◌, ◌-◌, ◌*◌, ◌∙◌, ◌&&◌, ◌==◌, ℕ, Bool, true, false, List, length, get_or, refl, arith, inl, inr, lit<, lit≤}
+use Rattle.std.specs.Prelude.{nat_lt, nat_le}
 use Rattle.std.proofs.lemmas.Bool.{and_parts, cases_lt, eqb-true, leb-true}
 use Rattle.std.proofs.lemmas.Bool.Decides.{nat_tests}
-use Rattle.std.proofs.lemmas.List.{get_or-drop, get_or_past}
+use Rattle.std.proofs.lemmas.List.{get_or_past}
 use Rattle.parsing_combinator.specs.Places.{HasDigit}
 use Rattle.parsing_places.specs.Lanes.{above}
 use Rattle.parsing_places.specs.Last.{HaveWindow}

@@ -6,8 +6,7 @@ use Rattle.parsing_places.specs.declared.ending.Ending.TheVariants.{Zulu, Colon,
 -- the byte that ends an offset is a `Z`, or no such one
 abbrev pub is_zulu : Ending → Bool
 is_zulu Zulu = true
-is_zulu Colon = false
-is_zulu Plain = false
+is_zulu other = false
 
 -- whether an offset that has a colon or none is written so
 abbrev pub is_written : Bool → Ending → Bool

@@ -37,9 +37,9 @@ pub(crate) fn are_at_most(
     third: u8x16,
     third_high: u8x16,
 ) -> bool
-    ensures first { result ≡ true → (k : ℕ) → k < LANES → get_or first k 0 ≤ get_or first_high k 0 }
-    ensures second { result ≡ true → (k : ℕ) → k < LANES → get_or second k 0 ≤ get_or second_high k 0 }
-    ensures third { result ≡ true → (k : ℕ) → k < LANES → get_or third k 0 ≤ get_or third_high k 0 }
+    ensures { result ≡ true → (k : ℕ) → k < LANES → (get_or first k 0 ≤ get_or first_high k 0)
+        × (get_or second k 0 ≤ get_or second_high k 0)
+        × (get_or third k 0 ≤ get_or third_high k 0) }
 {
     (first.simd_le(first_high) & second.simd_le(second_high) & third.simd_le(third_high)).all()
 }
@@ -86,6 +86,7 @@ pub struct Moves {
 }
 
 /// The lanes that moves take.
+#[tactic(auto, using(crate::proofs::LaneLemmas::taken_lane, crate::proofs::LaneLemmas::no_lane))]
 #[inline(always)]
 pub fn taken_by(moves: &Moves, bytes: u8x16) -> u8x16
     ensures taken { (k : ℕ) → k < LANES → get_or moves.now.lanes k 0 < LANES

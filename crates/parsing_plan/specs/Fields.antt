@@ -14,10 +14,6 @@ abbrev pub IsOffset : Bool → ℕ → ℕ → Option ℤ → ℤ → Type 0
 IsOffset true offsets seconds assumed o = (hour minute : ℕ) → offsets ≡ 60 * hour + minute → hour ≤ 23 → minute ≤ 59 → signed_offset_of (nat_eq (seconds % 4) 2) hour minute ≡ Ok (pos 60 *ℤ o)
 IsOffset false offsets seconds assumed o = offset_named (beginning assumed) ≡ Ok (pos 60 *ℤ o)
 
--- where no offset is written, the one that is assumed has these minutes
-abbrev pub Assumes : Bool → Option ℤ → ℤ → Type 0
-Assumes written assumed minutes = written ≡ false → offset_named (beginning assumed) ≡ Ok (pos 60 *ℤ minutes)
-
 -- fields are those of four sums, of what is read beside them, of a fraction that was found, and of the offset
 pub record AreFieldsOf (s : Shape) (b : Beside) (text : List ℕ) (days minutes offsets seconds : ℕ) (found : Option ℕ) (assumed : Option ℤ) (f : Fields) : Type 0 where
   pub weekday : ℕ

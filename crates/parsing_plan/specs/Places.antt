@@ -1,8 +1,8 @@
 -- Places, Unix time, and the items that they stand for.
 use Rattle.std.specs.Prelude.{ℤ, Option}
 use Rattle.parsing_components.specs.Meaning.{Meaning}
-use Rattle.parsing_plan.specs.Fields.{Assumes}
-use Rattle.parsing_plan.specs.declared.parts.Minutes.{Minutes}
+use Rattle.parsing_item_parts.specs.Assumed.{Assumes}
+use Rattle.parsing_item_parts.specs.declared.minutes.Minutes.{Minutes}
 use Rattle.parsing_item_parts.specs.Items.{IsItem, parts_kept}
 use Rattle.parsing_plan.specs.UnixTime.{IsUnixOf}
 use Rattle.parsing_plan.specs.declared.places.Places.{Places}

@@ -5,10 +5,10 @@ ghost use Rattle.parsing_shapes.specs.Beside.{HasSpaced, IsFraction, ReadAt, is_
 ghost use Rattle.parsing_layout.specs.declared.parts.Field.TheVariants as field;
 ghost use Rattle.parsing_layout.specs.declared.parts.Names.TheVariants as names;
 ghost use Rattle.parsing_layout.specs.declared.parts.Part.TheVariants as part;
-ghost use Rattle.parsing_plan.specs.Fields.{Assumes, IsOffset};
+ghost use Rattle.parsing_item_parts.specs.Assumed.{Assumes};
+ghost use Rattle.parsing_plan.specs.Fields.{IsOffset};
 
-use calendar::UtcOffset;
-use parsing_components::assumed_minutes;
+use parsing_item_parts::Minutes;
 use parsing_layout::{month_name_at, weekday_name_at};
 use parsing_places::signed;
 use parsing_shapes::{Beside, Shape};
@@ -103,13 +103,6 @@ pub(crate) fn fraction_of(
     }
 }
 
-/// The minutes of an offset.
-#[derive(Clone, Copy)]
-pub struct Minutes {
-    pub(crate) number: i16,
-    ghost few: { unsigned_abs number ≤ 1559 },
-}
-
 /// The minutes of the offset, of the sums or else those that are assumed.
 #[inline(always)]
 pub(crate) fn offset_of(beside: &Beside, offset: u32, seconds: u32, minutes: Minutes) -> i16
@@ -124,18 +117,4 @@ pub(crate) fn offset_of(beside: &Beside, offset: u32, seconds: u32, minutes: Min
     } else {
         minutes.number
     }
-}
-
-/// The minutes that are assumed for lines without an offset, and any others where an offset is written: `None` where neither is.
-#[inline(always)]
-pub(crate) fn minutes_of(beside: &Beside, assumed: Option<UtcOffset>) -> Option<Minutes>
-    ensures { IfSome result (λ minutes. Assumes beside.now.has_offset assumed minutes.number) }
-{
-    if beside.has_offset {
-        return Some(Minutes { number: 0 });
-    }
-    let offset = assumed?;
-    Some(Minutes {
-        number: assumed_minutes(offset),
-    })
 }

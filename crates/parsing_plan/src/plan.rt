@@ -19,7 +19,7 @@ use calendar::UtcOffset;
 use description_items::BorrowedFormatItem;
 use description_tree::FormatDescriptionV3;
 use parsing_components::{Node, NodeStep};
-use parsing_item_parts::Listed;
+use parsing_item_parts::{Listed, ListedAt};
 use parsing_values::Fields;
 
 /// How lines of a description are read at once.
@@ -44,7 +44,9 @@ pub enum PlanAt<'p> {
     Split(SplitPlaces<'p>),
     /// Unix time alone.
     Unix(&'p UnixTime),
-    /// Any other.
+    /// A part after the other.
+    Listed(ListedAt<'p>),
+    /// Any other, and where lines name no moment.
     Other(&'p Plan),
 }
 
@@ -94,7 +96,10 @@ impl Plan {
                 None => PlanAt::Other(self),
             },
             Plan::Unix(unix) => PlanAt::Unix(unix),
-            Plan::Listed(_) => PlanAt::Other(self),
+            Plan::Listed(listed) => match listed.at(assumed) {
+                Some(way) => PlanAt::Listed(way),
+                None => PlanAt::Other(self),
+            },
         }
     }
 

@@ -8,15 +8,17 @@ ghost use Rattle.parsing_components.specs.Prefix.{NamesPrefix, beginning};
 ghost use Rattle.parsing_values.specs.Moment.{moment_of};
 ghost use Rattle.parsing_shapes.specs.Beside.{is_ready};
 ghost use Rattle.parsing_shapes.specs.Sums.{AreSums};
-ghost use Rattle.parsing_plan.specs.Fields.{AreFieldsOf, Assumes};
+ghost use Rattle.parsing_item_parts.specs.Assumed.{Assumes};
+ghost use Rattle.parsing_plan.specs.Fields.{AreFieldsOf};
 ghost use Rattle.parsing_plan.specs.Parts.{are_numbers, is_plain};
 ghost use Rattle.parsing_item_parts.specs.Listed.{NamesWhole};
 ghost use Rattle.parsing_plan.specs.Places.{ArePlacesOf, AssumesMinutes};
 
-use crate::parts::{Minutes, day_of, fraction_of, minutes_of, month_of, offset_of, weekday_of};
+use crate::parts::{day_of, fraction_of, month_of, offset_of, weekday_of};
 use crate::places::{Back, NEVER, Places};
 use crate::plan::PlanAt;
 use calendar::UtcOffset;
+use parsing_item_parts::Minutes;
 use parsing_places::LANES;
 use parsing_shapes::{Beside, Shape, Sums, split_sums_of, sums_of};
 use parsing_values::{Fields, Fraction, Year, has_day};
@@ -61,15 +63,16 @@ fn fields_of(
 
 // The fields of a line that begins with the parts, all of fixed widths.
 #[inline(always)]
-fn whole_fields(places: &Places, line: &[u8], minutes: Minutes) -> Option<Fields>
+fn whole_fields(places: &Places, beside: &Beside, line: &[u8], minutes: Minutes) -> Option<Fields>
     requires whole { places.now.back ≡ None }
+    requires beside { places.now.front.beside ≡ beside.now }
     requires long { places.now.front.shape.length ≤ length line.now }
     ensures { (m : Meaning) (assumed : Option ℤ) → ArePlacesOf m places.now
         → Assumes places.now.front.beside.has_offset assumed minutes.number
         → IfSome result (λ f. NamesPrefix m (beginning assumed) line.now
         (drop places.now.front.shape.length line.now) (moment_of f)) }
 {
-    let (shape, beside) = (&places.front.shape, &places.front.beside);
+    let shape = &places.front.shape;
     let sums = sums_of(shape, line)?;
     fields_of(shape, beside, line, sums, None, minutes)
 }
@@ -159,8 +162,8 @@ fn split_end(shape: &Shape, back: &Back, line: &[u8]) -> Option<(usize, usize)>
 /// Places of parts of fixed widths, with the offset that is assumed for their lines.
 #[derive(Clone, Copy)]
 pub struct WholePlaces<'p> {
-    pub(crate) places: &'p Places,
-    pub(crate) minutes: Minutes,
+    pub places: &'p Places,
+    pub minutes: Minutes,
     ghost whole: { places.now.back ≡ None },
 }
 
@@ -174,15 +177,15 @@ impl WholePlaces<'_> {
         if line.len() != self.places.front.shape.length {
             return None;
         }
-        whole_fields(self.places, line, self.minutes)
+        whole_fields(self.places, &self.places.front.beside, line, self.minutes)
     }
 }
 
 /// Places of numbers with a fraction of any number of digits, with the offset that is assumed for their lines.
 #[derive(Clone, Copy)]
 pub struct SplitPlaces<'p> {
-    pub(crate) places: &'p Places,
-    pub(crate) minutes: Minutes,
+    pub places: &'p Places,
+    pub minutes: Minutes,
     ghost split: { IsSome places.now.back },
     ghost numbers: { are_numbers places.now.front.beside ≡ true },
 }
@@ -243,7 +246,7 @@ impl Places {
         ensures plan { IfSome result (λ way. plan_of way ≡ plan.Places self.now) }
         ensures assumed { IfSome result (λ way. HasAssumed way assumed) }
     {
-        let minutes = minutes_of(&self.front.beside, assumed)?;
+        let minutes = Minutes::assumed(self.front.beside.has_offset, assumed)?;
         if self.back.is_none() {
             let whole = WholePlaces {
                 places: self,
@@ -269,15 +272,13 @@ impl Places {
         self.plain_length < NEVER
     }
 
-    /// The fields of a line where the places are plain, without a test for what such places can't have. Of others `None` is said
-    /// for each line.
+    // The fields of a line that begins with plain parts, without a test for what those can't have.
     #[inline(always)]
-    pub fn read_plain(&self, line: &[u8]) -> Option<Fields>
-        ensures { (assumed : Option ℤ) → NamesWhole (λ m. ArePlacesOf m self.now) line.now assumed result }
+    fn plain_fields(&self, line: &[u8]) -> Option<Fields>
+        requires { self.now.plain_length ≤ length line.now }
+        ensures { (m : Meaning) (assumed : Option ℤ) → ArePlacesOf m self.now → IfSome result (λ f. NamesPrefix m
+            (beginning assumed) line.now (drop self.now.plain_length line.now) (moment_of f)) }
     {
-        if line.len() != self.plain_length {
-            return None;
-        }
         if line.len() < LANES {
             unreachable!();
         }
@@ -291,9 +292,19 @@ impl Places {
         if beside.month.is_none() {
             unreachable!();
         }
-        let shape = &self.front.shape;
-        let sums = sums_of(shape, line)?;
-        fields_of(shape, &beside, line, sums, None, Minutes { number: 0 })
+        whole_fields(self, &beside, line, Minutes { number: 0 })
+    }
+
+    /// The fields of a line where the places are plain, without a test for what such places can't have. Of others `None` is said
+    /// for each line.
+    #[inline(always)]
+    pub fn read_plain(&self, line: &[u8]) -> Option<Fields>
+        ensures { (assumed : Option ℤ) → NamesWhole (λ m. ArePlacesOf m self.now) line.now assumed result }
+    {
+        if line.len() != self.plain_length {
+            return None;
+        }
+        self.plain_fields(line)
     }
 
     /// The fields of a prefix of a line, with an offset assumed or none, which counts only where the line has none, and what stands
@@ -308,7 +319,11 @@ impl Places {
             (λ x. NamesPrefix m (beginning assumed) line.now x.1.now (moment_of x.0)) }
         ensures end { IfSome result (λ x. EndsWith line.now x.1.now) }
     {
-        let minutes = minutes_of(&self.front.beside, assumed)?;
+        if line.len() >= self.plain_length {
+            let fields = self.plain_fields(line)?;
+            return Some((fields, from(line, self.plain_length)));
+        }
+        let minutes = Minutes::assumed(self.front.beside.has_offset, assumed)?;
         if let Some(back) = &self.back {
             let (end, count) = split_end(&self.front.shape, back, line)?;
             let fields = split_fields(self, &self.front.beside, back, line, end, count, minutes)?;
@@ -318,7 +333,7 @@ impl Places {
         if line.len() < length {
             return None;
         }
-        let fields = whole_fields(self, line, minutes)?;
+        let fields = whole_fields(self, &self.front.beside, line, minutes)?;
         Some((fields, from(line, length)))
     }
 }

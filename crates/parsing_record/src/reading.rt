@@ -134,9 +134,7 @@ fn read_first<'a, N: ReadsNode, T: Tally>(
             Ok(rest) => return Ok(rest),
             Err(refused) => {
                 *parsed = before;
-                if fault.is_none() {
-                    fault = Some(refused);
-                }
+                fault = fault.or(Some(refused));
             }
         }
     }

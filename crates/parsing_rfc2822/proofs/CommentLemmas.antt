@@ -43,12 +43,10 @@ last_apart c (d ∷ rest) e = ap (λ (t : List ℕ). c ∷ t) (last_apart d rest
 
 -- the same by places
 pub plain_comment_there : (bytes : List ℕ) → 3 ≤ length bytes → get_or bytes 0 0 ≡ 32 → get_or bytes 1 0 ≡ 40 → get_or bytes (length bytes - 1) 0 ≡ 41 → list_all is_comment_text (take (length bytes - 1 - 2) (drop 2 bytes)) ≡ true → comments_and_white_space bytes ≡ Some []
-plain_comment_there [] le h k l plain = absurd (omega arith)
-plain_comment_there (a ∷ []) le h k l plain = absurd (omega arith)
-plain_comment_there (a ∷ b ∷ []) le h k l plain = absurd (omega arith)
 plain_comment_there (a ∷ b ∷ c ∷ rest) le h k l plain =
     let first : a ≡ 32 = h in
     let second : b ≡ 40 = k in
     let end : length (a ∷ b ∷ c ∷ rest) - 1 ≡ suc (suc (length rest)) = omega arith in
     let inner : length (a ∷ b ∷ c ∷ rest) - 1 - 2 ≡ length rest = omega arith in
     rw (first, second, last_apart c rest (rw end at l)) (plain_comment (take (length rest) (c ∷ rest)) (rw inner at plain))
+plain_comment_there bytes le h k l plain = absurd (omega arith)

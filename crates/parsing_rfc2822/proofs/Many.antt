@@ -41,10 +41,9 @@ same_after n m p bytes (Some rest) s e h = elim (fewer bytes rest (end_of p byte
 same_up_to : (n m : ℕ) (p : Skip) (bytes : List ℕ) → IsEnding p → length bytes ≤ n → length bytes ≤ m → up_to n p bytes ≡ up_to m p bytes
 unfolding up_to
 same_up_to zero m p [] s a b = sym (at_end m p (p []) s refl)
-same_up_to zero m p (c ∷ bytes) s a b = absurd (omega arith)
 same_up_to (suc n) zero p [] s a b = at_end (suc n) p (p []) s refl
-same_up_to (suc n) zero p (c ∷ bytes) s a b = absurd (omega arith)
 same_up_to (suc n) (suc m) p bytes s a b = same_after n m p bytes (p bytes) s refl (λ rest less. same_up_to n m p rest s (omega arith) (omega arith))
+same_up_to n m p bytes s a b = absurd (omega arith)
 
 pub many_step : (p : Skip) (bytes rest : List ℕ) → IsEnding p → p bytes ≡ Some rest → many p bytes ≡ many p rest
 unfolding many up_to

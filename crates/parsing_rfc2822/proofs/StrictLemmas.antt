@@ -1,14 +1,12 @@
 -- The strict reading against the one that is not: the same where all numbers are in range.
-use Rattle.std.proofs.Common.{◌≡◌, ℕ, ◌≤◌, Bool, true, false, cond, leb, List, [], ◌∷◌, length, take, drop, Option, Some, None, Result, Ok, refl, arith}
-use Rattle.std.specs.List.{list_all}
-use Rattle.std.proofs.lemmas.Bool.{and_parts, leb-true}
+use Rattle.std.proofs.Common.{◌≡◌, ℕ, ◌≤◌, Bool, true, false, List, Option, Some, None, Result, Ok, refl, arith}
 use Rattle.std.specs.Borrow.{Bor}
-use Rattle.std.specs.Prelude.{◌↔◌, IfOk, IfSome, codes, option_map, nat_le}
+use Rattle.std.specs.Prelude.{◌↔◌, IfOk, IfSome}
 use Rattle.std.specs.Int.{IsInRange}
 use Rattle.calendar_count.specs.declared.weekday.Weekday.{Weekday}
 use Rattle.parsing_combinator.specs.Fault.{Fault, literal}
 use Rattle.parsing_combinator.specs.FaultOf.{Gives, reading_fault}
-use Rattle.parsing_combinator.specs.Pieces.{sign, byte_of}
+use Rattle.parsing_combinator.specs.Pieces.{sign}
 use Rattle.parsing_combinator.specs.Readings.{piece_or, give, then_read, within}
 use Rattle.parsing_combinator.specs.declared.fault.ParseFromDescription.{ParseFromDescription}
 use Rattle.parsing_combinator.specs.declared.zone.Zone.{Zone}
@@ -16,7 +14,8 @@ use Rattle.parsing_combinator.proofs.lemmas.Strict.{Misses, Narrows, Says, given
 use Rattle.parsing_rfc2822.specs.Skips.{optional, past}
 use Rattle.parsing_rfc2822.specs.WhiteSpace.{comments_and_white_space}
 use Rattle.parsing_rfc2822.specs.declared.parts.Rfc2822Parts.{Rfc2822Parts}
-use Rattle.parsing_rfc2822.specs.Names.{is_name, is_military, lookup, zones, zone_of, military_zone, short_zone, zone_name}
+use Rattle.std.proofs.lemmas.Bool.Decides.{nat_tests}
+use Rattle.parsing_rfc2822.specs.Names.{zone_of, military_zone, short_zone, zone_name}
 use Rattle.parsing_rfc2822.specs.Range.{AreInRange}
 use Rattle.parsing_rfc2822.specs.Reading.{day, month_and_year, hour_and_minute, due_second, second, clock, signed_zone, named_zone, zone, spaced_zone, rfc2822}
 
@@ -93,28 +92,9 @@ unfolding signed_zone
 signed_zone_narrows s b0 = search (narrows, no_hours, no_minutes) depth 20 fits 5000
 
 -- no zone with a name has more than 8 hours
-first_small : (b : Bool) (m : ℕ) (o : Option ℕ) (n : ℕ) → m ≤ 8 → (o ≡ Some n → n ≤ 8) → cond b (Some m) o ≡ Some n → n ≤ 8
-first_small true m o n le h e = let same : m ≡ n = cc in rw (← same) le
-first_small false m o n le h e = h e
-
-lookup_small : (entries : List (List ℕ × ℕ)) → list_all (λ e. leb e.1 8) entries ≡ true → (text : List ℕ) (n : ℕ) → lookup entries text ≡ Some n → n ≤ 8
-lookup_small [] small text n e = absurd cc
-lookup_small (entry ∷ entries) small text n e =
-    let s = and_parts _ _ small in
-    first_small (is_name text entry.0) entry.1 (lookup entries text) n (leb-true _ _ s.0) (lookup_small entries s.1 text n) e
-
-cut_small : (b c : Bool) (o : Option ℕ) (m : Option (ℕ × List ℕ)) (rest : List ℕ) (x : ℕ × List ℕ) → ((n : ℕ) → o ≡ Some n → n ≤ 8)
-    → cond b (cond b (option_map (λ n. (n, rest)) o) None) (cond c (Some (0, [])) (option_map (λ y. (0, y.1)) m)) ≡ Some x → x.0 ≤ 8
-cut_small true c (Some n) m rest x h e = let same : (n, rest) ≡ x = cc in rw (← same) (h n refl)
-cut_small true c None m rest x h e = absurd cc
-cut_small false true o m rest x h e = let same : (0, []) ≡ x = cc in rw (← same) (omega arith)
-cut_small false false o (Some y) rest x h e = let same : (0, y.1) ≡ x = cc in rw (← same) (omega arith)
-cut_small false false o None rest x h e = absurd cc
-
 zone_small : (bytes : List ℕ) (x : ℕ × List ℕ) → zone_name bytes ≡ Some x → x.0 ≤ 8
 unfolding zone_name short_zone military_zone zone_of
-zone_small bytes x e =
-    cut_small (nat_le 3 (length bytes)) (is_name bytes (codes "ut")) (lookup zones (take 3 bytes)) (byte_of is_military bytes) (drop 3 bytes) x (lookup_small zones refl (take 3 bytes)) e
+zone_small bytes x e = grind (arith, nat_tests, e)
 
 named_zone_by : (o : Option (ℕ × List ℕ)) (e : Fault) (f : ℕ → Zone) → ((x : ℕ × List ℕ) → o ≡ Some x → x.0 ≤ 8) → ((n : ℕ) → n ≤ 8 → is_zone (f n)) → Says is_zone (then_read (piece_or e o) (λ n. give (f n)))
 named_zone_by None e f h k = record { holds = tt }

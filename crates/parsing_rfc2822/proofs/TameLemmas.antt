@@ -17,9 +17,6 @@ use Rattle.parsing_rfc2822.specs.Direct.{moment, moment_of, direct}
 
 -- ---- pieces
 
-nothing : Unit {0}
-nothing = tt
-
 either_leaves : {A : Type 0} (bytes : List ℕ) (one other : Option (A × List ℕ)) → Leaves bytes one → Leaves bytes other → Leaves bytes (first_or one other)
 either_leaves bytes (Some x) other h k = h
 either_leaves bytes None other h k = k
@@ -33,7 +30,7 @@ if_leaves true bytes one other h k = h
 if_leaves false bytes one other h k = k
 
 named_leaves : {A : Type 0} (meaning : List ℕ → Option A) (bytes : List ℕ) → Leaves bytes (named meaning bytes)
-named_leaves meaning bytes = search (if_leaves, said_leaves, dropped, nothing)
+named_leaves meaning bytes = search (if_leaves, said_leaves, dropped, tt)
 
 nothing_left : (bytes : List ℕ) → EndsWith bytes []
 nothing_left bytes = (bytes, sym (append-nil bytes))
@@ -46,7 +43,7 @@ zone_leaves bytes = search (if_leaves, named_leaves, kept_leaves {A = ℕ} {B = 
 
 ruleset pieces = (digits_leaves, byte_leaves, skip_leaves, past_leaves, named_leaves, optional_ends, spacing_ends, folding_ends, colon_ends)
 
-ruleset tame = (then_tame, piece_tame, require_tame, entered_tame, resolved_tame, end_tame, whole_end, pieces, nothing, lit<, lit≤)
+ruleset tame = (then_tame, piece_tame, require_tame, entered_tame, resolved_tame, end_tame, whole_end, pieces, tt, lit<, lit≤)
 
 day_tame : (is_strict : Bool) → IsTame (day is_strict)
 unfolding day optional_weekday named_day weekday one_or_two_digits

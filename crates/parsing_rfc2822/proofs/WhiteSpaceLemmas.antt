@@ -93,18 +93,16 @@ one_rest c rest = take_all (length (32 ∷ c ∷ rest) - 1) (c ∷ rest) (omega 
 
 -- a space before a byte that neither goes on nor opens a comment, by places
 pub one_space_there : (bytes : List ℕ) → 2 ≤ length bytes → get_or bytes 0 0 ≡ 32 → 40 < get_or bytes 1 0 → comments_and_white_space bytes ≡ Some (take (length bytes - 1) (drop 1 bytes))
-one_space_there [] le h k = absurd (omega arith)
-one_space_there (a ∷ []) le h k = absurd (omega arith)
 one_space_there (a ∷ c ∷ rest) le h k =
     let same : a ≡ 32 = h in
     rw (same, one_rest c rest) (one_space c rest (omega arith))
+one_space_there bytes le h k = absurd (omega arith)
 
 pub folding_space_there : (bytes : List ℕ) → 2 ≤ length bytes → get_or bytes 0 0 ≡ 32 → 40 < get_or bytes 1 0 → folding_white_space bytes ≡ Some (take (length bytes - 1) (drop 1 bytes))
-folding_space_there [] le h k = absurd (omega arith)
-folding_space_there (a ∷ []) le h k = absurd (omega arith)
 folding_space_there (a ∷ c ∷ rest) le h k =
     let same : a ≡ 32 = h in
     rw (same, one_rest c rest) (folding_space c rest (omega arith))
+folding_space_there bytes le h k = absurd (omega arith)
 
 folding_two : (c : ℕ) (rest : List ℕ) → 41 ≤ c → folding_white_space (32 ∷ 32 ∷ c ∷ rest) ≡ Some (c ∷ rest)
 unfolding folding_white_space lone_white folded_line line_end folded_blanks unless_line_end past_some byte_where
@@ -119,10 +117,8 @@ two_spaces c rest h = rw (folding_two c rest h) (ap Some (many_end white_or_comm
 
 -- two spaces before such a byte, by places
 pub two_spaces_there : (bytes : List ℕ) → 3 ≤ length bytes → get_or bytes 0 0 ≡ 32 → get_or bytes 1 0 ≡ 32 → 40 < get_or bytes 2 0 → comments_and_white_space bytes ≡ Some (drop 2 bytes)
-two_spaces_there [] le h k l = absurd (omega arith)
-two_spaces_there (a ∷ []) le h k l = absurd (omega arith)
-two_spaces_there (a ∷ b ∷ []) le h k l = absurd (omega arith)
 two_spaces_there (a ∷ b ∷ c ∷ rest) le h k l =
     let first : a ≡ 32 = h in
     let second : b ≡ 32 = k in
     rw (first, second) (two_spaces c rest (omega arith))
+two_spaces_there bytes le h k l = absurd (omega arith)

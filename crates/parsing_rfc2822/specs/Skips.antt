@@ -1,5 +1,6 @@
 -- Skips: each passes a prefix of the bytes, where they have such a prefix, and tells the rest.
-use Rattle.std.specs.Prelude.{ℕ, zero, suc, ◌==◌, Bool, List, [], ◌∷◌, length, drop, Option, Some, None, option_map, if◌then◌else◌}
+use Rattle.std.specs.Prelude.{ℕ, zero, suc, ◌≡◌, ◌<◌, ◌≤◌, ◌==◌, Bool, List, [], ◌∷◌, length, drop, Option, Some, None, IfSome, option_map, if◌then◌else◌}
+use Rattle.std.specs.Borrow.{Bor}
 use Rattle.std.specs.List.{prefix_len}
 use Rattle.parsing_combinator.specs.Pieces.{Piece}
 
@@ -49,6 +50,14 @@ up_to (suc n) skip bytes = more_or (skip bytes) (up_to n skip) bytes
 -- as many prefixes as there are
 unfoldable pub many : Skip → List ℕ → List ℕ
 many skip bytes = up_to (length bytes) skip bytes
+
+-- what a function tells that passes a prefix, after which fewer bytes are left
+abbrev pub Passes : Skip → List ℕ → Option (Bor (List ℕ)) → Type 0
+Passes skip bytes result = (option_map (λ r. r.now) result ≡ skip bytes) × IfSome result (λ r. length r.now < length bytes)
+
+-- a rest of bytes is this one, and no longer than they are
+abbrev pub IsRest : List ℕ → List ℕ → List ℕ → Type 0
+IsRest rest bytes left = (left ≡ rest) × (length left ≤ length bytes)
 
 -- a skip as a piece without a value
 abbrev pub past : Skip → Piece (Unit {0})

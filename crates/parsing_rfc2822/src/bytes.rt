@@ -1,5 +1,5 @@
 //! Functions that pass bytes at the start, where they are there.
-ghost use Rattle.std.specs.Prelude.{◌≡◌, ◌<◌, ◌≤◌, ◌==◌, IfSome, length, option_map};
+ghost use Rattle.std.specs.Prelude.{◌≡◌, ◌≤◌, ◌==◌, length};
 ghost use Rattle.std.specs.List.{prefix_len};
 ghost use Rattle.parsing_rfc2822.specs.Skips as Skips;
 ghost use Rattle.parsing_rfc2822.specs.WhiteSpace as White;
@@ -8,8 +8,7 @@ ghost use Rattle.parsing_rfc2822.specs.WhiteSpace as White;
 #[tactic(auto, unfolding(crate::specs::Skips::byte_where))]
 #[inline(always)]
 pub(crate) fn byte(wanted: u8, bytes: &[u8]) -> Option<&[u8]>
-    ensures skips { option_map (λ r. r.now) result ≡ Skips.byte_where (λ c. c == wanted) bytes.now }
-    ensures shorter { IfSome result (λ r. length r.now < length bytes.now) }
+    ensures { Skips.Passes (Skips.byte_where (λ c. c == wanted)) bytes.now result }
 {
     match bytes {
         [b, rest @ ..] if *b == wanted => Some(rest),
@@ -44,8 +43,7 @@ fn leading_blanks(bytes: &[u8]) -> usize
 #[tactic(auto, unfolding(crate::specs::Skips::past_all))]
 #[inline(always)]
 pub(crate) fn past_all(wanted: u8, bytes: &[u8]) -> &[u8]
-    ensures skips { result.now ≡ Skips.past_all (λ c. c == wanted) bytes.now }
-    ensures not_longer { length result.now ≤ length bytes.now }
+    ensures { Skips.IsRest (Skips.past_all (λ c. c == wanted) bytes.now) bytes.now result.now }
 {
     let (_, rest) = bytes.split_at(leading(wanted, bytes));
     rest
@@ -55,8 +53,7 @@ pub(crate) fn past_all(wanted: u8, bytes: &[u8]) -> &[u8]
 #[tactic(auto, unfolding(crate::specs::Skips::past_some))]
 #[inline(always)]
 pub(crate) fn blanks(bytes: &[u8]) -> Option<&[u8]>
-    ensures skips { option_map (λ r. r.now) result ≡ Skips.past_some White.is_blank bytes.now }
-    ensures shorter { IfSome result (λ r. length r.now < length bytes.now) }
+    ensures { Skips.Passes (Skips.past_some White.is_blank) bytes.now result }
 {
     let n = leading_blanks(bytes);
     if n == 0 {

@@ -28,9 +28,7 @@ fn is_quotable(byte: u8) -> bool
 #[tactic(auto, unfolding(crate::specs::Skips::byte_where))]
 #[inline(always)]
 fn text(bytes: &[u8]) -> Option<&[u8]>
-    ensures skips { option_map (λ r. r.now) result
-        ≡ Skips.byte_where White.is_comment_text bytes.now }
-    ensures shorter { IfSome result (λ r. length r.now < length bytes.now) }
+    ensures { Skips.Passes (Skips.byte_where White.is_comment_text) bytes.now result }
 {
     match bytes {
         [b, rest @ ..] if is_comment_text(*b) => Some(rest),
@@ -41,8 +39,7 @@ fn text(bytes: &[u8]) -> Option<&[u8]>
 // Line feeds, then carriage returns, none of them due.
 #[tactic(auto, unfolding(crate::specs::WhiteSpace::past_line_ends))]
 fn past_line_ends(bytes: &[u8]) -> &[u8]
-    ensures skips { result.now ≡ White.past_line_ends bytes.now }
-    ensures not_longer { length result.now ≤ length bytes.now }
+    ensures { Skips.IsRest (White.past_line_ends bytes.now) bytes.now result.now }
 {
     past_all(b'\r', past_all(b'\n', bytes))
 }
@@ -50,8 +47,7 @@ fn past_line_ends(bytes: &[u8]) -> &[u8]
 // A byte of obsolete text, and the line feeds and carriage returns after it.
 #[tactic(auto, unfolding(crate::specs::WhiteSpace::obsolete_byte, crate::specs::WhiteSpace::is_obsolete_text, crate::specs::Skips::byte_where))]
 fn obsolete_byte(bytes: &[u8]) -> Option<&[u8]>
-    ensures skips { option_map (λ r. r.now) result ≡ White.obsolete_byte bytes.now }
-    ensures shorter { IfSome result (λ r. length r.now < length bytes.now) }
+    ensures { Skips.Passes White.obsolete_byte bytes.now result }
 {
     match bytes {
         [b, rest @ ..] if *b != b')' && (*b == 0 || is_quotable(*b)) => Some(past_line_ends(rest)),
@@ -62,8 +58,7 @@ fn obsolete_byte(bytes: &[u8]) -> Option<&[u8]>
 // The obsolete text after a backslash: it may be empty.
 #[tactic(auto, using(crate::proofs::Many::many_step, crate::proofs::Many::many_end, crate::proofs::lemmas::Ends::obsolete_ends), unfolding(crate::specs::WhiteSpace::past_obsolete_text))]
 fn past_obsolete_text(bytes: &[u8]) -> &[u8]
-    ensures skips { result.now ≡ White.past_obsolete_text bytes.now }
-    ensures not_longer { length result.now ≤ length bytes.now }
+    ensures { Skips.IsRest (White.past_obsolete_text bytes.now) bytes.now result.now }
 {
     let mut rest = past_line_ends(bytes);
     while let Some(after) = obsolete_byte(rest) {
@@ -75,8 +70,7 @@ fn past_obsolete_text(bytes: &[u8]) -> &[u8]
 // A backslash and what it quotes.
 #[tactic(auto, unfolding(crate::specs::WhiteSpace::quoted_pair, crate::specs::WhiteSpace::past_quoted, crate::specs::Skips::byte_where))]
 fn quoted_pair(bytes: &[u8]) -> Option<&[u8]>
-    ensures skips { option_map (λ r. r.now) result ≡ White.quoted_pair bytes.now }
-    ensures shorter { IfSome result (λ r. length r.now < length bytes.now) }
+    ensures { Skips.Passes White.quoted_pair bytes.now result }
 {
     let rest = byte(b'\\', bytes)?;
     match rest {
@@ -89,8 +83,7 @@ fn quoted_pair(bytes: &[u8]) -> Option<&[u8]>
 #[cycle(comments)]
 #[tactic(auto, using(crate::proofs::WhiteSpaceLemmas::comment_at, crate::proofs::WhiteSpaceLemmas::comment_none))]
 fn comment(levels: u8, bytes: &[u8]) -> Option<&[u8]>
-    ensures skips { option_map (λ r. r.now) result ≡ White.comment levels bytes.now }
-    ensures shorter { IfSome result (λ r. length r.now < length bytes.now) }
+    ensures { Skips.Passes (White.comment levels) bytes.now result }
 {
     if levels == 0 {
         return None;
@@ -103,8 +96,7 @@ fn comment(levels: u8, bytes: &[u8]) -> Option<&[u8]>
 #[cycle(comments)]
 #[tactic(auto, using(crate::proofs::WhiteSpaceLemmas::text_alone), unfolding(crate::specs::WhiteSpace::content))]
 fn content(levels: u8, bytes: &[u8]) -> Option<&[u8]>
-    ensures skips { option_map (λ r. r.now) result ≡ White.content levels bytes.now }
-    ensures shorter { IfSome result (λ r. length r.now < length bytes.now) }
+    ensures { Skips.Passes (White.content levels) bytes.now result }
 {
     if let Some(rest) = text(bytes) {
         return Some(rest);
@@ -122,8 +114,7 @@ fn content(levels: u8, bytes: &[u8]) -> Option<&[u8]>
 #[cycle(comments)]
 #[tactic(auto, using(crate::proofs::Many::many_step, crate::proofs::Many::many_end, crate::proofs::lemmas::Ends::contents_ends))]
 fn contents(levels: u8, bytes: &[u8]) -> &[u8]
-    ensures skips { result.now ≡ Skips.many (White.content levels) bytes.now }
-    ensures not_longer { length result.now ≤ length bytes.now }
+    ensures { Skips.IsRest (Skips.many (White.content levels) bytes.now) bytes.now result.now }
 {
     let mut rest = bytes;
     while let Some(after) = content(levels, rest) {
@@ -135,8 +126,7 @@ fn contents(levels: u8, bytes: &[u8]) -> &[u8]
 // Folding white space, or a comment.
 #[tactic(auto, unfolding(crate::specs::WhiteSpace::white_or_comment))]
 fn white_or_comment(bytes: &[u8]) -> Option<&[u8]>
-    ensures skips { option_map (λ r. r.now) result ≡ White.white_or_comment bytes.now }
-    ensures shorter { IfSome result (λ r. length r.now < length bytes.now) }
+    ensures { Skips.Passes White.white_or_comment bytes.now result }
 {
     folding_white_space(bytes).or_else(|| comment(31, bytes))
 }
@@ -176,8 +166,7 @@ pub fn one_space(bytes: &[u8]) -> Option<&[u8]>
 #[cold]
 #[tactic(auto, using(crate::proofs::Many::many_step, crate::proofs::Many::many_end, crate::proofs::lemmas::Ends::white_ends), unfolding(crate::specs::WhiteSpace::comments_and_white_space))]
 fn any_comments_and_white_space(bytes: &[u8]) -> Option<&[u8]>
-    ensures skips { option_map (λ r. r.now) result ≡ White.comments_and_white_space bytes.now }
-    ensures shorter { IfSome result (λ r. length r.now < length bytes.now) }
+    ensures { Skips.Passes White.comments_and_white_space bytes.now result }
 {
     let mut rest = white_or_comment(bytes)?;
     while let Some(after) = white_or_comment(rest) {

@@ -9,8 +9,7 @@ use crate::bytes::{blanks, byte};
 #[tactic(auto, unfolding(crate::specs::WhiteSpace::lone_white, crate::specs::Skips::byte_where))]
 #[inline(always)]
 fn lone_white(bytes: &[u8]) -> Option<&[u8]>
-    ensures skips { option_map (λ r. r.now) result ≡ White.lone_white bytes.now }
-    ensures shorter { IfSome result (λ r. length r.now < length bytes.now) }
+    ensures { Skips.Passes White.lone_white bytes.now result }
 {
     let [b, rest @ ..] = bytes else {
         return None;
@@ -27,8 +26,7 @@ fn lone_white(bytes: &[u8]) -> Option<&[u8]>
 // A carriage return and a line feed.
 #[tactic(auto, unfolding(crate::specs::WhiteSpace::line_end))]
 fn line_end(bytes: &[u8]) -> Option<&[u8]>
-    ensures skips { option_map (λ r. r.now) result ≡ White.line_end bytes.now }
-    ensures shorter { IfSome result (λ r. length r.now < length bytes.now) }
+    ensures { Skips.Passes White.line_end bytes.now result }
 {
     byte(b'\n', byte(b'\r', bytes)?)
 }
@@ -36,8 +34,7 @@ fn line_end(bytes: &[u8]) -> Option<&[u8]>
 // A line end, and blanks on the next line.
 #[tactic(auto, unfolding(crate::specs::WhiteSpace::folded_line))]
 fn folded_line(bytes: &[u8]) -> Option<&[u8]>
-    ensures skips { option_map (λ r. r.now) result ≡ White.folded_line bytes.now }
-    ensures shorter { IfSome result (λ r. length r.now < length bytes.now) }
+    ensures { Skips.Passes White.folded_line bytes.now result }
 {
     blanks(line_end(bytes)?)
 }
@@ -45,8 +42,7 @@ fn folded_line(bytes: &[u8]) -> Option<&[u8]>
 // All folded lines that are there.
 #[tactic(auto, using(crate::proofs::Many::many_step, crate::proofs::Many::many_end, crate::proofs::lemmas::Ends::folded_ends))]
 fn folded_lines(bytes: &[u8]) -> &[u8]
-    ensures skips { result.now ≡ Skips.many White.folded_line bytes.now }
-    ensures not_longer { length result.now ≤ length bytes.now }
+    ensures { Skips.IsRest (Skips.many White.folded_line bytes.now) bytes.now result.now }
 {
     let mut rest = bytes;
     while let Some(after) = folded_line(rest) {
@@ -58,8 +54,7 @@ fn folded_lines(bytes: &[u8]) -> &[u8]
 // Blanks and folded lines, where each line end after them is one of a folded line.
 #[tactic(auto, unfolding(crate::specs::WhiteSpace::folded_blanks, crate::specs::WhiteSpace::unless_line_end))]
 fn folded_blanks(bytes: &[u8]) -> Option<&[u8]>
-    ensures skips { option_map (λ r. r.now) result ≡ White.folded_blanks bytes.now }
-    ensures shorter { IfSome result (λ r. length r.now < length bytes.now) }
+    ensures { Skips.Passes White.folded_blanks bytes.now result }
 {
     let rest = folded_lines(blanks(bytes)?);
     if line_end(rest).is_some() {

@@ -1,12 +1,11 @@
 -- What stands before the day.
-use Rattle.std.proofs.Common.{◌≡◌, ◌≤◌, ◌+◌, ◌∙◌, ℕ, List, [], ◌∷◌, length, get_or, drop, eqb, leb, Option, Some, None, Ok, refl, ap, arith, lit<, ◌<◌}
+use Rattle.std.proofs.Common.{◌≡◌, ◌≤◌, ◌+◌, ◌∙◌, ℕ, List, [], ◌∷◌, length, get_or, drop, eqb, leb, Option, Some, None, refl, ap, arith, lit<, ◌<◌}
 use Rattle.std.specs.Prelude.{true, false}
 use Rattle.std.specs.Char.{is_ascii_digit, to_ascii_lowercase}
 use Rattle.std.proofs.lemmas.Bool.Decides.{nat_tests}
 use Rattle.std.proofs.lemmas.List.{drop-drop, get_or-drop, length-drop, take_rest}
 use Rattle.std.proofs.lemmas.List.Sums.{prefix_len_passes, prefix_len-le-length}
-use Rattle.calendar_count.specs.declared.weekday.Weekday.{Weekday}
-use Rattle.parsing_combinator.specs.Pieces.{digits, byte}
+use Rattle.parsing_combinator.specs.Pieces.{digits}
 use Rattle.parsing_combinator.specs.Places.{HasDigit}
 use Rattle.parsing_combinator.proofs.Decimal.{digit_here}
 use Rattle.parsing_combinator.proofs.FractionDigits.{digits_read}
@@ -39,18 +38,15 @@ space_after text place room is next =
     let e = one_space_there (drop place text) (omega (arith, length-drop place text)) (first_at text place ∙ is) (omega (arith, get_or-drop place text 1 0)) in
     e ∙ ap (λ (t : List ℕ). Some t) (take_rest (drop place text) 1 ∙ drop-drop 1 place text)
 
-day_reads : (b0 b3 b4 b5 b6 : List ℕ) (w : Weekday) (d : ℕ) → comments_and_white_space b0 ≡ None → weekday b0 ≡ Some (w, b3) → byte comma b3 ≡ Some (tt, b4) → comments_and_white_space b4 ≡ Some b5 → one_or_two_digits b5 ≡ Some (d, b6) → day false b0 ≡ Ok ((Some w, d), b6)
-unfolding day optional_weekday named_day
-day_reads b0 b3 b4 b5 b6 w d e0 e1 e2 e3 e4 = rw (e0, e1, e2, e3, e4) refl
-
 -- a day begins after a weekday and what is skipped before a digit
 begins_by : (input : List ℕ) (n : ℕ) → 6 ≤ length input → HasWeekday input → (HasDigit (drop n input) 0 → comments_and_white_space (drop 4 input) ≡ Some (drop n input)) → BeginsDay input (drop n input)
+unfolding day optional_weekday named_day
 begins_by input n long w skipped =
     record {
       weekday_is = Some w.weekday_is;
       reads = λ number rest e.
           let none = none_there input (omega arith) (omega (arith, w.letter)) in
-          day_reads input (drop 3 input) (drop 4 input) (drop n input) rest w.weekday_is number none w.named (byte_there input 3 comma (omega arith) w.comma_there) (skipped (day_begins (drop n input) rest number e)) e;
+          rw (none, w.named, byte_there input 3 comma (omega arith) w.comma_there, skipped (day_begins (drop n input) rest number e), e) refl;
     }
 
 -- .. after one space
@@ -76,21 +72,16 @@ no_name c d e le =
 -- no weekday begins with a digit
 no_weekday : (bytes : List ℕ) → get_or bytes 0 0 ≤ 57 → weekday bytes ≡ None
 unfolding weekday
-no_weekday [] le = refl
-no_weekday (c ∷ []) le = refl
-no_weekday (c ∷ d ∷ []) le = refl
 no_weekday (c ∷ d ∷ e ∷ rest) le =
     let long : leb 3 (length (c ∷ d ∷ e ∷ rest)) ≡ true = grind (arith, nat_tests) in
     rw (long, no_name c d e le) refl
-
-day_alone : (b0 b1 : List ℕ) (d : ℕ) → comments_and_white_space b0 ≡ None → weekday b0 ≡ None → one_or_two_digits b0 ≡ Some (d, b1) → day false b0 ≡ Ok ((None, d), b1)
-unfolding day optional_weekday
-day_alone b0 b1 d e0 e1 e2 = rw (e0, e1, e2) refl
+no_weekday bytes le = refl
 
 -- a day begins where nothing stands before it
 pub begins_alone : (input : List ℕ) → 1 ≤ length input → BeginsDay input input
+unfolding day optional_weekday
 begins_alone input long =
     record {
       weekday_is = None;
-      reads = λ number rest e. let h = day_begins input rest number e in day_alone input rest number (none_there input long (omega (arith, h.low))) (no_weekday input h.high) e;
+      reads = λ number rest e. let h = day_begins input rest number e in rw (none_there input long (omega (arith, h.low)), no_weekday input h.high, e) refl;
     }

@@ -10,14 +10,12 @@ use Rattle.base.specs.Bytes.{space, colon, hyphen, plus}
 use Rattle.calendar.specs.Time.{time_of}
 use Rattle.calendar_count.specs.Month.{month_number}
 use Rattle.calendar_count.specs.declared.month.Month.{Month}
-use Rattle.calendar_count.specs.declared.weekday.Weekday.{Weekday}
-use Rattle.datetime_wall.specs.Wall.{wall_clock}
 use Rattle.parsing_combinator.specs.Pieces.{digits, byte, byte_of, any_byte, skip_of, sign}
 use Rattle.parsing_combinator.specs.declared.zone.Zone.{Zone}
 use Rattle.parsing_combinator.proofs.AtPlaces.{at_least}
 use Rattle.parsing_combinator.proofs.Fixed.{some_if, digits_two, digits_four}
 use Rattle.parsing_combinator.proofs.FractionDigits.{digits_read}
-use Rattle.parsing_values.specs.Resolution.{date_of, permitted_time_of, signed_offset_of}
+use Rattle.parsing_values.specs.Resolution.{permitted_time_of, signed_offset_of}
 use Rattle.parsing_values.specs.StandIn.{leap_checked}
 use Rattle.parsing_values.specs.declared.fields.Fields.{Fields}
 use Rattle.parsing_values.specs.Moment as Moment
@@ -35,7 +33,7 @@ use Rattle.parsing_rfc2822.specs.Skips.{rest_or, optional, byte_where}
 use Rattle.parsing_rfc2822.specs.WhiteSpace.{comments_and_white_space, folding_white_space}
 use Rattle.parsing_rfc2822.proofs.WhiteSpaceLemmas.{none_at, none_of_nothing, none_there, one_space_there, folding_space_there}
 use Rattle.parsing_rfc2822.specs.Names.{month, zone_of, zone_name}
-use Rattle.parsing_rfc2822.specs.Reading.{spaced_colon, one_or_two_digits, day, full_year, short_year, year, month_and_year, hour_and_minute, due_second, second, clock, signed_zone, named_zone, zone, spaced_zone, rfc2822}
+use Rattle.parsing_rfc2822.specs.Reading.{spaced_colon, one_or_two_digits, full_year, short_year, year, month_and_year, hour_and_minute, due_second, second, clock, signed_zone, named_zone, zone, spaced_zone, rfc2822}
 use Rattle.parsing_rfc2822.specs.declared.parts.Rfc2822Parts.{Rfc2822Parts}
 use Rattle.parsing_rfc2822.specs.Direct.{direct, moment, moment_of}
 use Rattle.parsing_rfc2822_shapes.specs.Layout.{name_parts, month_parts, short_month_parts, minute_parts, second_parts, offset_parts, minute_zone_parts, usual_parts, short_from_day, HasZone, SaysDate, SaysFields}
@@ -75,8 +73,7 @@ colon_read bytes rest e b =
 
 none_two : (a b : Bool) (n : ℕ) (rest : List ℕ) → some_if (a && (b && false)) n rest ≡ None
 none_two true true n rest = refl
-none_two true false n rest = refl
-none_two false b n rest = refl
+none_two a b n rest = refl
 
 day_read : (count : ℕ) (bytes rest after : List ℕ) (n : ℕ) → (count ≡ 1) ⊎ (count ≡ 2) → digits count bytes ≡ Some (n, rest) → byte space rest ≡ Some (tt, after) → one_or_two_digits bytes ≡ Some (n, rest)
 unfolding one_or_two_digits
@@ -93,10 +90,6 @@ any_is : (bytes rest : List ℕ) → any_byte bytes ≡ Some (tt, rest) → byte
 unfolding skip_of
 any_is [] rest e = absurd cc
 any_is (x ∷ xs) rest e = ap (λ (t : List ℕ). x ∷ t) (ap (λ (z : Unit {0} × List ℕ). z.1) (inside (tt, xs) (tt, rest) e))
-
-month_reads : (b0 b1 b2 b3 b4 b5 : List ℕ) (m : Month) (y : ℕ) → comments_and_white_space b0 ≡ Some b1 → month b1 ≡ Some (m, b2) → comments_and_white_space b2 ≡ Some b3 → digits 4 b3 ≡ Some (y, b4) → leb 1900 y ≡ true → folding_white_space b4 ≡ Some b5 → month_and_year b0 ≡ Ok ((m, y), b5)
-unfolding month_and_year year full_year
-month_reads b0 b1 b2 b3 b4 b5 m y e0 e1 e2 e3 e4 e5 = rw (e0, e1, e2, e3, e4, e5) refl
 
 -- the name of a month is read between spaces
 record ReadsName (bytes rest : List ℕ) (m : Month) : Type 0 where
@@ -130,17 +123,13 @@ name_read bytes rest v number m says =
     }
 
 month_read : (bytes rest : List ℕ) (v : Values) (number : ℕ) (m : HasMonth bytes number) → Says month_parts bytes v rest → 1900 ≤ v field.Year → Begins rest → month_and_year bytes ≡ Ok ((m.month_is, v field.Year), rest)
+unfolding month_and_year year full_year
 month_read bytes rest v number m says enough ends =
     let s = says_first name_parts (part.Digits field.Year 4 ∷ part.Byte space ∷ []) bytes rest v says in
     let n = name_read bytes s.0 v number m s.1 in
     let written = s.2 in
     let last = written.2 in
-    month_reads bytes n.first n.second s.0 written.0 rest m.month_is (v field.Year) n.before n.named (space_read n.second s.0 n.space_there (of_digits 4 s.0 written.0 (v field.Year) (lit< tt) written.1)) written.1 (at_least 1900 (v field.Year) enough)
-    (folding_read written.0 rest (rw last.2 at (literal_said _ _ last.1)) ends)
-
-short_month_reads : (b0 b1 b2 b3 b4 b5 : List ℕ) (m : Month) (y : ℕ) → comments_and_white_space b0 ≡ Some b1 → month b1 ≡ Some (m, b2) → comments_and_white_space b2 ≡ Some b3 → digits 4 b3 ≡ None → digits 2 b3 ≡ Some (y, b4) → comments_and_white_space b4 ≡ Some b5 → month_and_year b0 ≡ Ok ((m, if nat_lt y 50 then y + 2000 else y + 1900), b5)
-unfolding month_and_year year short_year
-short_month_reads b0 b1 b2 b3 b4 b5 m y e0 e1 e2 e3 e4 e5 = rw (e0, e1, e2, e3, e4, e5) refl
+    rw (n.before, n.named, space_read n.second s.0 n.space_there (of_digits 4 s.0 written.0 (v field.Year) (lit< tt) written.1), written.1, at_least 1900 (v field.Year) enough, folding_read written.0 rest (rw last.2 at (literal_said _ _ last.1)) ends) refl
 
 no_four : (bytes after rest : List ℕ) (n : ℕ) → digits 2 bytes ≡ Some (n, after) → byte space after ≡ Some (tt, rest) → digits 4 bytes ≡ None
 no_four bytes after rest n e s =
@@ -148,6 +137,7 @@ no_four bytes after rest n e s =
     digits_four bytes ∙ rw (e, two) refl
 
 short_month_read : (bytes rest after : List ℕ) (v : Values) (number y : ℕ) (m : HasMonth bytes number) → Says short_month_parts bytes v rest → digits 2 (drop 5 bytes) ≡ Some (y, after) → Begins rest → month_and_year bytes ≡ Ok ((m.month_is, if nat_lt y 50 then y + 2000 else y + 1900), rest)
+unfolding month_and_year year short_year
 short_month_read bytes rest after v number y m says two ends =
     let s = says_first name_parts (part.Any ∷ part.Any ∷ part.Byte space ∷ []) bytes rest v says in
     let n = name_read bytes s.0 v number m s.1 in
@@ -158,7 +148,7 @@ short_month_read bytes rest after v number y m says two ends =
     let same : after ≡ next.0 = sym (digits_read 2 s.0 y after here).after ∙ ap (drop 2) bytes_are in
     let pair : digits 2 s.0 ≡ Some (y, next.0) = rw same at here in
     let space_there : byte space next.0 ≡ Some (tt, rest) = rw last.2 at (literal_said _ _ last.1) in
-    short_month_reads bytes n.first n.second s.0 next.0 rest m.month_is y n.before n.named (space_read n.second s.0 n.space_there (of_digits 2 s.0 next.0 y (lit< tt) pair)) (no_four s.0 next.0 rest y pair space_there) pair (space_read next.0 rest space_there ends)
+    rw (n.before, n.named, space_read n.second s.0 n.space_there (of_digits 2 s.0 next.0 y (lit< tt) pair), no_four s.0 next.0 rest y pair space_there, pair, space_read next.0 rest space_there ends) refl
 
 -- ---- the time of day and the zone
 
@@ -192,18 +182,15 @@ zone_after b0 b1 b2 z e f g = rw (e, f, g) refl
 abbrev in_digits : ℕ → ℕ → ℕ → Zone
 in_digits mark hours minutes = record { is_named = false; is_negative = mark == hyphen; hours = hours; minutes = minutes }
 
-signed_read : (b0 b1 b2 b3 : List ℕ) (mark hours minutes : ℕ) → sign b0 ≡ Some (mark, b1) → digits 2 b1 ≡ Some (hours, b2) → digits 2 b2 ≡ Some (minutes, b3) → zone false b0 ≡ Ok (in_digits mark hours minutes, b3)
-unfolding zone signed_zone
-signed_read b0 b1 b2 b3 mark hours minutes e f g = rw (e, f, g) refl
-
 offset_read : (bytes rest : List ℕ) (v : Values) → Says offset_parts bytes v rest → optional comments_and_white_space rest ≡ [] → spaced_zone false bytes ≡ Ok (in_digits (v field.Sign) (v field.OffsetHour) (v field.OffsetMinute), [])
+unfolding zone signed_zone
 offset_read bytes rest v says ends =
     let mark = says.2 in
     let hour = mark.2 in
     let minute = hour.2 in
     let z = in_digits (v field.Sign) (v field.OffsetHour) (v field.OffsetMinute) in
     zone_after bytes says.0 rest z (space_read bytes says.0 (literal_said _ _ says.1) (of_sign says.0 mark.0 (v field.Sign) mark.1))
-    (signed_read says.0 mark.0 hour.0 rest (v field.Sign) (v field.OffsetHour) (v field.OffsetMinute) mark.1 hour.1 (rw minute.2 at minute.1)) ends
+    (rw (mark.1, hour.1, minute.1, minute.2) refl) ends
 
 abbrev by_name : ℕ → Zone
 by_name hours = record { is_named = true; is_negative = true; hours = hours; minutes = 0 }
@@ -217,13 +204,9 @@ letters_read c d e hours high is =
 
 -- a zone of three letters
 pub name_there : (bytes : List ℕ) (hours : ℕ) → length bytes ≡ 4 → get_or bytes 0 0 ≡ space → 65 ≤ get_or bytes 1 0 → zone_of (drop 1 bytes) ≡ Some hours → spaced_zone false bytes ≡ Ok (by_name hours, [])
-name_there [] hours long before high is = absurd (omega arith)
-name_there (a ∷ []) hours long before high is = absurd (omega arith)
-name_there (a ∷ c ∷ []) hours long before high is = absurd (omega arith)
-name_there (a ∷ c ∷ d ∷ []) hours long before high is = absurd (omega arith)
 name_there (a ∷ c ∷ d ∷ e ∷ []) hours long before high is =
     zone_after (a ∷ c ∷ d ∷ e ∷ []) (c ∷ d ∷ e ∷ []) [] (by_name hours) (one_space_there (a ∷ c ∷ d ∷ e ∷ []) (omega arith) before (omega (arith, high)) ∙ ap (λ (t : List ℕ). Some t) (take_rest (a ∷ c ∷ d ∷ e ∷ []) 1)) (letters_read c d e hours high is) (rw none_of_nothing refl)
-name_there (a ∷ c ∷ d ∷ e ∷ g ∷ rest) hours long before high is = absurd (omega arith)
+name_there bytes hours long before high is = absurd (omega arith)
 
 second_time : (bytes rest : List ℕ) (v : Values) (z : Zone) (minutes : ℤ) → Says second_parts bytes v rest → spaced_zone false rest ≡ Ok (z, []) → signed_offset_of z.is_negative z.hours z.minutes ≡ Ok (pos 60 *ℤ minutes) → ReadsTime bytes v (v field.Second) minutes
 second_time bytes rest v z minutes says in_zone is =
@@ -271,19 +254,11 @@ no_leap : (hour minute second nanosecond time : ℕ) → time_of hour minute sec
 unfolding time_of
 no_leap hour minute second nanosecond time e = grind (arith, nat_tests)
 
-all_read : (b0 b1 b2 b3 : List ℕ) (d : Option Weekday × ℕ) (m : Month × ℕ) (t : ℕ × ℕ × Option ℕ) (z : Zone) → day false b0 ≡ Ok (d, b1) → month_and_year b1 ≡ Ok (m, b2) → clock false b2 ≡ Ok (t, b3) → spaced_zone false b3 ≡ Ok (z, [])
-    → rfc2822 false b0 ≡ Ok (record { weekday = d.0; day = d.1; month = m.0; year = m.1; hour = t.0; minute = t.1; second = t.2; zone = z }, [])
-unfolding rfc2822
-all_read b0 b1 b2 b3 d m t z e0 e1 e2 e3 = rw (e0, e1, e2, e3) refl
-
-all_resolved : (b0 : List ℕ) (w : Rfc2822Parts) (o : ℤ) (date second time : ℕ) → rfc2822 false b0 ≡ Ok (w, []) → unwrap_or w.second 0 ≡ second → date_of (pos w.year) (month_number w.month) w.day ≡ Ok date → time_of w.hour w.minute second 0 ≡ Ok time → signed_offset_of w.zone.is_negative w.zone.hours w.zone.minutes ≡ Ok o → direct b0 ≡ Ok (record { wall = wall_clock date time; offset = o })
-unfolding direct moment moment_of permitted_time_of leap_checked
-all_resolved b0 w o date second time read in_second in_day in_time in_zone = rw (read, in_day, in_second, no_leap w.hour w.minute second 0 time in_time, in_time, in_zone) refl
-
 -- the moment of fields that have the numbers of the parts
 parts_read : (f : Fields) (input : List ℕ) (w : Rfc2822Parts) (o : ℤ) → rfc2822 false input ≡ Ok (w, []) → signed_offset_of w.zone.is_negative w.zone.hours w.zone.minutes ≡ Ok (pos 60 *ℤ o) → HaveNumbers f w.year (month_number w.month) w.day (w.hour * 60 + w.minute) (unwrap_or w.second 0) 0 o → w.hour ≤ 23 → w.minute ≤ 59 → direct input ≡ Ok (Moment.moment_of f)
+unfolding direct moment moment_of permitted_time_of leap_checked
 parts_read f input w o read in_zone have low small =
-    rw (← moment_is f, have.same_offset) (all_resolved input w (pos 60 *ℤ o) (day_of_fields f) (unwrap_or w.second 0) (time_of_fields f) read refl (fields_date f _ _ _ _ _ _ _ have) (fields_time f _ _ _ _ _ _ _ _ have low small (lit< tt)) in_zone)
+    rw (← moment_is f, have.same_offset) (let in_time = fields_time f _ _ _ _ _ _ _ _ have low small (lit< tt) in rw (read, fields_date f _ _ _ _ _ _ _ have, no_leap w.hour w.minute (unwrap_or w.second 0) 0 (time_of_fields f) in_time, in_time, in_zone) refl)
 
 pub not_before : (before : Bool) (year first : ℕ) → (IsTrue before → year < first) × (year < first → IsTrue before) → before ≡ false → first ≡ 1900 → 1900 ≤ year
 not_before before year first tells not is =
@@ -292,8 +267,9 @@ not_before before year first tells not is =
 -- that of fields with the numbers of what is read in turn
 date_read : (f : Fields) (text b1 b2 : List ℕ) (v : Values) (year number second : ℕ) (m : Month) → one_or_two_digits text ≡ Some (v field.Day, b1) → month_and_year b1 ≡ Ok ((m, year), b2) → month_number m ≡ number → ReadsTime b2 v second f.offset
     → HaveNumbers f year number (v field.Day) (v field.Hour * 60 + v field.Minute) second 0 f.offset → v field.Hour ≤ 23 → v field.Minute ≤ 59 → SaysFields text f
+unfolding rfc2822
 date_read f text b1 b2 v year number second m in_day in_month is t numbers low small = λ input begins.
-    let read = all_read input b1 b2 t.after (begins.weekday_is, v field.Day) (m, year) (v field.Hour, v field.Minute, t.second_is) t.zone_is (begins.reads (v field.Day) b1 in_day) in_month t.in_clock t.in_zone in
+    let read : rfc2822 false input ≡ Ok (record { weekday = begins.weekday_is; day = v field.Day; month = m; year = year; hour = v field.Hour; minute = v field.Minute; second = t.second_is; zone = t.zone_is }, []) = rw (begins.reads (v field.Day) b1 in_day, in_month, t.in_clock, t.in_zone) refl in
     parts_read f input _ f.offset read t.minutes_are (rw (← is, ← t.second_or) at numbers) low small
 
 -- .. of a date and of a time after it

@@ -16,8 +16,8 @@ ghost use Rattle.parsing_rfc2822_shapes.specs.Layout.{from_day, short_from_day};
 
 use crate::letters::{has_weekday, month_number};
 use crate::shape::{
-    ONE_DIGIT_SHORT_YEAR, ONE_DIGIT_USUAL, ONE_DIGIT_WITH_NAME, ONE_DIGIT_WITHOUT_SECOND,
-    TWO_DIGITS_SHORT_YEAR, TWO_DIGITS_USUAL, TWO_DIGITS_WITH_NAME, TWO_DIGITS_WITHOUT_SECOND,
+    ONE_DIGIT_NAMED, ONE_DIGIT_SHORT_YEAR, ONE_DIGIT_USUAL, ONE_DIGIT_WITHOUT_SECOND,
+    TWO_DIGITS_NAMED, TWO_DIGITS_SHORT_YEAR, TWO_DIGITS_USUAL, TWO_DIGITS_WITHOUT_SECOND,
 };
 use parsing_combinator::two_digits as digit_pair;
 use parsing_rfc2822::{is_plain_comment, past_spacing, zone_of};
@@ -120,21 +120,6 @@ fn with_name(mut fields: Fields, end: &[u8]) -> Option<Fields>
     Some(fields)
 }
 
-// The fields of a text that begins with its day and ends with a zone's name, with single spaces.
-#[inline(always)]
-fn read_with_name(text: &[u8]) -> Option<Fields>
-    requires low { 23 ≤ length text.now }
-    requires high { length text.now ≤ 24 }
-    ensures { IfSome result (SaysFields text.now) }
-{
-    if text.len() == 23 {
-        let fields = read_shape(&ONE_DIGIT_WITH_NAME, 1, text)?;
-        return with_name(fields, &text[19..]);
-    }
-    let fields = read_shape(&TWO_DIGITS_WITH_NAME, 2, text)?;
-    with_name(fields, &text[20..])
-}
-
 // Fields at the full minute.
 #[inline(always)]
 fn at_minute(mut fields: Fields) -> Fields
@@ -143,21 +128,6 @@ fn at_minute(mut fields: Fields) -> Fields
 {
     fields.second = 0;
     fields
-}
-
-// The fields of a text that begins with its day and ends with an offset in digits, with single spaces and no second.
-#[inline(always)]
-fn read_without_second(text: &[u8]) -> Option<Fields>
-    requires low { 22 ≤ length text.now }
-    requires high { length text.now ≤ 23 }
-    ensures { IfSome result (SaysFields text.now) }
-{
-    if text.len() == 22 {
-        let fields = read_shape(&ONE_DIGIT_WITHOUT_SECOND, 1, text)?;
-        return Some(at_minute(fields));
-    }
-    let fields = read_shape(&TWO_DIGITS_WITHOUT_SECOND, 2, text)?;
-    Some(at_minute(fields))
 }
 
 // The year from 1950 to 2049 that two digits name.
@@ -194,34 +164,25 @@ fn read_short_shape(shape: &Shape, count: usize, text: &[u8]) -> Option<Fields>
     Some(date)
 }
 
-// The fields of a text that begins with its day and ends with an offset in digits, with single spaces and a year of two digits.
-#[inline(always)]
-fn read_short_year(text: &[u8]) -> Option<Fields>
-    requires low { 23 ≤ length text.now }
-    requires high { length text.now ≤ 24 }
-    ensures { IfSome result (SaysFields text.now) }
-{
-    if text.len() == 23 {
-        return read_short_shape(&ONE_DIGIT_SHORT_YEAR, 1, text);
-    }
-    read_short_shape(&TWO_DIGITS_SHORT_YEAR, 2, text)
-}
-
 // The fields of a text that begins with its day, by how many bytes it has. (The name of a zone ends with a letter.)
 #[inline(always)]
 fn read_from_day(text: &[u8]) -> Option<Fields>
     ensures { IfSome result (SaysFields text.now) }
 {
-    let fields = match text.len() {
-        25 | 26 => read_usual(text)?,
-        0..=21 => return None,
-        23 | 24 if text[text.len() - 1] > b'9' => read_with_name(text)?,
-        23 if text[1] == b' ' => read_short_year(text)?,
-        22 | 23 => read_without_second(text)?,
-        24 => read_short_year(text)?,
-        _ => read_spaced(text)?,
-    };
-    Some(fields)
+    match text.len() {
+        25 | 26 => read_usual(text),
+        0..=21 => None,
+        // with a zone's name
+        23 if text[22] > b'9' => with_name(read_shape(&ONE_DIGIT_NAMED, 1, text)?, &text[19..]),
+        24 if text[23] > b'9' => with_name(read_shape(&TWO_DIGITS_NAMED, 2, text)?, &text[20..]),
+        // with no second, or with a year of two digits
+        22 => Some(at_minute(read_shape(&ONE_DIGIT_WITHOUT_SECOND, 1, text)?)),
+        23 if text[1] == b' ' => read_short_shape(&ONE_DIGIT_SHORT_YEAR, 1, text),
+        23 => Some(at_minute(read_shape(&TWO_DIGITS_WITHOUT_SECOND, 2, text)?)),
+        24 => read_short_shape(&TWO_DIGITS_SHORT_YEAR, 2, text),
+        // with white space or comments after an offset
+        _ => read_spaced(text),
+    }
 }
 
 /// The fields of a text of another shape than the usual one: with a zone's name, two spaces after the comma, no seconds, a year

@@ -101,7 +101,7 @@ pub(crate) const ONE_DIGIT_USUAL: Shape = Shape {
 };
 
 /// The shape of `01 Jul 2003 10:52:37`, before a zone's name.
-pub(crate) const TWO_DIGITS_WITH_NAME: Shape = Shape {
+pub(crate) const TWO_DIGITS_NAMED: Shape = Shape {
     windows: Windows {
         prefix: TWO_DIGITS,
         back: CLOCK,
@@ -113,7 +113,7 @@ pub(crate) const TWO_DIGITS_WITH_NAME: Shape = Shape {
 };
 
 /// The shape of `1 Jul 2003 10:52:37`, before a zone's name.
-pub(crate) const ONE_DIGIT_WITH_NAME: Shape = Shape {
+pub(crate) const ONE_DIGIT_NAMED: Shape = Shape {
     windows: Windows {
         prefix: ONE_DIGIT,
         back: CLOCK,

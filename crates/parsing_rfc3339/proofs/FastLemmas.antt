@@ -10,7 +10,6 @@ use Rattle.parsing_combinator.specs.Pieces.{any_byte, digits}
 use Rattle.parsing_combinator.specs.declared.zone.Zone.{Zone}
 use Rattle.parsing_values.specs.Resolution.{date_of, permitted_time_of, signed_offset_of}
 use Rattle.parsing_values.specs.StandIn.{leap_checked}
-use Rattle.parsing_rfc3339.specs.declared.parts.Rfc3339Parts.{Rfc3339Parts}
 use Rattle.parsing_rfc3339.specs.Reading.{date, clock, subsecond, offset, rfc3339}
 use Rattle.parsing_rfc3339.specs.Direct.{direct, moment, moment_of}
 use Rattle.parsing_values.specs.declared.fields.Fields.{Fields}
@@ -19,26 +18,15 @@ use Rattle.parsing_values.specs.Moment.{day_of_fields, time_of_fields}
 use Rattle.parsing_values.specs.Numbers.{HaveNumbers}
 use Rattle.parsing_values.proofs.lemmas.Moments.{fields_date, fields_time, moment_is}
 
--- the numbers of the pieces
-abbrev numbers : ℕ × ℕ × ℕ → ℕ × ℕ × ℕ → Option ℕ → Zone → Rfc3339Parts
-numbers d t n z = record { year = d.0; month = d.1; day = d.2; hour = t.0; minute = t.1; second = t.2; subsecond = n; zone = z }
-
-all_read : (b0 b1 b2 b3 b4 : List ℕ) (d t : ℕ × ℕ × ℕ) (n : Option ℕ) (z : Zone) → date false b0 ≡ Ok (d, b1) → any_byte b1 ≡ Some (tt, b2) → clock false b2 ≡ Ok (t, b3) → subsecond b3 ≡ Ok (n, b4) → offset false b4 ≡ Ok (z, []) → rfc3339 false b0 ≡ Ok (numbers d t n z, [])
-unfolding rfc3339
-all_read b0 b1 b2 b3 b4 d t n z e0 e1 e2 e3 e4 = rw (e0, e1, e2, e3, e4)
-
 no_leap : (hour minute second nanosecond time : ℕ) → time_of hour minute second nanosecond ≡ Ok time → (second == 60) ≡ false
 unfolding time_of
 no_leap hour minute second nanosecond time e = grind (arith, nat_tests)
 
-all_resolved : (b0 : List ℕ) (w : Rfc3339Parts) (o : ℤ) (day time : ℕ) → rfc3339 false b0 ≡ Ok (w, []) → signed_offset_of w.zone.is_negative w.zone.hours w.zone.minutes ≡ Ok o → date_of (pos w.year) w.month w.day ≡ Ok day → time_of w.hour w.minute w.second (unwrap_or w.subsecond 0) ≡ Ok time → direct b0 ≡ Ok (record { wall = wall_clock day time; offset = o })
-unfolding direct moment moment_of permitted_time_of leap_checked
-all_resolved b0 w o day time read in_zone in_day in_time = rw (read, in_zone, in_day, no_leap w.hour w.minute w.second (unwrap_or w.subsecond 0) time in_time, in_time)
-
 -- what a function returns that reads the pieces one after another
 pub moment_read : (b0 b1 b2 b3 b4 : List ℕ) (d t : ℕ × ℕ × ℕ) (nanosecond : ℕ) (o : ℤ) (day time : ℕ) → date false b0 ≡ Ok (d, b1) → any_byte b1 ≡ Some (tt, b2) → clock false b2 ≡ Ok (t, b3) → ((n : Option ℕ) × (subsecond b3 ≡ Ok (n, b4)) × (unwrap_or n 0 ≡ nanosecond)) → ((z : Zone) × (offset false b4 ≡ Ok (z, [])) × (signed_offset_of z.is_negative z.hours z.minutes ≡ Ok o)) → date_of (pos d.0) d.1 d.2 ≡ Ok day → time_of t.0 t.1 t.2 nanosecond ≡ Ok time → direct b0 ≡ Ok (record { wall = wall_clock day time; offset = o })
+unfolding direct moment moment_of permitted_time_of leap_checked rfc3339
 moment_read b0 b1 b2 b3 b4 d t nanosecond o day time in_date between in_clock in_subsecond in_offset in_day in_time =
-    all_resolved b0 (numbers d t in_subsecond.0 in_offset.0) o day time (all_read b0 b1 b2 b3 b4 d t in_subsecond.0 in_offset.0 in_date between in_clock in_subsecond.1 in_offset.1) in_offset.2 in_day (rw in_subsecond.2 in_time)
+    rw (in_date, between, in_clock, in_subsecond.1, in_offset.1, in_offset.2, in_day, in_subsecond.2, no_leap t.0 t.1 t.2 nanosecond time in_time, in_time) refl
 
 -- the same of fields that have the numbers of the pieces
 pub fields_read : (f : Fields) (b0 b1 b2 b3 b4 : List ℕ) (d t : ℕ × ℕ × ℕ) (fraction : ℕ) (o : ℤ) → date false b0 ≡ Ok (d, b1) → any_byte b1 ≡ Some (tt, b2) → clock false b2 ≡ Ok (t, b3) → ((n : Option ℕ) × (subsecond b3 ≡ Ok (n, b4)) × (unwrap_or n 0 ≡ fraction)) → ((z : Zone) × (offset false b4 ≡ Ok (z, [])) × (signed_offset_of z.is_negative z.hours z.minutes ≡ Ok (pos 60 *ℤ o))) → HaveNumbers f d.0 d.1 d.2 (t.0 * 60 + t.1) t.2 fraction o → t.0 ≤ 23 → t.1 ≤ 59 → fraction < 1_000_000_000 → direct b0 ≡ Ok (Moment.moment_of f)

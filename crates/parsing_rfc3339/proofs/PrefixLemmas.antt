@@ -76,14 +76,6 @@ fraction_on a b lt =
 
 ruleset goes_on = (then_on, piece_on, require_on, skip_on, byte_on, digits_on)
 
-date_on : (is : Bool) (a b : List ℕ) → GoesOn b (date is a) (date is (a ++ b))
-unfolding date
-date_on is a b = search goes_on depth 20 fits 5000
-
-clock_on : (is : Bool) (a b : List ℕ) → GoesOn b (clock is a) (clock is (a ++ b))
-unfolding clock
-clock_on is a b = search goes_on depth 20 fits 5000
-
 signed_on : (is : Bool) (a b : List ℕ) → GoesOn b (signed_offset is a) (signed_offset is (a ++ b))
 unfolding signed_offset
 signed_on is a b = search goes_on depth 20 fits 5000
@@ -147,8 +139,8 @@ ending_on is make (x ∷ xs) b =
     ]
 
 rfc3339_on : (is : Bool) (a b : List ℕ) → GoesOn b (rfc3339 is a) (rfc3339 is (a ++ b))
-unfolding rfc3339
-rfc3339_on is a b = search (goes_on, date_on, clock_on, ending_on) depth 20 fits 5000
+unfolding rfc3339 date clock
+rfc3339_on is a b = search (goes_on, ending_on) depth 40 fits 50000
 
 -- so many bytes are read whole
 pub prefix_read : (is : Bool) (bytes : List ℕ) (n : ℕ) (w : Rfc3339Parts) → rfc3339 is (take n bytes) ≡ Ok (w, []) → rfc3339 is bytes ≡ Ok (w, drop n bytes)

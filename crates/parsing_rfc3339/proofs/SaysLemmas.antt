@@ -7,7 +7,7 @@ use Rattle.std.proofs.lemmas.Bool.{le-leb}
 use Rattle.std.proofs.lemmas.Bool.Decides.{nat_tests}
 use Rattle.base.specs.Bytes.{plus, hyphen, dot, upper_z, lower_z}
 use Rattle.parsing_combinator.specs.Fault.{Fault}
-use Rattle.parsing_combinator.specs.Pieces.{digits, byte, skip_of, fraction}
+use Rattle.parsing_combinator.specs.Pieces.{digits, byte, skip_of}
 use Rattle.parsing_combinator.specs.declared.zone.Zone.{Zone}
 use Rattle.parsing_values.specs.declared.fields.Fields.{Fields}
 use Rattle.parsing_values.specs.Moment as Moment
@@ -57,24 +57,17 @@ ReadsNanosecond bytes nanosecond rest = (read : Option ℕ) × (subsecond bytes 
 abbrev FollowsFraction : List ℕ → Type 0
 FollowsFraction bytes = (digits 1 bytes ≡ None) × (byte dot bytes ≡ None)
 
-no_fraction : (bytes : List ℕ) → FollowsFraction bytes → ReadsNanosecond bytes 0 bytes
-unfolding subsecond
-no_fraction bytes f = (None, rw f.1 refl, refl)
-
-point_read : (bytes rest after : List ℕ) (n : ℕ) → byte dot bytes ≡ Some (tt, rest) → fraction rest ≡ Some (n, after) → ReadsNanosecond bytes n after
-unfolding subsecond due_fraction
-point_read bytes rest after n there read = (Some n, rw (there, read) refl, refl)
-
 -- one digit at least follows a point
 some_digits : (count : ℕ) → (suc count ≡ 1 → ⊥) → 0 < count
 some_digits zero more = absurd (more refl)
 some_digits (suc count) more = omega arith
 
 subsecond_read : (bytes rest : List ℕ) (v : Values) (count : ℕ) → (count ≡ 1 → ⊥) → (count ≡ 0 → v field.Nanosecond ≡ 0) → Says (fraction_parts count) bytes v rest → FollowsFraction rest → ReadsNanosecond bytes (v field.Nanosecond) rest
-subsecond_read bytes rest v zero more none says follows = rw (says, none refl) (no_fraction rest follows)
+unfolding subsecond due_fraction
+subsecond_read bytes rest v zero more none says follows = rw (says, none refl) (None, rw follows.1 refl, refl)
 subsecond_read bytes rest v (suc count) more none says follows =
     let read = says.2 in
-    point_read bytes says.0 rest (v field.Nanosecond) (literal_said _ _ says.1) (fraction_read says.0 rest count (v field.Nanosecond) (some_digits count more) (rw read.2 at read.1) follows.0)
+    (Some (v field.Nanosecond), rw (literal_said _ _ says.1, fraction_read says.0 rest count (v field.Nanosecond) (some_digits count more) (rw read.2 at read.1) follows.0) refl, refl)
 
 -- ---- the offset
 

@@ -1,8 +1,7 @@
 -- What no digit begins.
-use Rattle.std.proofs.Common.{◌≡◌, ◌&&◌, ◌==◌, ◌||◌, ℕ, Bool, true, false, List, [], ◌∷◌, ◌∙◌, get_or, None, refl, arith}
+use Rattle.std.proofs.Common.{◌≡◌, ◌&&◌, ℕ, Bool, true, false, List, [], ◌∷◌, ◌∙◌, get_or, None, refl, arith}
 use Rattle.std.specs.Char.{is_ascii_digit}
 use Rattle.std.proofs.lemmas.Bool.Decides.{nat_tests}
-use Rattle.base.specs.Bytes.{plus, hyphen}
 use Rattle.parsing_combinator.specs.Pieces.{digits}
 use Rattle.parsing_combinator.proofs.Fixed.{some_if, digits_one}
 use Rattle.parsing_layout.specs.Layout.{Values, Says}
@@ -20,17 +19,12 @@ no_number false p number rest e = refl
 pub none_at : (bytes : List ℕ) → is_ascii_digit (get_or bytes 0 0) ≡ false → digits 1 bytes ≡ None
 none_at bytes e = digits_one bytes ∙ no_number _ _ _ _ e
 
-no_digit : (c : ℕ) (rest : List ℕ) → is_ascii_digit c ≡ false → digits 1 (c ∷ rest) ≡ None
-no_digit c rest e = none_at (c ∷ rest) e
-
-no_sign_digit : (c : ℕ) → ((c == plus) || (c == hyphen)) ≡ true → is_ascii_digit c ≡ false
-no_sign_digit c e = grind (arith, nat_tests, e)
-
 pub none_first : (ps : List Part) (bytes rest : List ℕ) (v : Values) → begins_apart ps ≡ true → Says ps bytes v rest → (ps ≡ [] → digits 1 bytes ≡ None) → digits 1 bytes ≡ None
 none_first [] bytes rest v e says none = none refl
 none_first (part.Byte c ∷ ps) bytes rest v e says none =
-    rw (byte_is c bytes says.0 (literal_said _ _ says.1)) (no_digit c says.0 (is_not (is_ascii_digit c) e))
+    rw (byte_is c bytes says.0 (literal_said _ _ says.1)) (none_at (c ∷ says.0) (is_not (is_ascii_digit c) e))
 none_first (part.Sign ∷ ps) bytes rest v e says none =
     let s = sign_is bytes says.0 (v field.Sign) says.1 in
-    rw s.all (no_digit (v field.Sign) says.0 (no_sign_digit (v field.Sign) s.is))
+    let sign = s.is in
+    rw s.all (none_at (v field.Sign ∷ says.0) (grind (arith, nat_tests, sign)))
 none_first (p ∷ ps) bytes rest v e says none = absurd cc

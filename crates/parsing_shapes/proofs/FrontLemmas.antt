@@ -1,8 +1,7 @@
 -- What lanes take of a text's front, and what is read beside them, the text says.
-use Rattle.std.proofs.Common.{◌≡◌, ◌≤◌, ◌<◌, ◌+◌, ◌-◌, ◌*◌, ◌/◌, ◌%◌, ◌∙◌, ◌&&◌, ◌==◌, ℕ, Bool, true, false, List, ◌∷◌, get_or, length, drop, Option, Some, None, refl, sym, ap, arith, lit<, leb, inl, inr, bit_and}
+use Rattle.std.proofs.Common.{◌≡◌, ◌≤◌, ◌<◌, ◌+◌, ◌-◌, ◌*◌, ◌/◌, ◌%◌, ◌∙◌, ◌&&◌, ◌==◌, ℕ, Bool, true, false, List, get_or, length, drop, Option, Some, None, refl, sym, ap, arith, lit<, inl, inr, bit_and}
 use Rattle.std.specs.Prelude.{nat_le, is_some, ◌⊎◌}
 use Rattle.std.specs.Option.{ForSome}
-use Rattle.std.proofs.lemmas.Bool.Decides.{nat_tests}
 use Rattle.std.proofs.lemmas.Nat.{and_mask}
 use Rattle.parsing_combinator.specs.Pieces.{digits}
 use Rattle.parsing_combinator.proofs.AtPlaces.{byte_there, two_there}
@@ -58,14 +57,11 @@ module _ (s : Shape) (b : Beside) (text : List ℕ) (d m o t : ℕ) (x : AreSums
   abbrev pub values : Values
   values = front_values year month day weekday nanosecond x.n
 
-  low_is : d % 64 ≡ get_or x.n 0 0
-  low_is = omega (arith, x.days_are, x.few.month)
-
   high_is : d / 64 ≡ get_or x.n 2 0
   high_is = omega (arith, x.days_are, x.few.month)
 
   same_lanes : (g : Field) → is_beside b (Some g) ≡ false → lane_values year nanosecond x.n g ≡ values g
-  same_lanes field.Month e = sym (not_read b.month (part.Name names.ShortMonth true) text (d % 64) month e read.month_is ∙ low_is)
+  same_lanes field.Month e = sym (not_read b.month (part.Name names.ShortMonth true) text (d % 64) month e read.month_is ∙ omega (arith, x.days_are, x.few.month))
   same_lanes field.Day e = sym (not_read b.day (part.Spaced field.Day) text (d / 64) day e read.day_is ∙ high_is)
   same_lanes field.Weekday e = sym (not_read b.weekday (part.Name names.ShortWeekday true) text (d / 64) weekday e read.weekday_is ∙ high_is)
   same_lanes g e = refl
@@ -131,14 +127,11 @@ module _ (s : Shape) (b : Beside) (ready : is_ready s b ≡ true) where
   weekday_room place is = name_room b.weekday place rooms.1 is
 
   module _ (text : List ℕ) (d m o t : ℕ) (x : AreSums s text d m o t) (small : (k : ℕ) → get_or text k 0 < 256) (place : ℕ) (is : b.day ≡ Some place) where
-    day_taken : (spares_one s.windows 2 && (lets_at s.windows place 32 25 && takes_one s.windows 3 (place + 1) 9)) ≡ true
-    day_taken = let e = rooms.2 in rw is at e
-
     -- a space or a digit stands where a day does, and lanes take the digit after it
     pub spaced_there : HasSpaced text place × (d / 64 ≡ get_or text (place + 1) 0 - 48)
     spaced_there =
         let w = s.windows in
-        let a = both (spares_one w 2) (lets_at w place 32 25 && takes_one w 3 (place + 1) 9) day_taken in
+        let a = both (spares_one w 2) (lets_at w place 32 25 && takes_one w 3 (place + 1) 9) (let e = rooms.2 in rw is at e) in
         let e = both (lets_at w place 32 25) (takes_one w 3 (place + 1) 9) a.1 in
         let tens = byte_within w text x.front x.front_taken small place 32 25 e.0 (lit< tt) in
         let ones = one_taken w text x.front x.front_taken small x.n 1 (place + 1) (lit< tt) a.0 e.1 (paired_first (taker_of s) text x.front x.both x.n x.front_taken small x.own_lane x.paired 1 (lit< tt) refl) in

@@ -1,5 +1,5 @@
 -- A text that two windows and one over its end take says a layout, a fraction and a zone, and fields are those of its sums.
-use Rattle.std.proofs.Common.{◌≡◌, ◌≤◌, ◌<◌, ◌+◌, ◌-◌, ◌*◌, ◌%◌, ◌∙◌, ◌&&◌, ◌==◌, ℕ, Bool, true, false, not, List, [], ◌++◌, get_or, length, drop, Some, Ok, ℤ, pos, refl, sym, arith, lit<, lit≤, inl, inr}
+use Rattle.std.proofs.Common.{◌≡◌, ◌≤◌, ◌<◌, ◌+◌, ◌-◌, ◌*◌, ◌%◌, ◌∙◌, ◌==◌, ℕ, Bool, true, false, not, List, [], ◌++◌, get_or, length, drop, Some, Ok, ℤ, pos, refl, arith, lit<, lit≤, inl, inr}
 use Rattle.std.specs.Prelude.{◌⊎◌, ◌*ℤ◌, nat_eq, if◌then◌else◌}
 use Rattle.std.proofs.lemmas.Bool.{cases_lt}
 use Rattle.std.proofs.lemmas.Bool.Decides.{nat_tests}
@@ -53,6 +53,18 @@ signed_said n o t minutes few offsets seconds even value =
 pub few_from : (n : List ℕ) → (get_or n 0 0 ≤ 59) × (get_or n 2 0 ≤ 99) × (get_or n 6 0 ≤ 59) × (get_or n 14 0 ≤ 59) → (get_or n 8 0 ≤ 19) × (get_or n 10 0 ≤ 59) × (get_or n 12 0 ≤ 2) → AreFew n
 few_from n c o = record { month = c.0; day = c.1; minute = c.2; second = c.3; offset_hour = o.0; offset_minute = o.1; sign = o.2 }
 
+-- sums of numbers within the bounds of their lanes are in the ranges that these give
+pub range_of : (s : Shape) (text front n : List ℕ) (d o t : ℕ) → Taken s.windows text front → ((k : ℕ) → get_or text k 0 < 256) → s.length ≤ length text → AreFew n → d < 16_384 → o ≡ 60 * get_or n 8 0 + get_or n 10 0 → t ≡ get_or n 12 0 + 64 * get_or n 14 0 → AreInRange text s.year d o t
+range_of s text front n d o t taken small long few days offsets seconds =
+    let year = year_pairs s.windows text front s.length s.year taken small s.year_is long in
+    record {
+      century = year.0;
+      last_two = year.1;
+      days_few = days;
+      offsets_few = omega (arith, offsets, few.offset_hour, few.offset_minute);
+      seconds_few = omega (arith, seconds, few.sign, few.second);
+    }
+
 module _ (s : Shape) (w : Window) (text : List ℕ) (at d m o t : ℕ) (tail : s.has_tail ≡ true) (is_end : IsEnd w)
     (x : AreTaken s w text at d m o t) (small : (k : ℕ) → get_or text k 0 < 256) where
   pub end : Taken (alone w) (drop (at - 16) text) x.end
@@ -89,14 +101,7 @@ module _ (s : Shape) (w : Window) (text : List ℕ) (at d m o t : ℕ) (tail : s
   pub in_range : s.length ≤ length text → AreInRange text s.year d o t
   in_range long =
       let f = are_few in
-      let year = year_pairs s.windows text x.front s.length s.year x.front_taken small s.year_is long in
-      record {
-        century = year.0;
-        last_two = year.1;
-        days_few = omega (arith, x.days_are, f.month, f.day);
-        offsets_few = omega (arith, x.offsets_are, f.offset_hour, f.offset_minute);
-        seconds_few = omega (arith, x.seconds_are, f.sign, f.second);
-      }
+      range_of s text x.front x.n d o t x.front_taken small long f (omega (arith, x.days_are, f.month, f.day)) x.offsets_are x.seconds_are
 
 -- of a whole text
 

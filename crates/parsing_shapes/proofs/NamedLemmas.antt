@@ -1,5 +1,5 @@
 -- A text that two windows take says a layout, and fields are those of its sums and of a month.
-use Rattle.std.proofs.Common.{◌≡◌, ◌≤◌, ◌<◌, ◌+◌, ◌*◌, ◌%◌, ◌∙◌, ◌&&◌, ℕ, true, false, not, List, get_or, length, drop, refl, arith, lit<, lit≤}
+use Rattle.std.proofs.Common.{◌≡◌, ◌≤◌, ◌<◌, ◌+◌, ◌%◌, ◌∙◌, ℕ, true, false, List, get_or, length, drop, refl, arith, lit<}
 use Rattle.parsing_values.specs.Numbers.{HaveNumbers}
 use Rattle.parsing_values.specs.declared.fields.Fields.{Fields}
 use Rattle.parsing_places.specs.Windows.{Taken, spares_one, spares_two}
@@ -14,26 +14,13 @@ use Rattle.parsing_shapes.specs.Shape.{fits, lane_values, taker_of}
 use Rattle.parsing_shapes.specs.Sums.{AreFew, AreSums}
 use Rattle.parsing_shapes.specs.declared.numbers.Numbers.{Numbers}
 use Rattle.parsing_shapes.specs.declared.shape.Shape.{Shape}
-use Rattle.parsing_shapes.proofs.MomentLemmas.{few_from, signed_said}
+use Rattle.parsing_shapes.proofs.MomentLemmas.{range_of, few_from, signed_said}
 use Rattle.parsing_shapes.proofs.TakenLemmas.{SameLanes, bounds, clock_few, lanes_say, offset_few, paired_first}
-use Rattle.parsing_shapes.proofs.WindowLemmas.{year_pairs}
 
 pub whole_few : (s : Shape) (text v1 v n : List ℕ) → s.has_tail ≡ false → Taken s.windows text v1 → SameLanes (taker_of s) v v1 → Paired v n → ((k : ℕ) → get_or text k 0 < 256) → AreFew n
 whole_few s text v1 v n whole h same_two paired small =
     few_from n (clock_few (taker_of s) text v1 v n h small same_two paired s.has_tail refl s.bounded)
     (offset_few (taker_of s) text v1 v n h small same_two paired s.has_tail (rw whole refl) (bounds s.windows s.has_tail s.bounded).4)
-
--- sums are in the ranges of what lanes give
-pub sums_in_range : (s : Shape) (text : List ℕ) (d m o t : ℕ) → AreSums s text d m o t → ((k : ℕ) → get_or text k 0 < 256) → s.length ≤ length text → (more : ℕ) → more + d < 16_384 → AreInRange text s.year (d + more) o t
-sums_in_range s text d m o t x small long more few =
-    let year = year_pairs s.windows text x.front s.length s.year x.front_taken small s.year_is long in
-    record {
-      century = year.0;
-      last_two = year.1;
-      days_few = omega (arith, few);
-      offsets_few = omega (arith, x.offsets_are, x.few.offset_hour, x.few.offset_minute);
-      seconds_few = omega (arith, x.seconds_are, x.few.sign, x.few.second);
-    }
 
 module _ (s : Shape) (text : List ℕ) (d m o t month : ℕ) (x : AreSums s text d m o t) (whole : s.has_tail ≡ false) (spared : spares_two s.windows 0 ≡ true) (small : (k : ℕ) → get_or text k 0 < 256) (long : s.length ≤ length text) (known : month ≤ 12) where
   -- the lanes of a month have none
@@ -43,7 +30,7 @@ module _ (s : Shape) (text : List ℕ) (d m o t month : ℕ) (x : AreSums s text
       nothing_taken s.windows text x.front x.front_taken small x.n 0 (lit< tt) b.0 b.1 (paired_first (taker_of s) text x.front x.both x.n x.front_taken small x.own_lane x.paired 0 (lit< tt) refl)
 
   pub in_range : AreInRange text s.year (d + month) o t
-  in_range = sums_in_range s text d m o t x small long month (omega (arith, x.days_are, no_month, x.few.day, known))
+  in_range = range_of s text x.front x.n (d + month) o t x.front_taken small long x.few (omega (arith, x.days_are, no_month, x.few.day, known)) x.offsets_are x.seconds_are
 
   -- the central lemma of texts without a tail
   pub named_said : (n : Numbers) (f : Fields) → AreOfSums n true text s.year (d + month) m o t 0 → HaveNumbers f n.year n.high n.low n.minute n.second n.fraction n.offset → (parts : List Part) → fits s parts ≡ true

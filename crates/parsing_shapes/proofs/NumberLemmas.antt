@@ -1,5 +1,5 @@
 -- What lanes take of a text, and of its end, as the numbers of what it says.
-use Rattle.std.proofs.Common.{◌≡◌, ◌≤◌, ◌<◌, ◌/◌, ◌∙◌, ◌==◌, ℕ, Bool, true, false, List, [], ◌++◌, drop, get_or, length, refl, sym, ap, arith}
+use Rattle.std.proofs.Common.{◌≡◌, ◌<◌, ◌-◌, ◌/◌, ◌∙◌, ◌==◌, ℕ, Bool, true, false, List, [], ◌++◌, drop, get_or, length, refl, sym, ap, arith}
 use Rattle.parsing_values.specs.Numbers.{HaveNumbers}
 use Rattle.parsing_values.specs.declared.fields.Fields.{Fields}
 use Rattle.parsing_places.specs.declared.lanes.Moves.{Moves}
@@ -14,8 +14,7 @@ use Rattle.parsing_shapes.specs.declared.numbers.Numbers.{Numbers}
 use Rattle.parsing_shapes.specs.declared.shape.Shape.{Shape}
 use Rattle.parsing_layout.proofs.LayoutLemmas.{says_both}
 use Rattle.parsing_shapes.proofs.MomentLemmas.{IsPlaced, are_few, values, front_said, end_said, offset_said}
-use Rattle.parsing_shapes.proofs.TailLemmas.{none_written}
-use Rattle.parsing_shapes.proofs.TailedLemmas.{Whole, whole_fits, whole_is_end, whole_spares}
+use Rattle.parsing_shapes.proofs.TailedLemmas.{Whole, ends, whole_is_end, whole_spares}
 use Rattle.parsing_layout.proofs.TestLemmas.{both, same}
 
 -- a shape is as long as its layout
@@ -28,7 +27,7 @@ module _ (s : Shape) (w : Window) (moves : Moves) (zone : List Part) (is_utc : B
   numbers_said has_second nanosecond bytes n front y fits_front p more short bound =
       let x = h.taken in
       let is_end = whole_is_end s w moves zone is_utc text digits d m o t at taken h in
-      let fits_end = whole_fits s w moves zone is_utc text digits d m o t at taken h in
+      let fits_end = (ends s w moves zone is_utc text digits d m o t at taken h).0 in
       let few = are_few s w text (length text) d m o t h.tail is_end x h.small in
       let long = long_as s front fits_front in
       let high : n.high ≡ get_or x.n 0 0 = y.high_is ∙ (omega (arith, x.days_are, few.month)) in
@@ -39,7 +38,7 @@ module _ (s : Shape) (w : Window) (moves : Moves) (zone : List Part) (is_utc : B
         front_says = rw long at (front_said s w text d m o t h.tail is_end x h.small n.year nanosecond bytes front zone y.year_is y.even fits_front fits_end h.sixteen p);
         end_says = rw long at (end_said s w text d m o t h.tail is_end x h.small n.year nanosecond bytes front zone y.year_is y.even fits_front fits_end h.sixteen p);
         more = more;
-        none = λ e. y.fraction_is ∙ none_written _ _ nanosecond (omega (arith, e)) p.written;
+        none = λ e. y.fraction_is ∙ p.written.value ∙ (let zero : bytes - 1 ≡ 0 = omega (arith, e) in rw zero refl);
         short = short;
         dated = record { year = refl; month = sym high; week = sym high; tens = sym high; day = sym low; weekday = sym low; ones = sym low };
         minutes_are = omega (arith, y.minute_is, x.minutes_are);

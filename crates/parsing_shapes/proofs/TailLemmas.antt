@@ -1,5 +1,5 @@
 -- What stands after the parts of a shape: a fraction, and what a window over the end of the text takes.
-use Rattle.std.proofs.Common.{◌≡◌, ◌≤◌, ◌<◌, ◌+◌, ◌-◌, ◌*◌, ◌%◌, ◌∙◌, ℕ, zero, suc, true, false, List, [], ◌∷◌, get_or, length, drop, Option, Some, None, refl, sym, ap, arith}
+use Rattle.std.proofs.Common.{◌≡◌, ◌≤◌, ◌<◌, ◌+◌, ◌-◌, ◌*◌, ◌%◌, ℕ, zero, suc, true, false, List, [], get_or, length, drop, Option, Some, None, refl, sym, ap, arith}
 use Rattle.std.specs.Prelude.{nat_le}
 use Rattle.std.proofs.lemmas.Bool.Decides.{nat_tests}
 use Rattle.std.proofs.lemmas.List.{drop-drop, get_or-drop, get_or-replicate, length-drop}
@@ -39,10 +39,6 @@ fraction_says text place end (suc count) nanosecond v is all room point w =
     let written : WriteFraction (drop (place + 1) text) count nanosecond = rw (one, from) at w in
     let rest : drop count (drop (place + 1) text) ≡ drop end text = rw to at (drop-drop count (place + 1) text) in
     (drop (place + 1) text, literal_there text place dot (room (omega arith)) (point (omega arith)), (drop end text, rw (← rest, is) (exact_there (drop (place + 1) text) count nanosecond written), refl))
-
--- no digits write 0
-pub none_written : (bytes : List ℕ) (count n : ℕ) → count ≡ 0 → WriteFraction bytes count n → n ≡ 0
-none_written bytes count n e w = w.value ∙ rw e refl
 
 pub is_some : (bytes : ℕ) → (bytes ≡ 1 → ⊥) → bytes ≤ 10 → is_fraction bytes ≡ true
 is_some bytes more few = grind (arith, nat_tests)

@@ -9,7 +9,7 @@ use Rattle.parsing_places.specs.Last.{HaveEnd, HaveFraction, with_moves}
 use Rattle.parsing_places.specs.Tail.{is_zulu}
 use Rattle.parsing_places.specs.Windows.{lets}
 use Rattle.parsing_places.specs.declared.ending.Ending.{Ending}
-use Rattle.parsing_places.specs.declared.ending.Ending.TheVariants.{Zulu, Colon, Plain}
+use Rattle.parsing_places.specs.declared.ending.Ending.TheVariants.{Zulu}
 use Rattle.parsing_places.specs.declared.lanes.Moves.{Moves}
 use Rattle.parsing_places.specs.declared.shape.Window.{Window}
 use Rattle.parsing_places.proofs.NumberLemmas.{digit_in, in_window}
@@ -18,7 +18,7 @@ use Rattle.parsing_layout.specs.declared.parts.Part.{Part}
 use Rattle.parsing_layout.proofs.TestLemmas.{at_most, both, one, less, same, when, otherwise}
 use Rattle.parsing_shapes.specs.End.{fits_end, is_end_bounded, spares_clock}
 use Rattle.parsing_shapes.specs.Moment.{AreTaken, AreInRange}
-use Rattle.parsing_shapes.specs.Tail.{IsEnd, ending_in, is_fraction, is_row, is_tail, offset_at, other_end, small_parts, takes_digit, takes_fraction, zone_parts}
+use Rattle.parsing_shapes.specs.Tail.{IsEnd, ending_in, is_fraction, is_tail, offset_at, other_end, small_parts, takes_digit, zone_parts}
 use Rattle.parsing_shapes.specs.declared.shape.Shape.{Shape}
 use Rattle.parsing_shapes.specs.declared.tail.Tail.{Tail}
 use Rattle.parsing_shapes.proofs.MomentLemmas.{IsPlaced, in_range}
@@ -26,8 +26,7 @@ use Rattle.parsing_shapes.proofs.MomentLemmas.{IsPlaced, in_range}
 -- an offset ends at the end of the window
 pub zone_length : (e : Ending) → length_of (zone_parts e) + offset_at e ≡ 16
 zone_length Zulu = refl
-zone_length Colon = refl
-zone_length Plain = refl
+zone_length e = refl
 
 -- ---- a text and its end
 
@@ -44,8 +43,7 @@ pub record Whole (s : Shape) (w : Window) (moves : Moves) (zone : List Part) (is
 -- a text that has a tail has a fraction of as many bytes as the tail has
 possible : (z fraction : Bool) (byte : ℕ) → z ≡ (byte == 90) → (fraction ≡ false → byte ≡ (if z then 48 else 90)) → fraction ≡ true
 possible z true byte zulu never = refl
-possible true false byte zulu never = absurd (grind (arith, nat_tests, zulu, never refl))
-possible false false byte zulu never = absurd (grind (arith, nat_tests, zulu, never refl))
+possible z false byte zulu never = absurd (grind (arith, nat_tests, zulu, never refl))
 
 end_small : (z : Bool) → (if z then 48 else 90) + 0 < 256
 end_small true = lit< tt
@@ -72,11 +70,8 @@ of_small s tail text digits d m o t tailed zulu ok x f small sixteen =
     record { tail = tailed; ok = ok; is_tail = rw zulu at e; taken = x; fraction_taken = f; small = small; sixteen = sixteen }
 
 module _ (s : Shape) (w : Window) (moves : Moves) (zone : List Part) (is_utc : Bool) (text digits : List ℕ) (d m o t at bytes : ℕ) (h : Whole s w moves zone is_utc text digits d m o t at bytes) where
-  ends : (fits_end w zone ≡ true) × ((spares_clock w && is_end_bounded w (not is_utc)) ≡ true)
+  pub ends : (fits_end w zone ≡ true) × ((spares_clock w && is_end_bounded w (not is_utc)) ≡ true)
   ends = both (fits_end w zone) (spares_clock w && is_end_bounded w (not is_utc)) (both _ _ h.is_tail).0
-
-  pub whole_fits : fits_end w zone ≡ true
-  whole_fits = ends.0
 
   pub whole_is_end : IsEnd w
   whole_is_end = let b = both (spares_clock w) (is_end_bounded w (not is_utc)) ends.1 in record { has_offset = not is_utc; clock = b.0; offset = b.1 }

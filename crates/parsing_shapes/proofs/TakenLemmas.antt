@@ -1,9 +1,8 @@
 -- What windows take of the parts of a layout, a text says.
-use Rattle.std.proofs.Common.{leb, ◌≡◌, ◌≤◌, ◌<◌, ◌+◌, ◌-◌, ◌*◌, ◌%◌, ◌&&◌, ◌==◌, ◌||◌, ℕ, Bool, true, false, List, [], ◌∷◌, get_or, length, take, drop, Option, Some, None, refl, sym, ap, arith, lit<, lit≤, inl, inr, ◌∙◌}
+use Rattle.std.proofs.Common.{leb, ◌≡◌, ◌≤◌, ◌<◌, ◌+◌, ◌-◌, ◌*◌, ◌%◌, ◌&&◌, ◌==◌, ℕ, Bool, true, false, List, [], ◌∷◌, get_or, length, drop, Option, Some, None, refl, sym, ap, arith, lit<, lit≤, inl, inr, ◌∙◌}
 use Rattle.std.specs.Prelude.{nat_lt}
 use Rattle.std.proofs.lemmas.Bool.Decides.{nat_tests}
-use Rattle.std.proofs.lemmas.List.{drop_more, drop-drop, length-drop, take_all}
-use Rattle.base.specs.Bytes.{plus, hyphen}
+use Rattle.std.proofs.lemmas.List.{drop_more, drop-drop, length-drop}
 use Rattle.parsing_combinator.specs.Pieces.{digits, byte, any_byte, skip_of, sign}
 use Rattle.parsing_combinator.proofs.AtPlaces.{at_least, byte_there, first_at, is_digit}
 use Rattle.parsing_combinator.proofs.AtPlaces as places
@@ -35,7 +34,6 @@ bounds w has_tail e =
 
 few : (f : Field) → most_of f ≤ 9
 few field.Month = lit≤ tt
-few field.IsoWeek = lit≤ tt
 few f = lit≤ tt
 
 -- ---- bytes
@@ -47,13 +45,10 @@ any_there : (text : List ℕ) (place : ℕ) → place < length text → as_numbe
 unfolding skip_of
 any_there text place lt = rw (drop_more text place 0 lt) refl
 
-is_sign : (b n : ℕ) → 43 ≤ b → b ≤ 45 → n ≡ b - 43 → n % 2 ≡ 0 → ((b == plus) || (b == hyphen)) ≡ true
-is_sign b n low high is even = grind (arith, nat_tests)
-
 pub sign_read : (text : List ℕ) (place n : ℕ) → place < length text → 43 ≤ get_or text place 0 → get_or text place 0 ≤ 45 → n ≡ get_or text place 0 - 43 → n % 2 ≡ 0 → sign (drop place text) ≡ Some (n + 43, drop (place + 1) text)
 sign_read text place n lt low high is even =
     let same : n + 43 ≡ get_or text place 0 = omega arith in
-    rw same (places.sign_there text place lt (is_sign (get_or text place 0) n low high is even))
+    rw same (places.sign_there text place lt (grind (arith, nat_tests, low, high, is, even)))
 
 pub one_digit : (text : List ℕ) (place : ℕ) → place < length text → HasDigit text place → digits 1 (drop place text) ≡ Some (get_or text place 0 - 48, drop (place + 1) text)
 one_digit text place lt d =

@@ -1,5 +1,5 @@
 -- What follows a fraction of any number of digits, and a window over the end of a text.
-use Rattle.std.specs.Prelude.{◌≡◌, ◌&&◌, ◌-◌, ℕ, Bool, true, false, not, nat_le, List, [], ◌∷◌, None, replicate}
+use Rattle.std.specs.Prelude.{◌≡◌, ◌&&◌, ◌-◌, Bool, true, false, not, nat_le, List, [], ◌∷◌, None, replicate}
 use Rattle.std.specs.Char.{is_ascii_digit}
 use Rattle.std.proofs.Common.{refl}
 use Rattle.parsing_places.specs.Last.{with_moves}

@@ -1,5 +1,5 @@
 -- What may follow a date and a time of day: a fraction of a second, then an offset.
-use Rattle.std.specs.Prelude.{zero, suc, ◌≡◌, ◌≤◌, ◌<◌, ◌+◌, ◌-◌, ◌⊎◌, ◌==◌, ◌&&◌, ◌||◌, ℕ, Bool, true, not, nat_le, nat_lt, List, [], ◌∷◌, get_or, set, if◌then◌else◌}
+use Rattle.std.specs.Prelude.{zero, suc, ◌≡◌, ◌+◌, ◌-◌, ◌==◌, ◌&&◌, ◌||◌, ℕ, Bool, true, not, nat_le, nat_lt, List, [], ◌∷◌, set, if◌then◌else◌}
 use Rattle.std.proofs.lemmas.Bool.{agree_below}
 use Rattle.base.specs.Bytes.{dot, colon, upper_z, lower_z}
 use Rattle.parsing_places.specs.Last.{with_moves}
@@ -9,9 +9,7 @@ use Rattle.parsing_places.specs.declared.ending.Ending.{Ending}
 use Rattle.parsing_places.specs.declared.ending.Ending.TheVariants.{Zulu, Colon, Plain}
 use Rattle.parsing_places.specs.declared.lanes.Moves.{Moves}
 use Rattle.parsing_places.specs.declared.shape.Window.{Window}
-use Rattle.parsing_layout.specs.Layout.{length_of}
 use Rattle.parsing_shapes.specs.End.{fits_end, is_end_bounded, spares_clock}
-use Rattle.parsing_layout.specs.declared.parts.Field.{Field}
 use Rattle.parsing_layout.specs.declared.parts.Part.{Part}
 use Rattle.parsing_layout.specs.declared.parts.Field.TheVariants as field
 use Rattle.parsing_layout.specs.declared.parts.Part.TheVariants as part

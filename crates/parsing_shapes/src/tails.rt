@@ -225,6 +225,7 @@ pub(crate) fn length_of(ending: Ending) -> usize
 }
 
 // The tail of so many bytes.
+#[tactic(auto, using(crate::proofs::RowLemmas::offset_right))]
 #[inline(always)]
 fn tail_at(ending: Ending, bytes: usize) -> Tail
     requires { bytes ≤ LANES }

@@ -156,6 +156,7 @@ fn planned_alone(plan: &Plan, line: &[u8]) -> Option<(i64, u32)> {
         PlanAt::Whole(whole) => instant(whole.read(line)),
         PlanAt::Split(split) => instant(split.read(line)),
         PlanAt::Unix(unix) => instant(unix.read_within(line)),
+        PlanAt::Listed(list) => instant(list.read(line)),
         PlanAt::Other(_) => None,
     }
 }

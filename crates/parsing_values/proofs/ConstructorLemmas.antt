@@ -30,9 +30,6 @@ refused y component test e is none = by_year y component test e (is_year y) refl
 
 -- ---- places in the year
 
-ordinal_yes : (y : ℤ) (o n : ℕ) → (day_at n).year ≡ y → ordinal_at n ≡ o → is_ordinal_day y o n ≡ true
-ordinal_yes y o n e f = rw (e, f) (grind (arith, nat_tests, ints))
-
 pub ordinal_year : (y : ℤ) (o n : ℕ) → is_ordinal_day y o n ≡ true → (day_at n).year ≡ y
 ordinal_year y o n h = grind (arith, nat_tests, ints)
 
@@ -50,7 +47,7 @@ ordinal_result y o (Ok d) succeeds value bound err =
     let year : IsYear y = (succeeds.0 refl).0 in
     let n = unsigned_abs (y +ℤ pos greatest_year) in
     let e : y +ℤ pos greatest_year ≡ pos n = years_since y year in
-    let here = ordinal_yes y o d value.0 value.1 in
+    let here : is_ordinal_day y o d ≡ true = rw (value.0, value.1) (grind (arith, nat_tests, ints)) in
     sym (one_day y Ordinal (is_ordinal_day y o) d year bound here (λ k within passes. omega (arith, (ordinal_count y o n k e passes).1, (ordinal_count y o n d e here).1)))
 ordinal_result y o (Err e) succeeds value bound err =
     refused y Ordinal (is_ordinal_day y o) e err (λ k within passes.
@@ -60,9 +57,6 @@ ordinal_result y o (Err e) succeeds value bound err =
     absurd (cc))
 
 -- ---- weeks of ISO 8601
-
-iso_yes : (y : ℤ) (k w n : ℕ) → IsIsoDay y k w n → is_iso_day y k w n ≡ true
-iso_yes y k w n h = rw (h.0, h.1, h.2) (grind (arith, nat_tests, ints))
 
 pub iso_is : (y : ℤ) (k w n : ℕ) → is_iso_day y k w n ≡ true → IsIsoDay y k w n
 iso_is y k w n h = (grind (arith, nat_tests, ints), grind (arith, nat_tests), grind (arith, nat_tests))
@@ -74,7 +68,7 @@ iso_result y k w (Ok d) value bound none err =
     let n = unsigned_abs (y +ℤ pos greatest_year) in
     let e : y +ℤ pos greatest_year ≡ pos n = years_since y year in
     let place = iso_count-is d n k w y e value.0 value.1 value.2 in
-    sym (one_day y Week (is_iso_day y k w) d year bound (iso_yes y k w d value) (λ j within passes.
+    sym (one_day y Week (is_iso_day y k w) d year bound (rw (value.0, value.1, value.2) (grind (arith, nat_tests, ints))) (λ j within passes.
     let h = iso_is y k w j passes in
     (iso_count-is j n k w y e h.0 h.1 h.2).0 ∙ sym place.0))
 iso_result y k w (Err e) value bound none err =

@@ -7,18 +7,14 @@ use Rattle.parsing_combinator.specs.Chunks.{chunk, padded, AreEightDigits, IsOfD
 use Rattle.parsing_combinator.proofs.Lanes.{take_fit, chunk_eight}
 use Rattle.parsing_combinator.proofs.PaddingLemmas.{chunk_append, chunk_below, drop_fit, padded_below, padded_counted}
 
-split_off : (w x y p : ℕ) → w ≡ x + y * p → x < p → w / p ≡ y
-split_off w x y p e lt =
-    let turned : w ≡ y * p + x = omega arith in
-    ap (λ (n : ℕ). n / p) turned ∙ div-mul-add y p x lt
-
 -- the number of bytes without the first few
 chunk_tail : (xs : List ℕ) (m : ℕ) → m ≤ length xs → ((k : ℕ) → get_or xs k 0 < 256) → chunk xs / 2 ^ (8 * m) ≡ chunk (drop m xs)
 chunk_tail xs m within fit =
     let prefix : length (take m xs) ≡ m = length-take-le m xs within in
     let parts : chunk xs ≡ chunk (take m xs) + chunk (drop m xs) * 2 ^ (8 * m) = ap chunk (sym (take-append-drop m xs)) ∙ chunk_append (take m xs) (drop m xs) ∙ rw prefix refl in
     let below : chunk (take m xs) < 2 ^ (8 * m) = rw prefix at (chunk_below (take m xs) (take_fit m xs fit)) in
-    split_off (chunk xs) (chunk (take m xs)) (chunk (drop m xs)) (2 ^ (8 * m)) parts below
+    let turned : chunk xs ≡ chunk (drop m xs) * 2 ^ (8 * m) + chunk (take m xs) = omega (arith, parts) in
+    ap (λ (n : ℕ). n / 2 ^ (8 * m)) turned ∙ div-mul-add (chunk (drop m xs)) (2 ^ (8 * m)) (chunk (take m xs)) below
 
 module _ (line : List ℕ) (end count : ℕ) (room : 8 ≤ end) (within : end ≤ length line) (few : count ≤ 8) (fit : (k : ℕ) → get_or line k 0 < 256) where
   abbrev eight : List ℕ

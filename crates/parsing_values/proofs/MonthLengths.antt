@@ -9,10 +9,8 @@ use Rattle.parsing_values.specs.declared.fields.TheConstants.{SHORTEST}
 abbrev shortest : ℕ → ℕ
 shortest m = cond (m == 2) 28 (cond ((m == 4) || (m == 6) || (m == 9) || (m == 11)) 30 31)
 
-in_every_year : (y : ℤ) (m : ℕ) → shortest m ≤ days_in_month y m
-in_every_year y m = grind (arith, nat_tests)
-
 pub shortest_month : (y : ℤ) (m : ℕ) → m < 13 → get_or SHORTEST m 0 ≤ days_in_month y m
 shortest_month y m lt =
     let listed = leb-true (get_or SHORTEST m 0) (shortest m) (agree_below_at (λ k. nat_le (get_or SHORTEST k 0) (shortest k)) (λ _. true) 13 m refl lt) in
-    omega (arith, listed, in_every_year y m)
+    let every : shortest m ≤ days_in_month y m = grind (arith, nat_tests) in
+    omega (arith, listed, every)

@@ -1,5 +1,5 @@
 -- Days that a year and what it says of them name.
-use Rattle.std.proofs.Common.{◌≡◌, ℕ, ◌+◌, ◌-◌, ◌*◌, ◌%◌, ◌<◌, ◌≤◌, Bool, true, false, Ok, Err, refl, arith, ℤ, pos, negsuc, ◌+ℤ◌}
+use Rattle.std.proofs.Common.{◌≡◌, ℕ, ◌+◌, ◌-◌, ◌*◌, ◌%◌, ◌<◌, ◌≤◌, Bool, true, Ok, Err, refl, arith, ℤ, pos, negsuc, ◌+ℤ◌}
 use Rattle.std.proofs.lemmas.Bool.{false_from_ne_true}
 use Rattle.std.proofs.lemmas.Bool.Decides.{nat_tests}
 use Rattle.std.proofs.lemmas.Int.{ints}
@@ -54,13 +54,7 @@ pub year_of_test : (y : ℤ) → is_year y ≡ true → IsYear y
 year_of_test (pos a) e = let few : a ≤ greatest_year = grind (arith, nat_tests) in omega (arith, signed)
 year_of_test (negsuc a) e = let few : a + 1 ≤ greatest_year = grind (arith, nat_tests) in omega (arith, signed)
 
-pub year_absent : (y : ℤ) → ¬ IsYear y → is_year y ≡ false
-year_absent y h = false_from_ne_true (is_year y) (λ e. h (year_of_test y e))
-
--- what a refused year says, and what the one day says that passes
-pub refused_year : (y : ℤ) (component : ComponentName) (test : ℕ → Bool) → ¬ IsYear y → day_in y component test ≡ Err (out_of_range Year)
-refused_year y component test h = rw (year_absent y h) refl
-
+-- what the one day says that passes
 pub one_day : (y : ℤ) (component : ComponentName) (test : ℕ → Bool) (d : ℕ) → IsYear y → IsCount d → test d ≡ true → ((k : ℕ) → IsCount k → test k ≡ true → k ≡ d) → day_in y component test ≡ Ok d
 one_day y component test d h low here only = rw (year_there y h, the_day-one test d low here only) refl
 
@@ -76,7 +70,7 @@ year_end n y h e =
 
 pub week_refused : (b k w : ℕ) (y : ℤ) → ¬ IsYear y → week_date_of b y k w ≡ Err (out_of_range Year)
 unfolding week_date_of
-week_refused b k w y h = refused_year y Ordinal (is_week_day b y k w) h
+week_refused b k w y h = rw (false_from_ne_true (is_year y) (λ e. h (year_of_test y e))) refl
 
 pub week_named : (b k w n c : ℕ) (y : ℤ) → b < 7 → w < 7 → IsYear y → y +ℤ pos greatest_year ≡ pos n → c + 7 ≡ 7 * (k + sevenths b (days_before_year n)) + into_week b w + b → days_before_year n ≤ c → c < days_before_year n + days_in_year y → week_date_of b y k w ≡ Ok c
 unfolding week_date_of

@@ -5,6 +5,7 @@ ghost use Rattle.parsing_values.specs.NamedDay.{is_ordinal_day, is_iso_day, is_w
 ghost use Rattle.parsing_values.specs.DateLaws.{HasOneDay};
 
 /// What names a day names no other.
+#[tactic(auto, using(crate::proofs::DateLawLemmas::one_of_month, crate::proofs::DateLawLemmas::one_ordinal, crate::proofs::DateLawLemmas::one_iso, crate::proofs::DateLawLemmas::one_week))]
 pub fn one_day()
     ensures month { (year : ℤ) (month day : ℕ) → HasOneDay (is_day_of year month day) }
     ensures ordinal { (year : ℤ) (ordinal : ℕ) → HasOneDay (is_ordinal_day year ordinal) }

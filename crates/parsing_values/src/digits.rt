@@ -9,6 +9,7 @@ static PAIRS: [u8; 200] =
 
 /// The tens and the ones of a number below 100, in ASCII.
 #[inline(always)]
+#[tactic(auto, using(crate::proofs::DigitPairs::tens_at, crate::proofs::DigitPairs::ones_at))]
 pub fn digit_pair(number: u32) -> (u8, u8)
     requires { number < 100 }
     ensures tens { result.0 ≡ digit_zero + number / 10 }

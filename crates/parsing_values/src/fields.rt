@@ -43,6 +43,7 @@ static SHORTEST: [u8; 13] = [0, 31, 28, 31, 30, 31, 30, 31, 31, 30, 31, 30, 31];
 ///
 /// Only for 29 February, and for days that are not there, more than a table is asked.
 #[inline(always)]
+#[tactic(auto, using(std::proofs::lemmas::Int::ints, crate::proofs::MonthLengths::shortest_month))]
 pub fn has_day(year: Year, month: u8, day: u8) -> bool
     requires { month ≤ 12 }
     ensures { IsTrue result ↔ IsInRange 1 (days_in_month (pos year) month) day }
@@ -60,6 +61,7 @@ impl Fields {
 
     /// The fields with these numbers, where there are such fields.
     #[inline(always)]
+    #[tactic(auto, using(std::proofs::lemmas::Int::ints))]
     pub fn new(
         year: Year,
         month: u8,

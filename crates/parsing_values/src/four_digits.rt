@@ -55,6 +55,7 @@ impl Year {
 
     /// The year of the four digits at a place of a text.
     #[inline(always)]
+    #[tactic(auto, using(crate::proofs::YearLemmas::are_there, crate::proofs::YearLemmas::read_there, crate::specs::DigitsBack::year_below))]
     pub fn of_digits(text: &[u8], place: usize) -> Year
         requires high { HasPair text.now place }
         requires low { HasPair text.now (place + 2) }
@@ -70,6 +71,7 @@ impl Year {
 
     /// Its number.
     #[inline(always)]
+    #[tactic(auto, using(crate::proofs::YearLemmas::pair_in, crate::proofs::lemmas::Decimals::decimal_count))]
     pub fn number(self) -> u16
         ensures value { result ≡ self }
         ensures bound { result ≤ 9999 }

@@ -94,6 +94,7 @@ impl Fraction {
 
     /// Its nanoseconds.
     #[inline(always)]
+    #[tactic(auto, using(crate::proofs::lemmas::Decimals::decimal_count, crate::proofs::lemmas::Decimals::decimal_length, crate::proofs::lemmas::Decimals::decimal_value))]
     pub fn nanosecond(self) -> u32
         ensures value { result ≡ self }
         ensures bound { result < 1_000_000_000 }
@@ -136,6 +137,7 @@ impl Fraction {
 
     /// The nine digits of its nanoseconds, in ASCII.
     #[inline(always)]
+    #[tactic(auto, using(crate::proofs::DigitLemmas::kept, crate::specs::DigitsBack::last_back), unfolding(crate::specs::Digits::nine_digits))]
     pub fn digits(self) -> [u8; 9]
         ensures text { result ≡ decimal 9 self }
         ensures digits { Pieces.digits 9 result ≡ Some (self, []) }

@@ -7,6 +7,7 @@ ghost use Rattle.parsing_values.specs.NamedMoment.{named_moment, named_utc, name
 
 /// Parts that name a date, a time of day and an offset, of which the calendar has the day in UTC, name one instant of
 /// each kind, or none of any kind.
+#[tactic(auto, using(crate::proofs::LawLemmas::one_instant))]
 pub fn three_instants()
     ensures { (p : MomentParts) (o : OffsetParts) (date time : ℕ) (offset : ℤ)
         → IsWhole p o date time offset

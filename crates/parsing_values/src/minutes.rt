@@ -15,7 +15,7 @@ pub fn minute_of_day(hour: u8, minute: u8) -> Option<u16>
 }
 
 /// The minutes of an offset of hours and minutes under one sign.
-#[tactic(auto, using(std::proofs::lemmas::Int::ints))]
+#[tactic(auto, using(std::proofs::lemmas::Int::ints, crate::proofs::OffsetMinutes::offset_ahead))]
 #[inline(always)]
 pub fn offset_minutes(is_negative: bool, hours: u8, minutes: u8) -> i16
     requires hours { hours ≤ 25 }

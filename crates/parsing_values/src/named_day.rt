@@ -24,6 +24,7 @@ pub fn calendar_date(year: i32, month: Month, day: u8) -> Result<Date, Component
 
 /// The day of the week of the year of ISO 8601. A year out of range is refused first, then a week that the year does
 /// not have.
+#[tactic(auto, using(crate::proofs::ConstructorLemmas::iso_result, std::proofs::lemmas::Int::ints))]
 pub fn iso_week_date(year: i32, week: u8, weekday: Weekday) -> Result<Date, ComponentRange>
     ensures { result ≡ iso_week_date_of year week (days_from_monday weekday) }
 {

@@ -1,6 +1,7 @@
 //! The ways in which the lines of a timeline are answered, each by fast ways first.
 ghost use Rattle.std.specs.Prelude.{◌≡◌, ◌≤◌, length, IfSome, Ok, Option, ℤ};
 ghost use Rattle.parsing_values.specs.Moment.{moment_of};
+ghost use Rattle.parsing_item_parts.specs.Listed.{ListedAssumes};
 ghost use Rattle.parsing_plan.specs.Places.{AssumesMinutes};
 ghost use Rattle.parsing_plan.specs.declared.plan.Plan.{Plan};
 ghost use Rattle.instants_answers.specs.Line.{HoldsLine};
@@ -15,6 +16,7 @@ use calendar::UtcOffset;
 use instants_answers::Answer;
 use instants_sources::{directly_named, is_no_rfc3339};
 use instants_stream::AnswersLines;
+use parsing_item_parts::ListedAt;
 use parsing_plan::{Places, Plan, SplitPlaces, UnixTime, WholePlaces};
 use parsing_values::Fields;
 
@@ -169,6 +171,21 @@ impl ReadsPlanned for &UnixTime {
         // (it says when the moment is, and no offset counts)
         let _ = assumed;
         self.read_within(line)
+    }
+}
+
+// A part after the other.
+impl ReadsPlanned for ListedAt<'_> {
+    ghost use Rattle.parsing_plan.specs.declared.plan.Plan.TheVariants as plan;
+
+    ghost planned = { λ list. plan.Listed list.listed.now };
+
+    ghost assumes = { λ list. ListedAssumes list };
+
+    #[inline(always)]
+    fn read_planned(&self, line: &[u8], assumed: Option<UtcOffset>) -> Option<Fields> {
+        let _ = assumed;
+        self.read(line)
     }
 }
 

@@ -41,19 +41,15 @@ pub digits_leaves : (n : ℕ) (bytes : List ℕ) → Leaves bytes (digits n byte
 unfolding digits
 digits_leaves n bytes = cut_leaves (nat_le n (digit_count bytes)) _ n bytes
 
-one_leaves : {A : Type 0} (b : Bool) (x : A) (c : ℕ) (rest : List ℕ) → Leaves (c ∷ rest) (cond b (Some (x, rest)) None)
-one_leaves true x c rest = after_one c rest
-one_leaves false x c rest = tt
-
 pub byte_leaves : (p : ℕ → Bool) (bytes : List ℕ) → Leaves bytes (byte_of p bytes)
 unfolding byte_of
 byte_leaves p [] = tt
-byte_leaves p (c ∷ rest) = one_leaves (p c) c c rest
+byte_leaves p (c ∷ rest) = cut_leaves (p c) c 1 (c ∷ rest)
 
 pub skip_leaves : (p : ℕ → Bool) (bytes : List ℕ) → Leaves bytes (skip_of p bytes)
 unfolding skip_of
 skip_leaves p [] = tt
-skip_leaves p (c ∷ rest) = one_leaves (p c) tt c rest
+skip_leaves p (c ∷ rest) = cut_leaves (p c) tt 1 (c ∷ rest)
 
 run_leaves_by : {A : Type 0} (b : Bool) (x : A) (k : ℕ) (bytes : List ℕ) → Leaves bytes (cond b None (Some (x, drop k bytes)))
 run_leaves_by true x k bytes = tt

@@ -12,7 +12,7 @@ use Rattle.parsing_combinator.specs.Fault as fault
 use Rattle.parsing_combinator.specs.Readings.{piece_or}
 use Rattle.parsing_combinator.specs.ShortName.{HasShortName}
 use Rattle.parsing_combinator.specs.Tame.{EndsWith, Leaves, Tame, IsTame}
-use Rattle.parsing_combinator.proofs.lemmas.Tame.{dropped}
+use Rattle.parsing_combinator.proofs.lemmas.Tame.{dropped, piece_tame}
 use Rattle.parsing_combinator.specs.Shape.{Shape, greatest, or_before, prefix, taken}
 use Rattle.parsing_combinator.specs.Names.{named, period, short_months, long_months, short_weekdays, long_weekdays}
 use Rattle.parsing_components.specs.Ranged.{kept, says}
@@ -58,29 +58,18 @@ ignored_leaves count bytes = whole_leaves (nat_le count (length bytes)) bytes (r
 pub component_leaves : (c : Component) (bytes : List ℕ) → Leaves bytes (date_piece c bytes)
 unfolding date_piece year_piece time_piece offset_piece
 component_leaves (component.Ignore m) bytes = ignored_leaves m.count bytes
-component_leaves (component.End m) bytes = tt
-component_leaves (component.Month m) bytes = tt
-component_leaves (component.Weekday m) bytes = tt
-component_leaves (component.WeekNumber m) bytes = tt
-component_leaves (component.Year m) bytes = tt
-component_leaves (component.Hour m) bytes = tt
-component_leaves (component.UnixTimestamp m) bytes = tt
 component_leaves (component.Period m) bytes = says_leaves (λ x. Some (read.Afternoon x)) (period m.is_uppercase m.case_sensitive) bytes
 component_leaves (component.Subsecond m) bytes = says_leaves (λ n. Some (read.Subsecond n)) (fraction_of m.digits) bytes
 component_leaves (component.MonthShort m) bytes = says_leaves (λ x. Some (read.Month x)) (named m.case_sensitive short_months) bytes
 component_leaves (component.MonthLong m) bytes = says_leaves (λ x. Some (read.Month x)) (named m.case_sensitive long_months) bytes
 component_leaves (component.WeekdayShort m) bytes = says_leaves (λ x. Some (read.Weekday x)) (named m.case_sensitive short_weekdays) bytes
 component_leaves (component.WeekdayLong m) bytes = says_leaves (λ x. Some (read.Weekday x)) (named m.case_sensitive long_weekdays) bytes
-component_leaves c bytes = says_leaves _ _ bytes
+component_leaves c bytes = search says_leaves
 
 pub short_name : (c : Component) → HasShortName (fault.component (component_name c))
 unfolding component_name time_name
 short_name (component.Day m) = omega arith
 short_name c = omega arith
-
-of_piece : {A : Type 0} (bytes : List ℕ) (f : Fault) (o : Option (A × List ℕ)) → Leaves bytes o → HasShortName f → Tame bytes (piece_or f o)
-of_piece bytes f None h short = short
-of_piece bytes f (Some x) h short = h
 
 end_tame : (t : TrailingInput) (bytes : List ℕ) → Tame bytes (at_end t bytes)
 end_tame trailing_input.Discard bytes = (bytes, sym (append-nil bytes))
@@ -90,7 +79,7 @@ end_tame trailing_input.Prohibit (x ∷ rest) = tt
 modern_tame : (c : Component) → IsTame (reads_modern c)
 unfolding reads_modern
 modern_tame (component.End m) bytes = end_tame m.trailing_input bytes
-modern_tame c bytes = of_piece bytes (fault.component (component_name c)) (date_piece c bytes) (component_leaves c bytes) (short_name c)
+modern_tame c bytes = piece_tame (fault.component (component_name c)) bytes (date_piece c bytes) (component_leaves c bytes) (short_name c)
 
 pub component_tame : (c : Component) → IsTame (reads_component c)
 unfolding reads_component
@@ -102,5 +91,5 @@ if_whole_leaves bytes (Some x) h = whole_leaves (begins_character x.1) bytes x h
 
 pub component_tame_v3 : (c : Component) → IsTame (reads_component_v3 c)
 unfolding reads_component_v3
-component_tame_v3 (component.Ignore m) bytes = of_piece bytes (fault.component (codes "ignore")) (if_whole (ignored m.count bytes)) (if_whole_leaves bytes (ignored m.count bytes) (ignored_leaves m.count bytes)) (omega arith)
+component_tame_v3 (component.Ignore m) bytes = piece_tame (fault.component (codes "ignore")) bytes (if_whole (ignored m.count bytes)) (if_whole_leaves bytes (ignored m.count bytes) (ignored_leaves m.count bytes)) (omega arith)
 component_tame_v3 c bytes = component_tame c bytes

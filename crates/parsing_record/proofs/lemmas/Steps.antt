@@ -1,31 +1,23 @@
 -- One item more of a list that is read, whatever the items are: each has a tree.
-use Rattle.std.proofs.Common.{Bool, true, false, not, ◌≡◌, ℕ, suc, ◌+◌, ◌<◌, ◌≤◌, List, length, get_or, drop, map, Option, Some, None, Ok, Err, refl, sym, ap, ◌∙◌, arith, drop-cons}
+use Rattle.std.proofs.Common.{◌≡◌, ℕ, suc, ◌+◌, ◌<◌, ◌≤◌, List, length, get_or, drop, map, Option, Some, None, Ok, Err, refl, sym, ap, ◌∙◌, arith, drop-cons}
 use Rattle.std.proofs.lemmas.List.{drop_all}
-use Rattle.std.specs.Prelude.{option_map, is_some}
+use Rattle.std.specs.Option.{option_map, option_or}
 use Rattle.description_items.specs.Tree.{Tree, Trees, also, listed}
 use Rattle.parsing_combinator.specs.declared.fault.ParseFromDescription.{ParseFromDescription}
 use Rattle.parsing_combinator.specs.Fault.{Fault}
 use Rattle.parsing_combinator.specs.FaultOf.{reading_fault}
 use Rattle.parsing_components.specs.declared.fields.Record.{Record}
+pub use Rattle.parsing_components.proofs.lemmas.Sizes.{from, split}
 use Rattle.parsing_components.specs.Meaning.{Answer, Counted, more, then_counted, all_of, first_of, first_success, or_next, or_found, found_or}
 use Rattle.parsing_components.specs.Reads.{Language, reads, each_reads, reading, reading_of_all, tried}
 
--- the trees of the items from a place on
-abbrev pub from : {X : Type 0} → (X → Tree) → List X → ℕ → Trees
-from t xs i = listed (map t (drop i xs))
-
-split : {X : Type 0} (t : X → Tree) (xs : List X) (i : ℕ) (x : X) → i < length xs → x ≡ get_or xs i x → from t xs i ≡ also (t x) (from t xs (i + 1))
-split t xs i x lt e = ap (λ ys. listed (map t ys)) (drop-cons xs i x lt) ∙ ap (λ y. also (t y) (from t xs (suc i))) (sym e) ∙ ap (λ k. also (t x) (from t xs k)) (let s : suc i ≡ i + 1 = omega arith in s)
-
 pub all_on : {X : Type 0} (l : Language) (t : X → Tree) (xs : List X) (i : ℕ) (x : X) (r next : Record) (bytes rest : List ℕ) → i < length xs → x ≡ get_or xs i x → reading l (t x) r bytes ≡ Ok (next, rest) → all_of (each_reads l (from t xs i)) r bytes ≡ more (tried l (t x) r bytes) (all_of (each_reads l (from t xs (i + 1))) next rest)
 unfolding all_of each_reads
-all_on l t xs i x r next bytes rest lt e read =
-    ap (λ ts. all_of (each_reads l ts) r bytes) (split t xs i x lt e) ∙ ap (λ a. then_counted a (reads l (t x) r bytes).1 (all_of (each_reads l (from t xs (i + 1))))) read
+all_on l t xs i x r next bytes rest lt e read = rw (split t xs i x lt e, read) refl
 
 pub all_stop : {X : Type 0} (l : Language) (t : X → Tree) (xs : List X) (i : ℕ) (x : X) (r : Record) (bytes : List ℕ) (fault : Fault) → i < length xs → x ≡ get_or xs i x → reading l (t x) r bytes ≡ Err fault → all_of (each_reads l (from t xs i)) r bytes ≡ (Err fault, tried l (t x) r bytes)
 unfolding all_of each_reads
-all_stop l t xs i x r bytes fault lt e read =
-    ap (λ ts. all_of (each_reads l ts) r bytes) (split t xs i x lt e) ∙ ap (λ a. then_counted a (reads l (t x) r bytes).1 (all_of (each_reads l (from t xs (i + 1))))) read
+all_stop l t xs i x r bytes fault lt e read = rw (split t xs i x lt e, read) refl
 
 pub all_end : {X : Type 0} (l : Language) (t : X → Tree) (xs : List X) (i : ℕ) (r : Record) (bytes : List ℕ) → length xs ≤ i → all_of (each_reads l (from t xs i)) r bytes ≡ (Ok (r, bytes), 0)
 unfolding all_of each_reads
@@ -42,17 +34,13 @@ first_fault (Some g) f = g
 
 pub still_refused : {X : Type 0} (l : Language) (t : X → Tree) (xs : List X) (i : ℕ) (x : X) (r : Record) (bytes : List ℕ) (so_far : Option Fault) (fault : Fault) → i < length xs → x ≡ get_or xs i x → reading l (t x) r bytes ≡ Err fault → still so_far (each_reads l (from t xs i)) r bytes ≡ more (tried l (t x) r bytes) (still (Some (first_fault so_far fault)) (each_reads l (from t xs (i + 1))) r bytes)
 unfolding first_of first_success each_reads
-still_refused l t xs i x r bytes None fault lt e read =
-    ap (λ ts. still None (each_reads l ts) r bytes) (split t xs i x lt e) ∙ ap (λ a. or_found a (reads l (t x) r bytes).1 (first_success (each_reads l (from t xs (i + 1))) r bytes)) read
-still_refused l t xs i x r bytes (Some g) fault lt e read =
-    ap (λ ts. still (Some g) (each_reads l ts) r bytes) (split t xs i x lt e) ∙ ap (λ a. let o = or_next a (reads l (t x) r bytes).1 (first_success (each_reads l (from t xs (i + 1))) r bytes) in (found_or g o.0, o.1)) read
+still_refused l t xs i x r bytes None fault lt e read = rw (split t xs i x lt e, read) refl
+still_refused l t xs i x r bytes (Some g) fault lt e read = rw (split t xs i x lt e, read) refl
 
 pub still_read : {X : Type 0} (l : Language) (t : X → Tree) (xs : List X) (i : ℕ) (x : X) (r : Record) (bytes : List ℕ) (so_far : Option Fault) (found : Record × List ℕ) → i < length xs → x ≡ get_or xs i x → reading l (t x) r bytes ≡ Ok found → still so_far (each_reads l (from t xs i)) r bytes ≡ (Ok found, tried l (t x) r bytes)
 unfolding first_of first_success each_reads
-still_read l t xs i x r bytes None found lt e read =
-    ap (λ ts. still None (each_reads l ts) r bytes) (split t xs i x lt e) ∙ ap (λ a. or_found a (reads l (t x) r bytes).1 (first_success (each_reads l (from t xs (i + 1))) r bytes)) read
-still_read l t xs i x r bytes (Some g) found lt e read =
-    ap (λ ts. still (Some g) (each_reads l ts) r bytes) (split t xs i x lt e) ∙ ap (λ a. let o = or_next a (reads l (t x) r bytes).1 (first_success (each_reads l (from t xs (i + 1))) r bytes) in (found_or g o.0, o.1)) read
+still_read l t xs i x r bytes None found lt e read = rw (split t xs i x lt e, read) refl
+still_read l t xs i x r bytes (Some g) found lt e read = rw (split t xs i x lt e, read) refl
 
 pub still_none : {X : Type 0} (l : Language) (t : X → Tree) (xs : List X) (i : ℕ) (r : Record) (bytes : List ℕ) (fault : Option ParseFromDescription) → length xs ≤ i → fault ≡ None → still (option_map reading_fault fault) (each_reads l (from t xs i)) r bytes ≡ (Ok (r, bytes), 0)
 unfolding first_of each_reads
@@ -63,13 +51,9 @@ unfolding first_success each_reads
 still_some l t xs i r bytes fault refused le e = rw (e, drop_all i xs le) refl
 
 -- the fault that is kept
-pub kept_new : (so_far kept : Option ParseFromDescription) (refused : ParseFromDescription) (b : Bool) → is_some so_far ≡ not b → b ≡ true → kept ≡ Some refused → option_map reading_fault kept ≡ Some (first_fault (option_map reading_fault so_far) (reading_fault refused))
-kept_new None kept refused b known e is = ap (option_map reading_fault) is
-kept_new (Some g) kept refused b known e is = absurd cc
-
-pub kept_old : (so_far kept : Option ParseFromDescription) (refused : ParseFromDescription) (b : Bool) → is_some so_far ≡ not b → b ≡ false → kept ≡ so_far → option_map reading_fault kept ≡ Some (first_fault (option_map reading_fault so_far) (reading_fault refused))
-kept_old None kept refused b known e is = absurd cc
-kept_old (Some g) kept refused b known e is = ap (option_map reading_fault) is
+pub kept_first : (so_far : Option ParseFromDescription) (refused : ParseFromDescription) → option_map reading_fault (option_or so_far (Some refused)) ≡ Some (first_fault (option_map reading_fault so_far) (reading_fault refused))
+kept_first None refused = refl
+kept_first (Some g) refused = refl
 
 -- ---- the answer alone
 

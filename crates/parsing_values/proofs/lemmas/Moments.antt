@@ -32,9 +32,6 @@ record Counted (y : ℤ) (m d : ℕ) : Type 0 where
   within : count ≤ last_count
   day_is : day_at count ≡ ymd y m d
 
-later_length : (y : ℤ) (m d : ℕ) → IsDay y m d → 3 ≤ m → march_days m + (d - 1) < march_days (m + 1)
-later_length y m d h low = grind (arith, nat_tests)
-
 later : (y : ℤ) (m d : ℕ) → IsDay y m d → 3 ≤ m → Counted y m d
 later y m d h low =
     let n : ℕ = unsigned_abs (y +ℤ pos greatest_year) in
@@ -42,7 +39,7 @@ later y m d h low =
     let k : ℕ = march_days m + (d - 1) in
     let count : ℕ = days_before_year (n + 1) + k - 306 in
     let least : 306 ≤ days_before_year (n + 1) + k = omega arith in
-    let short : k < march_days (m + 1) = later_length y m d h low in
+    let short : k < march_days (m + 1) = grind (arith, nat_tests, h) in
     let most : n < 1_999_999 = omega (arith, signed, h.0) in
     let first : d - 1 + 1 ≡ d = omega (arith, h.3) in
     record {
@@ -51,12 +48,6 @@ later y m d h low =
       day_is = rw first at (march_day count n k m (d - 1) y e (omega arith) refl short low h.2);
     }
 
-earlier_length : (y : ℤ) (m d : ℕ) → IsDay y m d → m < 3 → march_days (m + 12) + (d - 1) < march_days (m + 12 + 1)
-earlier_length y m d h low = grind (arith, nat_tests)
-
-earlier_year : (y : ℤ) (m d : ℕ) → IsDay y m d → m < 3 → march_days (m + 12) + (d - 1) < days_in_year y
-earlier_year y m d h low = grind (arith, nat_tests)
-
 earlier : (y : ℤ) (m d : ℕ) → IsDay y m d → m < 3 → Counted y m d
 earlier y m d h low =
     let n : ℕ = unsigned_abs (y +ℤ pos greatest_year) in
@@ -64,8 +55,8 @@ earlier y m d h low =
     let k : ℕ = march_days (m + 12) + (d - 1) in
     let count : ℕ = days_before_year n + k - 306 in
     let next = years_apart y n (n + 1) e (omega arith) in
-    let in_year : k < days_in_year y = earlier_year y m d h low in
-    let short : k < march_days (m + 12 + 1) = earlier_length y m d h low in
+    let in_year : k < days_in_year y = grind (arith, nat_tests, h) in
+    let short : k < march_days (m + 12 + 1) = grind (arith, nat_tests, h) in
     let most : n < 1_999_999 = omega (arith, signed, h.0) in
     let first : d - 1 + 1 ≡ d = omega (arith, h.3) in
     let month : m + 12 - 12 ≡ m = omega arith in

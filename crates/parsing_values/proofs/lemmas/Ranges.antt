@@ -37,13 +37,13 @@ outside y m d h is = h (omega (arith, is.3), omega (arith, is.4, longest_month y
 
 a_day : (y : ℤ) (m d day : ℕ) (e : ComponentRange) → ok_or (the_day (is_day_of y m d)) e ≡ Ok day → (1 ≤ d) × (d ≤ 31)
 a_day y m d day e h =
+    let none : ¬ ((1 ≤ d) × (d ≤ 31)) → ⊥ = λ absent. found (the_day (is_day_of y m d)) e day h (the_day-unnamed y m d (outside y m d absent)) in
     elim (cases_lt d 1) [
-      | inl lt ↦ absurd (found (the_day (is_day_of y m d)) e day h (the_day-unnamed y m d (outside y m d (λ (p : (1 ≤ d) × (d ≤ 31)). omega (arith, p.0)))))
-      | inr some ↦
-          elim (cases_lt 31 d) [
-            | inl gt ↦ absurd (found (the_day (is_day_of y m d)) e day h (the_day-unnamed y m d (outside y m d (λ (p : (1 ≤ d) × (d ≤ 31)). omega (arith, p.1)))))
-            | inr most ↦ (some, most)
-          ]
+      | inl lt ↦ absurd (none (λ (p : (1 ≤ d) × (d ≤ 31)). omega (arith, p.0)))
+      | inr some ↦ elim (cases_lt 31 d) [
+        | inl gt ↦ absurd (none (λ (p : (1 ≤ d) × (d ≤ 31)). omega (arith, p.1)))
+        | inr most ↦ (some, most)
+      ]
     ]
 
 pub record DateRanges (y : ℤ) (m d day : ℕ) : Type 0 where

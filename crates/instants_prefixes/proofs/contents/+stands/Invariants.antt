@@ -1,7 +1,7 @@
 use Rattle.std.proofs.Common.{◌≡◌, ◌+◌, ◌*◌, map}
 use Rattle.description_items.specs.Tree.{listed}
 use Rattle.parsing_components.proofs.lemmas.Sizes.{size, size_all}
-use Rattle.instants_prefixes.specs.Contents.{is_of}
+use Rattle.instants_prefixes.specs.Kinds.{is_of}
 use Rattle.instants_prefixes.proofs.Stands.{stands_from}
 use Rattle.instants_prefixes.proofs.contents.+stands.Given as goal
 

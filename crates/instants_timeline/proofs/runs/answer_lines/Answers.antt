@@ -9,3 +9,7 @@ run_by-requires-in-Whole-clause-led g c =
 pub run_by-requires-in-Split-clause-led : goal.run_by-requires-in-Split-clause-led
 run_by-requires-in-Split-clause-led g c =
     ∣ (led_by_plan _ (grammar_of c.first.result.now) _ c.first.ensures (rw (← c.at.ensures.plan, c.in-Split.is) at c.in-Some.ensures), (rw (c.in-Split.is, c.assumed.ensures) at c.at.ensures.assumed)) ∣₁
+
+pub run_by-requires-in-Listed-clause-led : goal.run_by-requires-in-Listed-clause-led
+run_by-requires-in-Listed-clause-led g c =
+    ∣ (led_by_plan _ (grammar_of c.first.result.now) _ c.first.ensures (rw (← c.at.ensures.plan, c.in-Listed.is) at c.in-Some.ensures), (rw (c.in-Listed.is, c.assumed.ensures) at c.at.ensures.assumed)) ∣₁

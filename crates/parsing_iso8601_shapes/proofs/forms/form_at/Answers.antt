@@ -1,15 +1,6 @@
 use Rattle.parsing_iso8601_shapes.proofs.FormLemmas.{front_moves, back_moves, within, right, row_fits}
 use Rattle.parsing_iso8601_shapes.proofs.forms.form_at.Goals as goal
 
-pub invariant_of-result : goal.invariant_of-result
-invariant_of-result c = record { right = front_moves c.row_of.result c.row_of.ensures.bound }
-
-pub invariant_of-result-2 : goal.invariant_of-result-2
-invariant_of-result-2 c = record { right = back_moves c.row_of.result c.row_of.ensures.bound }
-
-pub invariant_of-result-3-clause-within : goal.invariant_of-result-3-clause-within
-invariant_of-result-3-clause-within c = within c.row_of.result c.row_of.ensures.bound
-
 pub invariant_of-result-3-clause-year_is : goal.invariant_of-result-3-clause-year_is
 invariant_of-result-3-clause-year_is c = (right c.row_of.result c.row_of.ensures.bound (front_moves c.row_of.result c.row_of.ensures.bound) (back_moves c.row_of.result c.row_of.ensures.bound)).0
 

@@ -1,9 +1,9 @@
 use Rattle.std.proofs.Common.{◌+◌, ◌*◌, ◌-◌, length, map}
 use Rattle.description_items.specs.Tree.{listed}
 use Rattle.parsing_components.specs.Reads.{reading_of_all}
-use Rattle.parsing_components.proofs.lemmas.Sizes.{size, size_all}
+use Rattle.parsing_components.proofs.lemmas.Sizes.{size, size_all, from}
 use Rattle.parsing_item_layouts.specs.Fronts.{Leads}
-use Rattle.parsing_item_layouts.proofs.WalkLemmas.{from, EachLeads}
+use Rattle.parsing_item_layouts.proofs.WalkLemmas.{EachLeads}
 use Rattle.parsing_item_layouts.proofs.walk.+walk.Given as goal
 
 -- the last so many nodes stand before

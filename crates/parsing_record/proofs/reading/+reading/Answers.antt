@@ -2,9 +2,8 @@ use Rattle.std.proofs.Common.{rules, ◌≡◌, ◌+◌, arith, refl, ◌∙◌,
 use Rattle.std.specs.Prelude.{option_map}
 use Rattle.parsing_combinator.specs.FaultOf.{reading_fault}
 use Rattle.parsing_components.specs.Reads.{reading, tried}
-use Rattle.parsing_record.proofs.lemmas.Steps.{all_on, all_stop, all_end, still_refused, still_read, still_none, still_some, kept_new, kept_old, first_fault}
+use Rattle.parsing_record.proofs.lemmas.Steps.{all_on, all_stop, all_end, still_refused, still_read, still_none, still_some, kept_first, first_fault}
 use Rattle.parsing_record.proofs.reading.+reading.Goals as goal
-use Rattle.parsing_record.proofs.reading.+reading.Goals.{read_first-then-is_none, read_first-else-is_none}
 
 pub read_nodes-returns-in_err-rest : goal.read_nodes-returns-in_err-rest
 read_nodes-returns-in_err-rest g t c =
@@ -51,11 +50,7 @@ read_first-loop-node-preserved g t c =
     let begun = tried g.N.Node.language (g.N.Node.tree c.node-item.result) c.loop-node.parsed c.args.input.now in
     let same = ap (λ r. tried g.N.Node.language (g.N.Node.tree c.node-item.result) r c.args.input.now) c.loop-node.invariant.1 in
     let step = still_refused g.N.Node.language g.N.Node.tree c.args.nodes.now c.loop-node.node-index c.node-item.result c.args.parsed.now c.args.input.now (option_map reading_fault c.loop-node.fault) (reading_fault c.in-Err.refused) c.loop-node-test.true c.node-item.is refused in
-    let kept : option_map reading_fault c.if-is_none.fault ≡ Some (first_fault (option_map reading_fault c.loop-node.fault) (reading_fault c.in-Err.refused)) =
-    elim c.if-is_none.branch [
-      | read_first-then-is_none w ↦ kept_new c.loop-node.fault c.if-is_none.fault c.in-Err.refused c.is_none.result c.is_none.ensures w.if-is_none.true w.fault-is
-      | read_first-else-is_none w ↦ kept_old c.loop-node.fault c.if-is_none.fault c.in-Err.refused c.is_none.result c.is_none.ensures w.if-is_none.false w.fault-is
-    ] in (
+    let kept : option_map reading_fault c.or-fault.result ≡ Some (first_fault (option_map reading_fault c.loop-node.fault) (reading_fault c.in-Err.refused)) = rw c.or-fault.ensures (kept_first c.loop-node.fault c.in-Err.refused) in (
       rw kept (c.loop-node.invariant.0 ∙ ap (λ x. x.0) step),
       refl,
       refl,

@@ -1,9 +1,6 @@
 use Rattle.parsing_shapes.proofs.RowLemmas.{digits_right, offset_right, row_there}
 use Rattle.parsing_shapes.proofs.tails.tail_at.Goals as goal
 
-pub invariant_of-result : goal.invariant_of-result
-invariant_of-result c = record { right = offset_right c.row_of-kind.result c.row_of-kind.ensures.bound }
-
 pub invariant_of-result-2 : goal.invariant_of-result-2
 invariant_of-result-2 c = record { right = digits_right c.args.bytes c.row_of-kind.result c.requires c.row_of-kind.ensures.bound }
 

@@ -12,7 +12,7 @@ of_numbers-requires c =
     let month = range field.Month in
     let minute = range field.Minute in
     let second = range field.Second in
-    let whole : to_z w16 (of_z w16 c.in_ok-offset.offset) ≡ c.in_ok-offset.offset = omega (arith, ints, c.in_ok-offset.ensures.bound) in
+    let whole : to_z w16 (of_z w16 c.offset-offset.result) ≡ c.offset-offset.result = omega (arith, ints, c.offset-offset.ensures.bound) in
     record {
       day_is_there =
           day_named c.year-year.result c.get-month.result c.get-day.result c.year-year.ensures.bound
@@ -20,7 +20,7 @@ of_numbers-requires c =
       four_digits = c.year-year.ensures.bound;
       within_a_day = omega (arith, c.hour.ensures.bound, c.get.ensures, minute);
       within_a_minute = omega (arith, c.get-second.ensures, second);
-      is_offset = rw whole c.in_ok-offset.ensures.bound;
+      is_offset = rw whole c.offset-offset.ensures.bound;
     }
 
 pub returns : goal.returns
@@ -28,9 +28,9 @@ returns c =
     let l = c.args.self.now in
     let v = values_in c.args.found.now in
     let range = c.requires.range in
-    let whole : to_z w16 (of_z w16 c.in_ok-offset.offset) ≡ c.in_ok-offset.offset = omega (arith, ints, c.in_ok-offset.ensures.bound) in
+    let whole : to_z w16 (of_z w16 c.offset-offset.result) ≡ c.offset-offset.result = omega (arith, ints, c.offset-offset.ensures.bound) in
     let numbers = rw (whole, c.year-year.ensures.value, c.get-month.ensures, c.get-day.ensures, c.from.ensures, c.from-2.ensures, c.get.ensures, c.get-second.ensures, c.fraction.ensures.value) at c.of_numbers.ensures in
-    λ has way.
+    λ has assumed way assumes.
     let said = rw (second_said l has v c.requires.dated way range, fraction_said l has v way) at numbers in
-    moment_said c.args.assumed has v c.of_numbers.result c.hour.result c.in_ok-offset.offset (λ f _. range f)
-    (day_said l has v c.requires.dated way range) (c.hour.ensures.hour has c.args.assumed way) c.hour.ensures.bound (c.in_ok-offset.ensures.named has way) said
+    moment_said assumed has v c.of_numbers.result c.hour.result c.offset-offset.result (λ f _. range f)
+    (day_said l has v c.requires.dated way range) (c.hour.ensures.hour has assumed way) c.hour.ensures.bound (c.offset-offset.ensures.named has assumed way assumes) said

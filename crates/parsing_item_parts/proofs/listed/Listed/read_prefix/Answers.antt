@@ -13,4 +13,4 @@ returns-clause-prefix c =
     let v = values_in c.read.new.found in
     let way : IsWay l (fields_of read.0) v = way_of l c.args.line.now v c.in_ok-rest.rest.now read.0 read.1 read.2 in
     λ m is. items_named m (items_listed l) read.0 v c.args.assumed c.args.line.now c.in_ok-rest.rest.now
-    (Some c.in_ok-fields.fields) is read.1 c.in_ok-fields.ensures.range (c.in_ok-fields.ensures.named (fields_of read.0) way)
+    (Some c.in_ok-fields.fields) is read.1 c.in_ok-fields.ensures.range (c.in_ok-fields.ensures.named (fields_of read.0) c.args.assumed way c.in_ok-minutes.ensures)

@@ -9,6 +9,6 @@ returns-clause-rest c = λ k le lt. c.bytes_before-digits.ensures.zeros k (omega
 pub returns-clause-last : goal.returns-clause-last
 returns-clause-last c = λ e.
     let seen = c.taken_at.ensures in
-    let nine : (k : ℕ) → k < 16 → get_or c.bytes_before-digits.result k 0 ≤ 9 = λ k lt. rw (get_or-replicate {A = ℕ} 16 k 9 0 lt) at (c.are_at_most-fits.ensures.second e k lt) in
-    last_read c.args.self.now c.args.text.now c.args.end c.args.count _ _ c.bytes_before-digits.result (seen.taken (c.are_at_most-fits.ensures.first e)) seen.above seen.small c.requires.long c.requires.within c.requires.few c.requires.near
+    let nine : (k : ℕ) → k < 16 → get_or c.bytes_before-digits.result k 0 ≤ 9 = λ k lt. rw (get_or-replicate {A = ℕ} 16 k 9 0 lt) at (c.are_at_most-fits.ensures e k lt).1 in
+    last_read c.args.self.now c.args.text.now c.args.end c.args.count _ _ c.bytes_before-digits.result (seen.taken (λ k lt. (c.are_at_most-fits.ensures e k lt).0)) seen.above seen.small c.requires.long c.requires.within c.requires.few c.requires.near
     c.bytes_before-digits.ensures.taken c.bytes_before-digits.ensures.zeros nine

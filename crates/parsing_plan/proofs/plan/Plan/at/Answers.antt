@@ -7,20 +7,8 @@ returns-in-Places-clause-plan c = sym c.in-Places.is
 pub returns-in-Places-clause-assumed : goal.returns-in-Places-clause-assumed
 returns-in-Places-clause-assumed c = tt
 
-pub returns-in-None-clause-plan : goal.returns-in-None-clause-plan
-returns-in-None-clause-plan c = refl
-
-pub returns-in-None-clause-assumed : goal.returns-in-None-clause-assumed
-returns-in-None-clause-assumed c = tt
-
 pub returns-in-Unix-clause-plan : goal.returns-in-Unix-clause-plan
 returns-in-Unix-clause-plan c = sym c.in-Unix.is
 
 pub returns-in-Unix-clause-assumed : goal.returns-in-Unix-clause-assumed
 returns-in-Unix-clause-assumed c = tt
-
-pub returns-in-Listed-clause-plan : goal.returns-in-Listed-clause-plan
-returns-in-Listed-clause-plan c = refl
-
-pub returns-in-Listed-clause-assumed : goal.returns-in-Listed-clause-assumed
-returns-in-Listed-clause-assumed c = tt

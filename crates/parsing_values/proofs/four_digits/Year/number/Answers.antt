@@ -1,17 +1,9 @@
 use Rattle.std.proofs.Common.{ℕ, ◌^◌, ◌<◌, List, take, drop, sym, ap, ◌∙◌, arith}
 use Rattle.std.specs.Str.Parse.{digits_value}
-use Rattle.parsing_combinator.specs.Pieces.{digit_count}
 use Rattle.parsing_combinator.proofs.FractionDigits.{digits_read}
 use Rattle.parsing_values.specs.Decimal.{decimal}
-use Rattle.parsing_values.proofs.lemmas.Decimals.{decimal_count, decimal_value}
-use Rattle.parsing_values.proofs.YearLemmas.{pair_in}
+use Rattle.parsing_values.proofs.lemmas.Decimals.{decimal_value}
 use Rattle.parsing_values.proofs.four_digits.Year.number.Goals as goal
-
-pub four_digits_at-requires-clause-high : goal.four_digits_at-requires-clause-high
-four_digits_at-requires-clause-high c = pair_in c.digits.result 0 (omega (arith, ap digit_count c.digits.ensures.digits ∙ decimal_count 4 c.args.self))
-
-pub four_digits_at-requires-clause-low : goal.four_digits_at-requires-clause-low
-four_digits_at-requires-clause-low c = pair_in c.digits.result 2 (omega (arith, ap digit_count c.digits.ensures.digits ∙ decimal_count 4 c.args.self))
 
 pub returns-clause-value : goal.returns-clause-value
 unfolding decimal
