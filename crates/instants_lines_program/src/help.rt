@@ -44,11 +44,10 @@ instants-lines guess
 
 instants-lines --help     prints this
 instants-lines --version  prints the version
-./instants-lines --build  in the folder of the sources: proves the program and builds it
 
-The guide is docs/GUIDE.md, the manual page docs/instants-lines.1.
+The manual page instants-lines(1) and the guide, GUIDE.md, say more.
 
-Formats by name, each a language and a description (docs/FORMATS.md):";
+Formats by name, each a language and a description (FORMATS.md):";
 
 /// The text that a word alone asks for.
 pub(crate) fn text_for(word: &str) -> Option<&'static str>

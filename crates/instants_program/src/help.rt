@@ -20,9 +20,8 @@ instants TARGET ASSUMED LIMIT SOURCE...
 
 instants --help     prints this
 instants --version  prints the version
-./instants --build  in the folder of the sources: proves the program and builds it
 
-The guide is docs/GUIDE.md, the manual page docs/instants.1.";
+The manual page instants(1) and the guide, GUIDE.md, say more.";
 
 /// The text that a word alone asks for.
 pub(crate) fn text_for(word: &str) -> Option<&'static str>
