@@ -17,7 +17,7 @@ import sys
 import threading
 from typing import IO
 
-import psutil  # type: ignore[import]
+import psutil
 
 ROOT = pathlib.Path(__file__).resolve().parent.parent
 PROGRAM = ROOT / "crates" / "instants_program" / "out" / "instants_program"

@@ -14,11 +14,12 @@ import pathlib
 import shutil
 import subprocess
 import sys
+from collections.abc import Sequence
 
 sys.dont_write_bytecode = True
 
 import build_program
-from program import ROOT, BuildFailed, Program, uses
+from program import ROOT, BuildFailed, Command, Program, uses
 
 CRATE = "instants_c"
 CALLS = (
@@ -33,17 +34,17 @@ VERSION = "INSTANTS_0.1"
 class Library(Program):
     """The library for C, in its two files."""
 
-    def __init__(self):
+    def __init__(self) -> None:
         super().__init__(CRATE, "libinstants", SHARED)
 
-    def is_current(self):
+    def is_current(self) -> bool:
         # (one that was linked in another way is not)
         return super().is_current() and (out() / ARCHIVE).is_file() and f"{VERSION}\0".encode() in self.file.read_bytes()
 
-    def proved_first(self):
+    def proved_first(self) -> list[str]:
         return [it for it in self.crates() if it != CRATE]
 
-    def made_in(self, room):
+    def made_in(self, room: pathlib.Path) -> dict[str, pathlib.Path]:
         """Makes both libraries of the crates that `rt ci` proved in a copy of them, and returns them by name."""
         self.say(f"proving and compiling {CRATE}, the last crate, in a minute or two")
         build_program.copy_crate(CRATE, room)
@@ -52,19 +53,19 @@ class Library(Program):
         return {name: room / name for name in (ARCHIVE, SHARED)}
 
 
-def out():
+def out() -> pathlib.Path:
     """Returns the folder in which the library is built."""
     return ROOT / "crates" / CRATE / "out"
 
 
-def run(command, folder):
+def run(command: Command, folder: pathlib.Path) -> None:
     """Runs a command, or raises BuildFailed with what it says."""
     ran = subprocess.run(command, cwd=folder, stdin=subprocess.DEVNULL, stdout=subprocess.PIPE, stderr=subprocess.STDOUT, text=True)
     if ran.returncode:
         raise BuildFailed(f"{' '.join(map(str, command))} failed:\n{ran.stdout}")
 
 
-def kit():
+def kit() -> pathlib.Path:
     """Returns the kit's folder."""
     rt = shutil.which("rt")
     if not rt:
@@ -72,13 +73,13 @@ def kit():
     return pathlib.Path(rt).resolve().parent.parent
 
 
-def compile_archive(crates, room):
+def compile_archive(crates: Sequence[str], room: pathlib.Path) -> None:
     """Has Rattle's compiler prove the topmost crate over the proved ones below it, and make the archive of all."""
-    rlib = lambda it: room / "crates" / it / "out" / "rlib"
+    rlibs = {it: room / "crates" / it / "out" / "rlib" for it in crates}
     used = ["std", *(it for it in uses()[CRATE])]
-    externs = [f"{it}={rlib(it) / it}.rlib" if it in crates else f"{it}={kit()}/rlibs/{it}.rlib" for it in used]
-    folders = [f"{kit()}/rlibs", *(rlib(it) for it in crates)]
-    command = [kit() / "bin" / "rattle", "build", "--crate-name", CRATE, "src/lib.rt", "--crate-type", "staticlib"]
+    externs = [f"{it}={rlibs[it] / it}.rlib" if it in rlibs else f"{it}={kit()}/rlibs/{it}.rlib" for it in used]
+    folders = [kit() / "rlibs", *rlibs.values()]
+    command: list[str | pathlib.Path] = [kit() / "bin" / "rattle", "build", "--crate-name", CRATE, "src/lib.rt", "--crate-type", "staticlib"]
     command += [word for it in externs for word in ("--extern", it)]
     command += [word for it in folders for word in ("-L", f"dependency={it}")]
     command += ["--antt-project", kit() / "rattle" / "logic" / "antt-project.json", "--logic-built", kit() / "logic_built"]
@@ -86,7 +87,7 @@ def compile_archive(crates, room):
     run(["nice", "-n", "10", *command], room / "crates" / CRATE)
 
 
-def join(room):
+def join(room: pathlib.Path) -> None:
     """Makes both libraries in the folder room of the archive there."""
     run(["ld", "-r", "-o", "instants.o", "--whole-archive", "proved.a", "--no-whole-archive", kit() / "c" / "liblibc_c.a"], room)
     run(["objcopy", *(f"--keep-global-symbol={it}" for it in CALLS), "instants.o"], room)
@@ -95,7 +96,7 @@ def join(room):
     link_shared(room)
 
 
-def link_shared(room):
+def link_shared(room: pathlib.Path) -> None:
     """Links the shared library in the folder room of the object there."""
     (room / "instants.map").write_text(f"{VERSION} {{ global: {'; '.join(CALLS)}; local: *; }};\n")
     exported = ["-Wl,--version-script=instants.map", f"-Wl,-soname,{SHARED}", "-Wl,-z,defs"]
@@ -103,7 +104,7 @@ def link_shared(room):
     run(["strip", "--strip-unneeded", SHARED], room)
 
 
-def build():
+def build() -> None:
     """Proves and builds the library unless it is current, or raises BuildFailed."""
     build_program.build(Library())
 

@@ -38,7 +38,7 @@ BELOW = {
     "parsing_values": {"Fields", "Fraction", "Year", "minute_of_day"},
     "parsing_components": {"Record", "read", "read_component", "read_component_v3"},
     "parsing_item_layouts": {"FirstBounds", "FirstBytes"},
-    "parsing_item_parts": {"Listed"},
+    "parsing_item_parts": {"Listed", "ListedAt", "Minutes"},
     "parsing_plan": {"Places", "Plan", "SplitPlaces", "UnixTime", "WholePlaces"},
     "parsing_rfc3339": {"parse_prefix", "read_exact", "begins_with_year", "read_fields", "read_usual_fields", "read_rare_fields", "read_fast"},
     "parsing_rfc2822": {"parse_prefix", "read_exact", "comments_and_white_space", "folding_white_space"},

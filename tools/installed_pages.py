@@ -22,7 +22,7 @@ INSTALLED = tuple((re.compile(before, re.M), after) for before, after in (
 OF_SOURCES = re.compile(r"(?:^|[\s=\"'])(?:\.\.?/)*(?:crates|tools|include|bench|docs|bindings)/\S*|\./instants\S*|-I ?include\b", re.M)
 
 
-def installed(text):
+def installed(text: str) -> str:
     """Returns the text of a page of the repository as it is installed, with all its links."""
     text = re.sub(r" +$", "", SOURCES.sub("", text), flags=re.M)
     for before, after in INSTALLED:
@@ -30,7 +30,7 @@ def installed(text):
     return text
 
 
-def commands_in(text):
+def commands_in(text: str) -> list[tuple[str, str | None]]:
     """Returns the fences of commands of a page, each with what it prints, or None where the page does not say."""
     found = re.findall(r"^```sh[^\n]*\n(.*?)^```$(?:\n\n```text\n(.*?)^```$)?", text, re.M | re.S)
     return [(command, said or None) for command, said in found]

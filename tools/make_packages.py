@@ -9,6 +9,8 @@ import subprocess
 import sys
 import tarfile
 import tempfile
+from collections.abc import Mapping, Sequence
+from typing import IO, cast
 
 sys.dont_write_bytecode = True
 
@@ -16,7 +18,7 @@ import build_library
 import spdx_list
 from installed_pages import installed
 from page_links import LINK
-from program import ROOT, Program
+from program import ROOT, Command, Program, sure
 
 PACKAGING = ROOT / "packaging"
 PROGRAMS = {name: Program(crate, name) for crate, name in (("instants_program", "instants"), ("instants_lines_program", "instants-lines"))}
@@ -38,30 +40,30 @@ class PackagingFailed(Exception):
     """A package can't be made; the text says why."""
 
 
-def run(command, **how):
+def run(command: Command, cwd: pathlib.Path | None = None, env: Mapping[str, str] | None = None) -> bytes:
     """Returns what a command prints, or raises PackagingFailed."""
-    ran = subprocess.run(command, stdin=subprocess.DEVNULL, stdout=subprocess.PIPE, stderr=subprocess.STDOUT, check=False, **how)
+    ran = subprocess.run(command, cwd=cwd, env=env, stdin=subprocess.DEVNULL, stdout=subprocess.PIPE, stderr=subprocess.STDOUT, check=False)
     if ran.returncode:
         raise PackagingFailed(f"{' '.join(map(str, command))} failed:\n{ran.stdout.decode(errors='replace')}")
     return ran.stdout
 
 
-def version():
+def version() -> str:
     """Returns the version, which the program and the header have to agree upon."""
-    said = re.search(r'"instants (\d+)\.(\d+)\.(\d+)"', (ROOT / "crates" / "instants_program" / "src" / "help.rt").read_text())
-    number = sum(int(it) * scale for it, scale in zip(said.groups(), (10_000, 100, 1)))
+    parts: tuple[str, ...] = sure(re.search(r'"instants (\d+)\.(\d+)\.(\d+)"', (ROOT / "crates" / "instants_program" / "src" / "help.rt").read_text())).groups()
+    number = sum(int(it) * scale for it, scale in zip(parts, (10_000, 100, 1)))
     if f"#define INSTANTS_VERSION {number}\n" not in (ROOT / "include" / "instants.h").read_text():
         raise PackagingFailed(f"the header is not of version {number}")
-    return ".".join(said.groups())
+    return ".".join(parts)
 
 
-def stale_terms():
+def stale_terms() -> list[str]:
     """Returns the copies of the licence and the notice that a crate for Rust lacks, or that differ from the repository's."""
     copies = [(ROOT / name, crate / name) for crate in CRATES for name in TERMS]
     return [str(copy.relative_to(ROOT)) for of, copy in copies if not copy.is_file() or copy.read_bytes() != of.read_bytes()]
 
 
-def programs():
+def programs() -> dict[str, Program]:
     """Returns the programs that are packaged, by their names."""
     return {**PROGRAMS, **({CHECK.name: CHECK} if CHECK.is_current() else {})}
 
@@ -69,27 +71,29 @@ def programs():
 class Commit:
     """The commit that is packaged: when it was made, and by whom."""
 
-    def __init__(self):
-        how = {"cwd": ROOT, "capture_output": True, "text": True, "check": True}
-        told = subprocess.run(["git", "log", "-1", "--format=%ct%n%an <%ae>%n%aD"], **how).stdout.splitlines()
+    def __init__(self) -> None:
+        told = subprocess.run(["git", "log", "-1", "--format=%ct%n%an <%ae>%n%aD"], cwd=ROOT, capture_output=True, text=True, check=True).stdout.splitlines()
         self.time, self.maintainer, self.date = int(told[0]), told[1], told[2]
 
 
-def put(source, target, text=None):
-    """Copies a file, or writes a text, into a folder that is made."""
+def put(source: pathlib.Path, target: pathlib.Path) -> None:
+    """Copies a file into a folder that is made."""
     target.parent.mkdir(parents=True, exist_ok=True)
-    if text is None:
-        shutil.copyfile(source, target)
-    else:
-        target.write_text(text)
+    shutil.copyfile(source, target)
 
 
-def linked(name):
+def put_text(text: str, target: pathlib.Path) -> None:
+    """Writes a text into a folder that is made."""
+    target.parent.mkdir(parents=True, exist_ok=True)
+    target.write_text(text)
+
+
+def linked(name: str) -> str:
     """Returns a document as it is installed, in which a link to a page that is not packaged is its words alone."""
     page = ROOT / name
 
-    def kept(link):
-        words, to, _ = link.groups()
+    def kept(link: re.Match[str]) -> str:
+        words, to = link[1], link[2]
         is_there = not to or ":" in to or any((page.parent / to).resolve() == ROOT / it for it in (*DOCUMENTS, *PICTURES))
         return link[0] if is_there else words
 
@@ -97,26 +101,26 @@ def linked(name):
     return "".join(it if it.startswith("```") else LINK.sub(kept, it) for it in fences)
 
 
-def wheel(folder, library):
-    """Makes the wheel for Python, with a library in it, or with none where that is empty."""
+def wheel(folder: pathlib.Path, library: pathlib.Path | None) -> None:
+    """Makes the wheel for Python, with a library in it, or without one."""
     folder.mkdir(parents=True)
     code = f"import wheel_of_package; wheel_of_package.build_wheel({str(folder)!r})"
-    run([sys.executable, "-B", "-c", code], cwd=ROOT / "bindings" / "python", env=dict(os.environ, INSTANTS_LIBRARY=str(library)))
+    run([sys.executable, "-B", "-c", code], cwd=ROOT / "bindings" / "python", env=dict(os.environ, INSTANTS_LIBRARY=str(library or "")))
 
 
-def lay_out_documents(folder):
+def lay_out_documents(folder: pathlib.Path) -> None:
     """Lays out the documents as they are installed."""
     for name in DOCUMENTS:
-        put(None, folder / name, linked(name))
+        put_text(linked(name), folder / name)
     for name in PICTURES:
         put(ROOT / name, folder / name)
 
 
-def lay_out(top):
+def lay_out(top: pathlib.Path) -> None:
     """Lays out the archive's folder."""
     for name in ("Makefile", "instants.bash"):
         put(PACKAGING / name, top / name)
-    put(None, top / "instants.pc.in", (PACKAGING / "instants.pc.in").read_text().replace("@VERSION@", version()))
+    put_text((PACKAGING / "instants.pc.in").read_text().replace("@VERSION@", version()), top / "instants.pc.in")
     for name, program in programs().items():
         put(program.file, top / "bin" / name)
         run(["strip", "--strip-unneeded", "--remove-section=.comment", top / "bin" / name])
@@ -134,7 +138,7 @@ def lay_out(top):
     wheel(top / "python", top / "lib" / build_library.SHARED)
 
 
-def settle(top, commit):
+def settle(top: pathlib.Path, commit: Commit) -> None:
     """Gives all files of a folder the commit's time, and the modes of what is installed."""
     for at, folders, names in os.walk(top, topdown=False):
         for name in [*names, *folders]:
@@ -143,36 +147,36 @@ def settle(top, commit):
             os.utime(path, (commit.time, commit.time))
 
 
-def pack(top, made, commit):
+def pack(top: pathlib.Path, made: pathlib.Path, commit: Commit) -> None:
     """Makes the archive of a folder."""
 
-    def owned(entry):
+    def owned(entry: tarfile.TarInfo) -> tarfile.TarInfo:
         entry.uid = entry.gid = 0
         entry.uname = entry.gname = "root"
         return entry
 
     with open(made, "wb") as raw, gzip.GzipFile("", "wb", 9, raw, commit.time) as packed:
-        with tarfile.open(fileobj=packed, mode="w", format=tarfile.GNU_FORMAT) as archive:
+        with tarfile.open(fileobj=cast(IO[bytes], packed), mode="w", format=tarfile.GNU_FORMAT) as archive:
             for path in [top, *sorted(top.rglob("*"))]:
                 archive.add(path, path.relative_to(top.parent), recursive=False, filter=owned)
 
 
-def debian(top, commit):
+def debian(top: pathlib.Path, commit: Commit) -> list[pathlib.Path]:
     """Makes Debian's packages of the archive's folder, beside it, and returns their files."""
     shutil.copytree(PACKAGING / "debian", top / "debian")
     control = top / "debian" / "control"
     control.write_text(control.read_text().replace("@MAINTAINER@", commit.maintainer))
     entry = f"instants ({version()}) unstable; urgency=medium\n\n  * The programs, the library, and the package for Python.\n\n -- {commit.maintainer}  {commit.date}\n"
-    put(None, top / "debian" / "changelog", entry)
-    put(None, top / "debian" / "source" / "format", "3.0 (native)\n")
-    wheel(top / "debian" / "wheel", "")
+    put_text(entry, top / "debian" / "changelog")
+    put_text("3.0 (native)\n", top / "debian" / "source" / "format")
+    wheel(top / "debian" / "wheel", None)
     settle(top, commit)
     # (what it is built of is there already)
     run(["dpkg-buildpackage", "--build=binary", "--no-sign", "--no-check-builddeps"], cwd=top)
     return sorted(top.parent.glob("*.deb"))
 
 
-def glibc_of(files):
+def glibc_of(files: Sequence[pathlib.Path]) -> str:
     """Returns the oldest version of glibc with which all of the files run, as 2.34."""
     text = run(["objdump", "--dynamic-syms", *files]).decode()
     return ".".join(map(str, max(tuple(map(int, it.split("."))) for it in re.findall(r"\(?GLIBC_([\d.]+)\b", text))))
@@ -181,11 +185,11 @@ def glibc_of(files):
 class Measured:
     """What the README says of the programs in a folder: how large they are, in kB, and which glibc they need."""
 
-    def __init__(self, folder):
+    def __init__(self, folder: pathlib.Path) -> None:
         self.sizes = {name: (folder / name).stat().st_size / 1000 for name in PROGRAMS}
         self.glibc = glibc_of([folder / name for name in PROGRAMS])
 
-    def differs(self):
+    def differs(self) -> list[str]:
         """Returns what the README says otherwise; it gives sizes to 10 kB."""
         text, wrong = (ROOT / "README.md").read_text(), []
         for name, size in self.sizes.items():
@@ -197,7 +201,7 @@ class Measured:
         return wrong
 
 
-def make(folder, commit):
+def make(folder: pathlib.Path, commit: Commit) -> tuple[list[pathlib.Path], Measured]:
     """Makes all packages in a folder, and returns their files, the archive first and the list of them last, and what was measured of
     the programs."""
     with tempfile.TemporaryDirectory(prefix="package-") as room:
@@ -209,4 +213,4 @@ def make(folder, commit):
         pack(top, archive, commit)
         measured = Measured(top / "bin")
         made = [archive, *(pathlib.Path(shutil.copy(it, folder)) for it in debian(top, commit))]
-        return [*made, spdx_list.write(made, version(), measured.glibc, commit)], measured
+        return [*made, spdx_list.write(made, version(), measured.glibc, commit.time)], measured

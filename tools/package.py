@@ -34,9 +34,10 @@ import build_program
 import tries
 import try_packages
 from make_packages import CHECK, PROGRAMS, Commit, PackagingFailed, make, programs, stale_terms, version
+from program import BuildFailed
 
 
-def main():
+def main() -> int:
     words = argparse.ArgumentParser(description=__doc__, formatter_class=argparse.RawDescriptionHelpFormatter)
     words.add_argument("--try", action="store_true", dest="is_tried")
     words.add_argument("folder", nargs="?", type=pathlib.Path, default=pathlib.Path(tempfile.gettempdir(), "packages"))
@@ -60,7 +61,7 @@ def main():
         tries.report("the licence and the notice of the crates for Rust", not stale, f"not as the repository has them: {stale}")
         if given.is_tried:
             try_packages.try_packages(made[0], made[1:-1], made[-1], version())
-    except (build_program.BuildFailed, build_library.BuildFailed, PackagingFailed) as fault:
+    except (BuildFailed, PackagingFailed) as fault:
         sys.exit(f"package: {fault}")
     return tries.summary()
 

@@ -4,15 +4,20 @@ import os
 import pathlib
 import re
 import sys
+from collections.abc import Sequence
+from typing import TypeVar
 
 ROOT = pathlib.Path(__file__).resolve().parent.parent
 PARTS = ("src", "specs", "proofs")
+# The words of a command.
+Command = Sequence[str | pathlib.Path]
+Found = TypeVar("Found")
 # Before a command: it is told to end when the process that started it has ended, however that ends (util-linux).
 ENDED_WITH_CALLER = ("setpriv", "--pdeathsig", "TERM")
 
 
-def sure(found: re.Match[str] | None) -> re.Match[str]:
-    """Returns a match that has to be there."""
+def sure(found: Found | None) -> Found:
+    """Returns what has to be there, as a match."""
     if found is None:
         raise LookupError("a text does not have the form that it has to have")
     return found

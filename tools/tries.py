@@ -1,15 +1,15 @@
-"""What the tools that try something report: a line for each try, and how many passed."""
+"""What tries report that have to do without pytest: a line for each try, and how many passed."""
 
 _counts = {True: 0, False: 0}
 
 
-def report(what: str, is_well: object, why: object = "", says_passed: bool = True) -> bool:
-    """Counts a try and says how it went, one that passed only where that is asked for. Returns whether it passed."""
+def report(what: str, is_well: object, why: object = "") -> bool:
+    """Counts a try and says how it went. Returns whether it passed."""
     _counts[bool(is_well)] += 1
-    if not is_well:
-        print(f"FAILED: {what}{f': {why}' if why else ''}", flush=True)
-    elif says_passed:
+    if is_well:
         print(f"passed: {what}", flush=True)
+    else:
+        print(f"FAILED: {what}{f': {why}' if why else ''}", flush=True)
     return bool(is_well)
 
 

@@ -1,24 +1,22 @@
-#!/usr/bin/env python3
+#!/usr/bin/env pytest
 """Tries tools/believed_files.py on a few small crates, of which it is known what their clauses rest on.
 
-    tools/try_believed.py
+    tools/try_believed.py [-k WORD]
 
 The definitions are reached by a name that is given on, by a module that is given on, and by a definition whose name begins with
 `prefix`; beside them stand a fixity, a word that only a pattern binds, and a definition that nothing uses. Then each way to lose a
-word is planted, and has to be told. It takes seconds, and proves nothing. The last line counts what passed; the status is 1 where
-anything failed.
+word is planted, and has to be told. It takes seconds, and proves nothing.
 """
 
 import pathlib
 import shutil
 import subprocess
 import sys
-import tempfile
 
 sys.dont_write_bytecode = True
 
+import pytest
 from program import ROOT
-from tries import report, summary
 
 TOOLS = ("believed_files.py", "rattle_words.py", "rattle_declarations.py", "rattle_files.py", "program.py")
 PROGRAM = """\
@@ -124,14 +122,16 @@ PLANTED = (
 )
 
 
-def laid_out(room: pathlib.Path) -> None:
-    """Lays out the crates and the pages, with this repository's tools."""
-    (room / "tools").mkdir()
+@pytest.fixture
+def room(tmp_path: pathlib.Path) -> pathlib.Path:
+    """The crates and the pages in a folder, with this repository's tools."""
+    (tmp_path / "tools").mkdir()
     for name in TOOLS:
-        shutil.copy(ROOT / "tools" / name, room / "tools")
+        shutil.copy(ROOT / "tools" / name, tmp_path / "tools")
     for name, text in FILES.items():
-        (room / name).parent.mkdir(parents=True, exist_ok=True)
-        (room / name).write_text(text)
+        (tmp_path / name).parent.mkdir(parents=True, exist_ok=True)
+        (tmp_path / name).write_text(text)
+    return tmp_path
 
 
 def believed(room: pathlib.Path, *words: str) -> tuple[int, str]:
@@ -140,33 +140,36 @@ def believed(room: pathlib.Path, *words: str) -> tuple[int, str]:
     return ran.returncode, ran.stdout + ran.stderr
 
 
-def main() -> int:
-    with tempfile.TemporaryDirectory(prefix="believed-") as folder:
-        room = pathlib.Path(folder)
-        laid_out(room)
-        status, said = believed(room, "--check")
-        report("pages that were not written are told", status == 1 and "docs/CLAIMS.md is not as" in said, said)
-        status, said = believed(room)
-        report("the pages are written", status == 0 and not said, said)
-        status, said = believed(room, "--names")
-        report("it reaches what is due, and nothing else", said.strip() == DUE, said)
-        claims = (room / CLAIMS).read_text()
-        told = "12 lines of definitions in 2 files and 9 lines of declarations in 2 files, some 1 hour at 15 lines a minute; `5 passed, 0 failed`; 2 of 3 mutations"
-        report("it counts their lines", claims.startswith(told) and "Text.antt) 8 |" in claims and "(../crates/base/specs/Bytes.antt) 4 |" in claims, claims)
-        status, said = believed(room, "--check")
-        report("the written pages pass", status == 0, said)
-        for what, file, old, new, due in PLANTED:
-            text = (room / file).read_text()
-            if not report(f"{what}: the text to change is there", text.count(old) == 1, old, says_passed=False):
-                continue
-            (room / file).write_text(text.replace(old, new))
-            status, said = believed(room, "--check")
-            (room / file).write_text(text)
-            report(f"{what} is told", status == 1 and due in said and "Traceback" not in said, said)
-        status, said = believed(room, "--check")
-        report("the pages pass once more", status == 0, said)
-    return summary()
+@pytest.fixture
+def written(room: pathlib.Path) -> pathlib.Path:
+    """The folder with its pages written."""
+    assert believed(room) == (0, "")
+    return room
+
+
+def test_pages_that_were_not_written(room: pathlib.Path) -> None:
+    status, said = believed(room, "--check")
+    assert status == 1 and "docs/CLAIMS.md is not as" in said
+
+
+def test_written_pages(written: pathlib.Path) -> None:
+    """They pass, and count the lines of what is reached: what is due, and nothing else."""
+    status, said = believed(written, "--check")
+    assert status == 0, said
+    assert believed(written, "--names")[1].strip() == DUE
+    claims = (written / CLAIMS).read_text()
+    assert claims.startswith("12 lines of definitions in 2 files and 9 lines of declarations in 2 files, some 1 hour at 15 lines a minute; `5 passed, 0 failed`; 2 of 3 mutations")
+    assert "Text.antt) 8 |" in claims and "(../crates/base/specs/Bytes.antt) 4 |" in claims
+
+
+@pytest.mark.parametrize("file, old, new, due", [it[1:] for it in PLANTED], ids=[it[0] for it in PLANTED])
+def test_planted(written: pathlib.Path, file: str, old: str, new: str, due: str) -> None:
+    text = (written / file).read_text()
+    assert text.count(old) == 1
+    (written / file).write_text(text.replace(old, new))
+    status, said = believed(written, "--check")
+    assert status == 1 and due in said and "Traceback" not in said
 
 
 if __name__ == "__main__":
-    sys.exit(main())
+    sys.exit(pytest.main([__file__, *sys.argv[1:]]))

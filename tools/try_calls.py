@@ -20,11 +20,11 @@ from collections.abc import Sequence
 sys.dont_write_bytecode = True
 
 import build_library
-from program import ROOT, BuildFailed
+from program import ROOT, BuildFailed, Command
 from tries import report, summary
 
 WRAPPED = "-Wl,--wrap=malloc,--wrap=realloc,--wrap=free"
-PROGRAMS = (("calls", ()), ("memory", (WRAPPED,)))
+PROGRAMS: tuple[tuple[str, tuple[str, ...]], ...] = (("calls", ()), ("memory", (WRAPPED,)))
 
 
 def try_program(name: str, link: Sequence[str], room: str) -> bool:
@@ -32,7 +32,8 @@ def try_program(name: str, link: Sequence[str], room: str) -> bool:
     made = pathlib.Path(room, name)
     source, library = ROOT / "bindings" / "c" / f"{name}.c", build_library.out() / build_library.ARCHIVE
     flags = ["-std=c11", "-Wall", "-Wextra", "-Werror", "-O2", f"-I{ROOT / 'include'}"]
-    for command in (["gcc", *flags, "-o", made, source, library, *link], [made]):
+    commands: tuple[Command, ...] = (["gcc", *flags, "-o", made, source, library, *link], [made])
+    for command in commands:
         ran = subprocess.run(command, capture_output=True, text=True)
         if ran.returncode:
             return report(f"bindings/c/{name}.c", False, ran.stdout + ran.stderr)

@@ -1,8 +1,9 @@
-#!/usr/bin/env python3
+#!/usr/bin/env pytest
 """Runs the console examples of the documents on the built program, and says which of them print something else.
 
-    tools/try_documents.py            those of the documents that are listed below, and the crates' pages
-    tools/try_documents.py FILE..     those of these files
+    tools/try_documents.py                    those of the documents that are listed below, and the crates' pages
+    tools/try_documents.py -k GUIDE           those of a part: each is named by its document and the line of its first example
+    tools/try_documents.py --document FILE    those of a document, by its place from the top of the repository
 
 An example is what can be copied whole into a shell, and what it prints: a fence of Markdown that begins with ```sh, and one
 with ```text right after it; or two displays of the manual page, `.Bd -literal -offset indent` and one at `indent-two`. A
@@ -30,14 +31,13 @@ error, so that none is left out by a slip, and so is a fence of another kind but
 The page of each family's crate, the `//!` lines at the head of its `src/lib.rt`, has one fence, whose lines stand one
 after the other in the file `src/page.rt` of the family's tests, which the gate proves and runs.
 
-With no FILE it also asks the tools that write pages from the sources, or compare one with them, whether each is current.
+Without --document it also asks the tools that write pages from the sources, or compare one with them, whether each is current.
 
 What is run are the programs and the library as they were built last; `./instants --build`, `tools/build_program.py
-description_check` and `tools/build_library.py` build them. Calls from other languages need gcc, cargo and sqlite3. It prints
-each example that differs, and ends with status 1 if there is any.
+description_check` and `tools/build_library.py` build them, and --instants and --instants-lines name others. Calls from other
+languages need gcc, cargo and sqlite3.
 """
 
-import argparse
 import os
 import pathlib
 import re
@@ -49,7 +49,11 @@ import tempfile
 from collections.abc import Iterable, Iterator
 from typing import NamedTuple
 
-ROOT = pathlib.Path(__file__).resolve().parent.parent
+sys.dont_write_bytecode = True
+
+import pytest
+from program import ROOT
+
 DOCUMENTS = (
     "README.md",
     "CONTRIBUTING.md",
@@ -63,10 +67,8 @@ DOCUMENTS = (
     "docs/instants-lines.1",
 )
 PAGES = ("calendar", "datetime", "description", "parsing", "instants")
-PROGRAM = ROOT / "crates" / "instants_program" / "out" / "instants_program"
-LINES_PROGRAM = ROOT / "crates" / "instants_lines_program" / "out" / "instants_lines_program"
-CHECK = ROOT / "crates" / "description_check" / "out" / "description_check"
-LIBRARY = ROOT / "crates" / "instants_c" / "out" / "libinstants.a"
+# What commands name of what is built, beside the two programs.
+BUILT = ("crates/description_check/out/description_check", "crates/instants_c/out/libinstants")
 # The tools that say whether a page is as the sources have it.
 CHECKS = (
     ("description_page.py", "--check"),
@@ -203,7 +205,7 @@ def examples_of_tables(lines: list[str]) -> list[Example]:
     return found
 
 
-def printed_by(command: str, folder: str) -> bytes:
+def printed_by(command: str, folder: pathlib.Path) -> bytes:
     """Returns what a command prints in a folder."""
     places = dict(os.environ, PATH=f"{folder}{os.pathsep}{os.environ['PATH']}")
     shell = ["sh", "-c", command]
@@ -222,38 +224,57 @@ def copy_crates(folder: pathlib.Path) -> None:
         shutil.copyfile(ROOT / name, folder / name)
 
 
-def try_section(name: str, examples: list[Example]) -> list[str]:
-    """Runs the examples of a section, and returns what is said of each that differs."""
-    differ = []
-    with tempfile.TemporaryDirectory(prefix="documents-") as folder:
-        os.symlink(PROGRAM, pathlib.Path(folder, "instants"))
-        os.symlink(LINES_PROGRAM, pathlib.Path(folder, "instants-lines"))
-        has_files = any("<<'END_OF_FILE'" in line for it in examples for line in it.command)
-        for linked in LINKED[has_files:]:
-            os.symlink(ROOT / linked, pathlib.Path(folder, linked))
-        if has_files:
-            copy_crates(pathlib.Path(folder))
-        for it in examples:
-            printed = printed_by("\n".join(it.command), folder)
-            due = "".join(line + "\n" for line in it.due).encode()
-            if printed != due:
-                told = [f"{name}:{it.line}: $ {it.command[0]}", "  the document says:"]
-                told += [f"    {line!r}" for line in due.splitlines(keepends=True)]
-                told += ["  the command prints:", *(f"    {line!r}" for line in printed.splitlines(keepends=True))]
-                differ.append("\n".join(told))
-    return differ
-
-
-def try_document(name: str) -> tuple[int, list[str]]:
-    """Returns how many examples a document has, and what is said of those that differ."""
+def sections_of(name: str) -> tuple[list[list[Example]], list[str]]:
+    """Returns the examples of each section of a document, and what is wrong with its other pieces."""
     lines = (ROOT / name).read_text().split("\n")
     examples, wrong = examples_of(name, lines)
     examples += examples_of_tables(lines) if name.endswith(".md") else []
     if not examples:
         wrong.append(f"{name}: no example")
-    for section in sorted({it.section for it in examples}):
-        wrong += try_section(name, [it for it in examples if it.section == section])
-    return len(examples), wrong
+    return [[it for it in examples if it.section == section] for section in sorted({it.section for it in examples})], wrong
+
+
+def pytest_generate_tests(metafunc: pytest.Metafunc) -> None:
+    named = metafunc.config.getoption("--document")
+    rows = {"name": named or DOCUMENTS, "crate": () if named else PAGES, "check": () if named else CHECKS}
+    for it in rows.keys() & {*metafunc.fixturenames}:
+        metafunc.parametrize(it, rows[it], ids=lambda row: row if isinstance(row, str) else row[0])
+    if "examples" in metafunc.fixturenames:
+        sections = {f"{name}:{it[0].line}": it for name in named or DOCUMENTS for it in sections_of(name)[0]}
+        metafunc.parametrize("examples", sections.values(), ids=sections)
+
+
+def test_pieces(name: str) -> None:
+    """A document has examples, and no piece of another kind than is known."""
+    assert sections_of(name)[1] == []
+
+
+@pytest.fixture
+def folder() -> Iterator[pathlib.Path]:
+    with tempfile.TemporaryDirectory(prefix="documents-") as made:
+        yield pathlib.Path(made)
+
+
+def test_section(examples: list[Example], folder: pathlib.Path, instants: pathlib.Path, instants_lines: pathlib.Path) -> None:
+    """Each example prints what the document says."""
+    commands = ["\n".join(it.command) for it in examples]
+    lacking = [it for it in BUILT if any(it in command for command in commands) and not [*ROOT.glob(f"{it}*")]]
+    assert not lacking
+    os.symlink(instants, folder / "instants")
+    os.symlink(instants_lines, folder / "instants-lines")
+    has_files = any("<<'END_OF_FILE'" in command for command in commands)
+    for linked in LINKED[has_files:]:
+        os.symlink(ROOT / linked, folder / linked)
+    if has_files:
+        copy_crates(folder)
+    differ = []
+    for it, command in zip(examples, commands):
+        printed, due = printed_by(command, folder), "".join(line + "\n" for line in it.due).encode()
+        if printed != due:
+            told = [f"line {it.line}: $ {it.command[0]}", "  the document says:", *(f"    {line!r}" for line in due.splitlines(keepends=True))]
+            differ += [*told, "  the command prints:", *(f"    {line!r}" for line in printed.splitlines(keepends=True))]
+    if differ:
+        pytest.fail("\n".join(differ), pytrace=False)
 
 
 def fences_of_page(crate: str) -> list[list[str]]:
@@ -263,39 +284,20 @@ def fences_of_page(crate: str) -> list[list[str]]:
     return [it.lines for it in pieces_of(page, re.compile(r"```(.*)"), re.compile(r"```$"), re.compile(r"# "))]
 
 
-def try_page(crate: str) -> list[str]:
-    """Returns what is wrong with a crate's page."""
-    test = ROOT / "crates" / f"{crate}_tests" / "src" / "page.rt"
-    rows = [row.strip() for row in test.read_text().split("\n")] if test.exists() else []
+def test_page(crate: str) -> None:
+    """The lines of a crate's page stand in the family's tests."""
     fences = fences_of_page(crate)
-    if len(fences) != 1:
-        return [f"{crate}: its page has {len(fences)} fences in place of one"]
+    assert len(fences) == 1
+    rows = [row.strip() for row in (ROOT / "crates" / f"{crate}_tests" / "src" / "page.rt").read_text().split("\n")]
     due = fences[0]
-    if not due or not any(rows[at : at + len(due)] == due for at in range(len(rows))):
-        return [f"{crate}: the lines of its page don't stand in {test.relative_to(ROOT)}"]
-    return []
+    assert due and any(rows[at : at + len(due)] == due for at in range(len(rows)))
 
 
-def main() -> bool:
-    words = argparse.ArgumentParser(description=__doc__, formatter_class=argparse.RawDescriptionHelpFormatter)
-    words.add_argument("files", nargs="*", metavar="FILE", help="from the top of the repository")
-    given = words.parse_args()
-    texts = "".join((ROOT / it).read_text() for it in given.files or DOCUMENTS)
-    named = [PROGRAM, *(it for it in (CHECK, LIBRARY) if str(it.parent.relative_to(ROOT)) in texts)]
-    missing = [it for it in named if not it.exists()]
-    if missing:
-        words.error(f"{missing[0].relative_to(ROOT)} is not built")
-    count = 0
-    for name in given.files or DOCUMENTS:
-        tried, wrong = try_document(name)
-        print("\n".join([*wrong, f"{name}: {tried} examples, {len(wrong)} wrong"]), flush=True)
-        count += len(wrong)
-    if not given.files:
-        wrong = [line for crate in PAGES for line in try_page(crate)]
-        print("\n".join([*wrong, f"pages of crates: {len(PAGES)} examples, {len(wrong)} wrong"]), flush=True)
-        count += len(wrong) + sum(subprocess.run([ROOT / "tools" / it[0], *it[1:]], check=False).returncode != 0 for it in CHECKS)
-    return bool(count)
+def test_check(check: tuple[str, ...]) -> None:
+    """A page is as the sources have it."""
+    ran = subprocess.run([ROOT / "tools" / check[0], *check[1:]], stdout=subprocess.PIPE, stderr=subprocess.STDOUT, text=True, check=False)
+    assert ran.returncode == 0, ran.stdout
 
 
 if __name__ == "__main__":
-    sys.exit(main())
+    sys.exit(pytest.main([__file__, *sys.argv[1:]]))

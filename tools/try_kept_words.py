@@ -1,7 +1,7 @@
-#!/usr/bin/env python3
+#!/usr/bin/env pytest
 """Tries whether the bindings keep the text of a handle's words as long as the handle is open.
 
-    tools/try_kept_words.py
+    tools/try_kept_words.py [-k WORD]
 
 A handle of the library points into the text of its words. `bindings/c/watched.c` is put between the library and each binding: in
 each call by a handle it compares the text with what it was, and aborts where it has changed. With it
@@ -13,8 +13,7 @@ each call by a handle it compares the text with what it was, and aborts where it
 - the regression test of the extension for PostgreSQL passes.
 
 The library is the one that was built last (tools/build_library.py). The packages of Debian: binutils gcc cargo libsqlite3-dev
-sqlite3 postgresql-15 postgresql-server-dev-15; what is not there is passed over, and said. The last line counts what passed; the
-status is 1 where anything failed.
+sqlite3 postgresql-15 postgresql-server-dev-15; what is not there is passed over.
 """
 
 import os
@@ -23,13 +22,14 @@ import shutil
 import subprocess
 import sys
 import tempfile
+from typing import Any
 
 sys.dont_write_bytecode = True
 
 import build_library
+import pytest
 import try_postgres
-from program import ROOT
-from tries import report, summary
+from program import ROOT, Command
 
 BINDINGS, INCLUDE = ROOT / "bindings", ROOT / "include"
 WATCHED = ("open", "answer", "answer_moments", "close")
@@ -60,88 +60,81 @@ WHERE instant('+00:00', 'strftime', words, line) || instant('+00:00', 'strftime'
 """
 
 
-def run(command, given=b"", **how):
+def run(command: Command, given: bytes = b"", **how: Any) -> tuple[int, str]:
     """Returns the status of a command, and what it prints."""
     done = subprocess.run(command, input=given, stdout=subprocess.PIPE, stderr=subprocess.STDOUT, check=False, **how)
     return done.returncode, done.stdout.decode(errors="replace")
 
 
-def build_watched(room):
-    """Makes both libraries with the watch in a folder. Whether they are made."""
-    shutil.copy(build_library.out() / build_library.ARCHIVE, room / "true.a")
+def needs(command: str) -> pytest.MarkDecorator:
+    """Passes over a try where there is no such command."""
+    return pytest.mark.skipif(not shutil.which(command), reason=f"there is no {command}")
+
+
+@pytest.fixture(scope="module")
+def watched(room: pathlib.Path, libraries: pathlib.Path) -> pathlib.Path:
+    """A folder with both libraries, with the watch in them."""
+    shutil.copy(libraries / build_library.ARCHIVE, room / "true.a")
     renamed = [f"--redefine-sym=instants_{it}=true_{it}" for it in WATCHED]
-    steps = (
+    steps: tuple[Command, ...] = (
         ["objcopy", *renamed, "true.a"],
         ["gcc", "-O2", "-fPIC", f"-I{INCLUDE}", "-c", BINDINGS / "c" / "watched.c"],
         ["ld", "-r", "-o", "whole.o", "watched.o", "--whole-archive", "true.a"],
         ["ar", "rcsD", build_library.ARCHIVE, "whole.o"],
         ["gcc", "-shared", "-o", build_library.SHARED, "whole.o"],
     )
-    return all(report(f"the watched library: {step[0]}", *ended(run(step, cwd=room))) for step in steps)
+    for step in steps:
+        ends_well(step, cwd=room)
+    return room
 
 
-def ended(ran):
-    """Returns whether a command ended well, and what it printed."""
-    status, said = ran
-    return status == 0, said
+def ends_well(command: Command, **how: Any) -> None:
+    """Runs a command, which has to end well."""
+    status, said = run(command, **how)
+    assert status == 0, said
 
 
-def try_watch(room):
-    """Tries the watch itself."""
-    made = room / "kept_words"
-    run(["gcc", f"-I{INCLUDE}", "-o", made, BINDINGS / "c" / "kept_words.c", room / build_library.ARCHIVE])
-    status, said = run([made])
-    report("C: words that are kept", status == 0, said)
+def test_watch(watched: pathlib.Path) -> None:
+    """It lets words be that are kept, and notices those that are freed too early."""
+    made = watched / "kept_words"
+    ends_well(["gcc", f"-I{INCLUDE}", "-o", made, BINDINGS / "c" / "kept_words.c", watched / build_library.ARCHIVE])
+    ends_well([made])
     status, said = run([made, "free"])
-    report("C: words that are freed too early are noticed", status < 0 and "no longer as they were" in said, f"{status} {said}")
+    assert status < 0 and "no longer as they were" in said
 
 
-def try_python(room):
-    places = {"INSTANTS_LIBRARY": str(room / build_library.SHARED), "PYTHONPATH": str(BINDINGS / "python")}
-    report("Python: timelines of words that are gone", *ended(run([PYTHON, "-B", "-c", IN_PYTHON], env={**os.environ, **places})))
+@needs(PYTHON)
+def test_python(watched: pathlib.Path) -> None:
+    """Timelines of words that are gone."""
+    places = {"INSTANTS_LIBRARY": str(watched / build_library.SHARED), "PYTHONPATH": str(BINDINGS / "python")}
+    ends_well([PYTHON, "-B", "-c", IN_PYTHON], env={**os.environ, **places})
 
 
-def try_rust(room):
-    shutil.copytree(BINDINGS / "rust", room / "rust", ignore=shutil.ignore_patterns("target", "Cargo.lock"))
+@needs("cargo")
+def test_rust(watched: pathlib.Path) -> None:
+    """The tests of the crate."""
+    shutil.copytree(BINDINGS / "rust", watched / "rust", ignore=shutil.ignore_patterns("target", "Cargo.lock"))
     places = {it: text for it, text in os.environ.items() if it != "CARGO_TARGET_DIR"}
-    how = {"cwd": room / "rust", "env": {**places, "INSTANTS_LIB_DIR": str(room)}}
-    report("Rust: the tests of the crate", *ended(run(["cargo", "test", "--quiet", "--offline"], **how)))
+    ends_well(["cargo", "test", "--quiet", "--offline"], cwd=watched / "rust", env={**places, "INSTANTS_LIB_DIR": str(watched)})
 
 
-def try_sqlite(room):
+@needs("sqlite3")
+def test_sqlite(watched: pathlib.Path) -> None:
+    """Words that stay, and words that change."""
     source = BINDINGS / "sqlite" / "instant.c"
-    run(["gcc", "-shared", "-fPIC", f"-I{INCLUDE}", "-o", room / "instant.so", source, room / build_library.ARCHIVE])
-    status, said = run(["sqlite3", "-batch", "-bail"], IN_SQL.encode(), cwd=room)
-    report("SQLite: words that stay, and words that change", status == 0 and said == "1000\n", said)
+    ends_well(["gcc", "-shared", "-fPIC", f"-I{INCLUDE}", "-o", watched / "instant.so", source, watched / build_library.ARCHIVE])
+    assert run(["sqlite3", "-batch", "-bail"], IN_SQL.encode(), cwd=watched) == (0, "1000\n")
 
 
-def try_server(room):
-    try_postgres.LIBRARY = room / build_library.ARCHIVE
+@needs(str(try_postgres.BIN / "initdb"))
+def test_server(watched: pathlib.Path) -> None:
+    """The regression test of the extension for PostgreSQL."""
     with tempfile.TemporaryDirectory(prefix="postgres-") as folder:
         server = try_postgres.Server(pathlib.Path(folder))
-        if try_postgres.build(server, programs=()):
-            with server.started() as is_up:
-                if is_up:
-                    try_postgres.try_regression(server, False)
-
-
-def main():
-    if len(sys.argv) > 1:
-        sys.exit(__doc__)
-    if not (build_library.out() / build_library.ARCHIVE).is_file():
-        sys.exit("try_kept_words: the library is not built (tools/build_library.py)")
-    tried = {try_python: PYTHON, try_rust: "cargo", try_sqlite: "sqlite3", try_server: try_postgres.BIN / "initdb"}
-    with tempfile.TemporaryDirectory(prefix="kept-words-") as folder:
-        room = pathlib.Path(folder)
-        if build_watched(room):
-            try_watch(room)
-            for each, command in tried.items():
-                if shutil.which(command):
-                    each(room)
-                else:
-                    print(f"passed over: there is no {command}")
-    return summary()
+        try_postgres.build(server, watched / build_library.ARCHIVE, {})
+        with server.started():
+            try_postgres.passes_regression(server)
 
 
 if __name__ == "__main__":
-    sys.exit(main())
+    sys.exit(pytest.main([__file__, *sys.argv[1:]]))

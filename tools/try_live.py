@@ -1,59 +1,49 @@
-#!/usr/bin/env python3
-"""Tries whether the proved program answers each line as soon as its line feed is there, before the next line is written.
+#!/usr/bin/env pytest
+"""Tries whether the proved programs answer each line as soon as its line feed is there, before the next line is written.
 
-    tools/try_live.py [--lines] [PROGRAM]
+    tools/try_live.py [--instants PROGRAM] [--instants-lines PROGRAM] [-k WORD]
 
-PROGRAM is the one that was built last (`./instants --build` builds it), unless another is named; with --lines it is that of
-`instants-lines`, in mode `carry`. It is started with pipes for its input and its output, and asked for one line after the
-other:
+The programs are those that were built last (`./instants --build` builds one), unless others are named; `instants-lines` is tried
+in mode `carry`. Each is started with pipes for its input and its output, and asked for one line after the other:
 
 - a hundred lines, each written when the answer to the last one is there;
 - lines in two pieces: nothing is answered before the second one;
-- two lines at once, and after them a line that is longer than the limit, in three pieces;
+- two lines at once;
+- a line that is longer than the limit, in three pieces;
 - of `instants-lines`, a line that goes on far after the limit, whose first piece is handed on before the next one is written;
 - at the end of the input a last line without a line feed.
 
-An answer that does not come within ten seconds has failed. The last line counts what passed; the status is 1 where anything
-failed.
+An answer that does not come within ten seconds has failed.
 """
 
-import functools
 import os
 import pathlib
 import select
 import subprocess
 import sys
 import time
-from collections.abc import Callable
+from collections.abc import Iterator, Sequence
 
 sys.dont_write_bytecode = True
 
-import tries
+import pytest
+from program import sure
 
-ROOT = pathlib.Path(__file__).resolve().parent.parent
 WORDS = ["+00:00", "-", "100", "rfc3339"]
-# The option's programs: the crate, the words, and what stands after a date-time in what is written.
-PROGRAMS = {False: ("instants_program", WORDS, lambda line: b""), True: ("instants_lines_program", ["carry", *WORDS], lambda line: b"\t" + line)}
 # How long an answer may take, and how long it is seen that none comes, in seconds.
 PATIENCE, SILENCE = 10, 0.2
 PIECES = 10
 # More bytes than are looked at of a line with the limit of the words.
 FAR = 500
-# (each of the many lines that pass is not worth a line)
-report = functools.partial(tries.report, says_passed=False)
 
 
 class Live:
-    """The program at work, its standard input and output in our hands."""
+    """A program at work, its standard input and output in our hands; and whether a line stands behind its answer."""
 
-    def __init__(self, program: pathlib.Path, words: list[str], behind: Callable[[bytes], bytes]) -> None:
-        self.behind = behind
-        self.program = subprocess.Popen([program, *words], stdin=subprocess.PIPE, stdout=subprocess.PIPE, bufsize=0)
-        assert self.program.stdin and self.program.stdout
-        self.stdin, self.stdout = self.program.stdin, self.program.stdout
-
-    def write(self, text: bytes) -> None:
-        self.stdin.write(text)
+    def __init__(self, command: Sequence[str | pathlib.Path], has_lines: bool) -> None:
+        self.has_lines = has_lines
+        self.program = subprocess.Popen(command, stdin=subprocess.PIPE, stdout=subprocess.PIPE, bufsize=0)
+        self.stdin, self.stdout = sure(self.program.stdin), sure(self.program.stdout)
 
     def read(self, count: int, patience: float = PATIENCE) -> bytes:
         """Returns as many bytes, or those that came in time or before the end."""
@@ -65,92 +55,74 @@ class Live:
             taken += piece
         return taken
 
-    def answers(self, what: str, lines: bytes, wanted: bytes) -> bool:
-        """Writes lines, and says whether exactly these answers come."""
-        self.write(lines)
-        came = self.read(len(wanted))
-        return report(what, came == wanted, f"{came!r} in place of {wanted!r}")
+    def answers(self, lines: bytes, wanted: bytes) -> None:
+        """Writes lines, to which exactly these answers come."""
+        self.stdin.write(lines)
+        assert self.read(len(wanted)) == wanted
 
-    def end(self, what: str, last: bytes, wanted: bytes) -> None:
-        """Writes a last line and the end, and says whether exactly this and the status 0 come."""
-        self.write(last)
-        self.stdin.close()
-        came = self.read(len(wanted) + 1)
-        report(what, came == wanted, f"{came!r} in place of {wanted!r}")
-        try:
-            report("the status", self.program.wait(PATIENCE) == 0)
-        except subprocess.TimeoutExpired:
-            report("the end", False)
+    def is_silent_after(self, piece: bytes) -> None:
+        """Writes a piece of a line, which is not answered before its line feed."""
+        self.stdin.write(piece)
+        assert self.read(1, SILENCE) == b""
 
-    def stop(self) -> None:
-        if self.program.poll() is None:
-            self.program.kill()
-        self.program.wait()
+    def line_and_answer(self, at: int) -> tuple[bytes, bytes]:
+        moment = f"2021-01-02T{at // 60 % 24:02}:{at % 60:02}:05"
+        line = f"{moment}Z".encode()
+        return line + b"\n", f"{moment}.000000000Z".encode() + (b"\t" + line) * self.has_lines + b"\n"
 
 
-def line_and_answer(live: Live, at: int) -> tuple[bytes, bytes]:
-    moment = f"2021-01-02T{at // 60 % 24:02}:{at % 60:02}:05"
-    line = f"{moment}Z".encode()
-    return line + b"\n", f"{moment}.000000000Z".encode() + live.behind(line) + b"\n"
+@pytest.fixture(params=["instants", "instants-lines"])
+def live(request: pytest.FixtureRequest) -> Iterator[Live]:
+    has_lines = request.param == "instants-lines"
+    program: pathlib.Path = request.getfixturevalue(request.param.replace("-", "_"))
+    live = Live([program, *["carry"] * has_lines, *WORDS], has_lines)
+    yield live
+    live.program.kill()
+    live.program.wait()
 
 
-def try_lines(live: Live) -> bool:
-    """Tries one line after the other; after one that is not answered none is tried."""
-    return all(live.answers(f"line {at + 1}", *line_and_answer(live, at)) for at in range(100))
+def test_lines(live: Live) -> None:
+    for at in range(100):
+        live.answers(*live.line_and_answer(at))
 
 
-def try_pieces(live: Live) -> bool:
+def test_pieces(live: Live) -> None:
     for at in range(PIECES):
-        line, answer = line_and_answer(live, at)
+        line, answer = live.line_and_answer(at)
         cut = 1 + at * (len(line) - 2) // (PIECES - 1)
-        live.write(line[:cut])
-        report(f"a line cut at {cut}", live.read(1, SILENCE) == b"", "it is answered before its line feed")
-        if not live.answers(f"a line cut at {cut}", line[cut:], answer):
-            return False
-    return True
+        live.is_silent_after(line[:cut])
+        live.answers(line[cut:], answer)
 
 
-def try_several(live: Live) -> None:
-    both = [line_and_answer(live, at) for at in (7, 8)]
-    live.answers("two lines at once", *(b"".join(it) for it in zip(*both)))
-    for piece in (b"9" * 60, b"9" * 60):
-        live.write(piece)
-        report("a long line", live.read(1, SILENCE) == b"", "it is answered before its line feed")
-    key = both[1][1].split(b"\t")[0]
-    live.answers("a long line", b"9\n", key + live.behind(b"9" * 121) + b"\n" if live.behind(b"") else b"! long\n")
+def test_two_lines_at_once(live: Live) -> None:
+    live.answers(*(b"".join(it) for it in zip(*(live.line_and_answer(at) for at in (7, 8)))))
 
 
-def try_handed_on(live: Live) -> None:
-    """Tries a line that goes on far after the limit: each piece is handed on."""
-    front, _ = line_and_answer(live, 11)
-    piece = front[:-1] + b" " * FAR
-    live.answers("the front of a line that goes on", piece, line_and_answer(live, 11)[1].split(b"\t")[0] + b"\t" + piece)
-    live.answers("more of it", b"8" * 9, b"8" * 9)
-    live.answers("its end", b"\n", b"\n")
+def test_a_long_line(live: Live) -> None:
+    line, answer = live.line_and_answer(8)
+    live.answers(line, answer)
+    for _ in range(2):
+        live.is_silent_after(b"9" * 60)
+    live.answers(b"9\n", answer.split(b"\t")[0] + b"\t" + b"9" * 121 + b"\n" if live.has_lines else b"! long\n")
 
 
-def main(words: list[str]) -> int:
-    is_lines = words[:1] == ["--lines"]
-    crate, said, behind = PROGRAMS[is_lines]
-    named = words[int(is_lines) :]
-    program = pathlib.Path(named[0]).resolve() if named else ROOT / "crates" / crate / "out" / crate
-    if not program.is_file():
-        print(f"{program} is not built")
-        return 1
-    live = Live(program, said, behind)
-    try:
-        if try_lines(live) and try_pieces(live):
-            try_several(live)
-            if is_lines:
-                try_handed_on(live)
-            line, answer = line_and_answer(live, 9)
-            live.end("the last line", line[:-1], answer)
-    except BrokenPipeError:
-        report("the program reads on", False)
-    finally:
-        live.stop()
-    return tries.summary()
+@pytest.mark.parametrize("live", ["instants-lines"], indirect=True)
+def test_a_line_that_goes_on(live: Live) -> None:
+    """Each piece far after the limit is handed on."""
+    line, answer = live.line_and_answer(11)
+    piece = line[:-1] + b" " * FAR
+    live.answers(piece, answer.split(b"\t")[0] + b"\t" + piece)
+    live.answers(b"8" * 9, b"8" * 9)
+    live.answers(b"\n", b"\n")
+
+
+def test_the_last_line(live: Live) -> None:
+    line, answer = live.line_and_answer(9)
+    live.stdin.write(line[:-1])
+    live.stdin.close()
+    assert live.read(len(answer) + 1) == answer
+    assert live.program.wait(PATIENCE) == 0
 
 
 if __name__ == "__main__":
-    sys.exit(main(sys.argv[1:]))
+    sys.exit(pytest.main([__file__, *sys.argv[1:]]))

@@ -1,11 +1,11 @@
-#!/usr/bin/env python3
+#!/usr/bin/env pytest
 """Tries tools/turned.py on a small crate of which it is known what its mutations come to.
 
-    tools/try_turned.py
+    tools/try_turned.py [-k WORD]
 
 The crate has functions that promise their result, one that promises little, and one that no mutation turns. So some mutations are
-refused, one is spared, one applies more than once, and a function is named that none turns; a sample tells each pair. It takes some minutes. The last line
-counts what passed; the status is 1 where anything failed.
+refused, one is spared, one applies more than once, and a function is named that none turns; a sample tells each pair. It takes some
+minutes.
 """
 
 import pathlib
@@ -13,13 +13,12 @@ import re
 import shutil
 import subprocess
 import sys
-import tempfile
 
 sys.dont_write_bytecode = True
 
+import pytest
 import turned as tool
 from program import ROOT, uses
-from tries import report, summary
 
 TOOLS = ("turned.py", "program.py", "rattle_files.py")
 LIB = """\
@@ -56,6 +55,14 @@ pub fn again(number: u8) -> u8
     { number }
 }
 """
+WEAKER = ("a weaker clause", "ensures { result ≤ 255 }", "ensures { result ≤ 256 }")
+NEVER = "(?!)"
+# Mutations beside one that is refused, what is said of each, and what is not.
+CHECKED = {
+    "one that applies more than once": (("another number", "-> u8", "-> u16"), r"small/mutations/another\.edit: stands 4 times in src/lib\.rt", NEVER),
+    "a clause that does not hold": (("a stronger clause", "ensures { result ≤ 255 }", "ensures { result ≤ 254 }"), r"no mutation turns same\b", "is spared|turns (?!same)"),
+    "one that the contract lets through": (WEAKER, r"loose \(src/lib\.rt:\d+\) is spared", NEVER),
+}
 
 
 def written(*changes: tuple[str, str, str]) -> str:
@@ -63,17 +70,26 @@ def written(*changes: tuple[str, str, str]) -> str:
     return "file: src/lib.rt\n" + "".join(f"-- {why}\nold: {old}\nnew: {new}\n" for why, old, new in changes)
 
 
-def laid_out(room: pathlib.Path) -> pathlib.Path:
-    """Lays out a repository of the one crate, with this repository's tools."""
-    (room / "tools").mkdir()
+@pytest.fixture
+def room(tmp_path: pathlib.Path) -> pathlib.Path:
+    """A repository of the one crate, with this repository's tools."""
+    (tmp_path / "tools").mkdir()
     for name in TOOLS:
-        shutil.copy(ROOT / "tools" / name, room / "tools")
-    shutil.copy(ROOT / "HANDLES", room)
-    (room / "crates.txt").write_text("small:\n")
+        shutil.copy(ROOT / "tools" / name, tmp_path / "tools")
+    shutil.copy(ROOT / "HANDLES", tmp_path)
+    (tmp_path / "crates.txt").write_text("small:\n")
+    crate = tmp_path / "crates" / "small"
     for part, text in (("src/lib.rt", LIB), ("must-fail/telling.edit", written(("another number", "    number + 1", "    number")))):
-        (room / "crates" / "small" / part).parent.mkdir(parents=True)
-        (room / "crates" / "small" / part).write_text(text)
-    return room / "crates" / "small"
+        (crate / part).parent.mkdir(parents=True)
+        (crate / part).write_text(text)
+    (crate / "mutations").mkdir()
+    return tmp_path
+
+
+def add_mutations(room: pathlib.Path, another: tuple[str, str, str]) -> None:
+    """Adds a mutation that is refused, and another one."""
+    for name, change in (("a_half", ("a half", "{ number }", "{ number / 2 }")), ("another", another)):
+        (room / "crates" / "small" / "mutations" / f"{name}.edit").write_text(written(change))
 
 
 def turned(room: pathlib.Path, *words: str) -> tuple[int, str]:
@@ -82,40 +98,36 @@ def turned(room: pathlib.Path, *words: str) -> tuple[int, str]:
     return ran.returncode, ran.stdout + ran.stderr
 
 
-def try_samples(room: pathlib.Path) -> None:
-    """Tries a sample of the small crate, in which one mutation of three is let through, and what a seed draws of this repository."""
+def test_functions_that_no_mutation_turns(room: pathlib.Path) -> None:
+    status, said = turned(room)
+    assert status == 1 and re.findall(r"no mutation turns (\w+)", said) == ["loose", "same", "again"]
+
+
+@pytest.mark.parametrize("another, due, others", CHECKED.values(), ids=CHECKED)
+def test_checked(room: pathlib.Path, another: tuple[str, str, str], due: str, others: str) -> None:
+    add_mutations(room, another)
+    status, said = turned(room, "--check")
+    assert status == 1 and re.search(due, said) and not re.search(others, said)
+
+
+def test_a_sample(room: pathlib.Path) -> None:
+    """It tells each pair, refused or not."""
+    add_mutations(room, WEAKER)
     status, said = turned(room, "--sample", "3", "--seed", "1")
     told = re.findall(r"^small/(?:must-fail|mutations)/(\w+)\.edit, pair 1: \w+ is (refused|spared)$", said, re.M)
-    due = [("telling", "refused"), ("a_half", "refused"), ("another", "spared")]
-    report("a sample tells each pair, refused or not", status == 1 and sorted(told) == sorted(due) and "3 of 3 pairs, by seed 1: 2 refused, 1 not" in said, said)
-    status, said = turned(room, "--sample", "4", "--seed", "1")
-    report("a sample of more pairs than there are is refused", status == 2, said)
+    assert sorted(told) == [("a_half", "refused"), ("another", "spared"), ("telling", "refused")]
+    assert status == 1 and "3 of 3 pairs, by seed 1: 2 refused, 1 not" in said
+
+
+def test_a_sample_of_more_pairs_than_there_are(room: pathlib.Path) -> None:
+    assert turned(room, "--sample", "4", "--seed", "1")[0] == 2
+
+
+def test_seeds() -> None:
+    """A seed draws the same pairs, and another one others."""
     one, again, other = (tool.drawn(uses(), 40, seed) for seed in (1, 1, 2))
-    report("a seed draws the same pairs, and another one others", one == again != other and sum(map(len, one.values())) == 40, f"{one}")
-
-
-def main() -> int:
-    with tempfile.TemporaryDirectory(prefix="small-") as folder:
-        room = pathlib.Path(folder)
-        crate = laid_out(room)
-        others = crate / "mutations"
-        others.mkdir()
-        status, said = turned(room)
-        named = re.findall(r"no mutation turns (\w+)", said)
-        report("it names the functions that no mutation turns", status == 1 and named == ["loose", "same", "again"], said)
-        (others / "a_half.edit").write_text(written(("a half", "{ number }", "{ number / 2 }")))
-        (others / "another.edit").write_text(written(("another number", "-> u8", "-> u16")))
-        status, said = turned(room, "--check")
-        report("a mutation that applies nowhere, or more than once, is told", status == 1 and "small/mutations/another.edit: stands 4 times in src/lib.rt" in said, said)
-        (others / "another.edit").write_text(written(("a stronger clause", "ensures { result ≤ 255 }", "ensures { result ≤ 254 }")))
-        status, said = turned(room, "--check")
-        report("a clause that does not hold is refused", status == 1 and re.findall(r"no mutation turns (\w+)", said) == ["same"] and "is spared" not in said, said)
-        (others / "another.edit").write_text(written(("a weaker clause", "ensures { result ≤ 255 }", "ensures { result ≤ 256 }")))
-        status, said = turned(room, "--check")
-        report("a mutation that the contract lets through is told", status == 1 and "loose (src/lib.rt:" in said and "is spared" in said, said)
-        try_samples(room)
-    return summary()
+    assert one == again != other and sum(map(len, one.values())) == 40
 
 
 if __name__ == "__main__":
-    sys.exit(main())
+    sys.exit(pytest.main([__file__, *sys.argv[1:]]))

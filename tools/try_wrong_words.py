@@ -1,7 +1,7 @@
-#!/usr/bin/env python3
+#!/usr/bin/env pytest
 """Tries what the built program `instants-lines` says where its call is wrong, a device fails, or a pipe is closed.
 
-    tools/try_wrong_words.py [PROGRAM]    crates/instants_lines_program/out/instants_lines_program where none is named
+    tools/try_wrong_words.py [--instants-lines PROGRAM] [-k WORD]    crates/instants_lines_program/out/instants_lines_program where none is named
 
 The table of wrong arguments is a test of the gate (crates/instants_lines_tests/src/wrong_words.rt); here is what only a process shows:
 
@@ -10,8 +10,6 @@ The table of wrong arguments is a test of the gate (crates/instants_lines_tests/
 - a pipe whose reader has ended is no news: status 1, and nothing on standard error;
 - a description that names no component is warned of, before it is refused with status 2;
 - `--help`, `-h` and `--version` alone are answered on standard output with status 0, as ./instants-lines answers them.
-
-The last line counts what passed; the status is 1 where anything failed.
 """
 
 import os
@@ -22,10 +20,9 @@ from typing import Any
 
 sys.dont_write_bytecode = True
 
-from tries import report, summary
+import pytest
+from program import ROOT
 
-ROOT = pathlib.Path(__file__).resolve().parent.parent
-PROGRAM = ROOT / "crates" / "instants_lines_program" / "out" / "instants_lines_program"
 SOURCES = "rfc3339, rfc2822, iso8601, v1, v2, v3, strftime, and the names of --help"
 # Arguments, and the sentence after the program's name.
 ROWS = (
@@ -44,50 +41,51 @@ ROWS = (
 )
 
 
-def call(program: str | pathlib.Path, words: list[str], **how: Any) -> subprocess.CompletedProcess[str]:
-    how = {"stdout": subprocess.PIPE, **how} if "input" in how else {"stdin": subprocess.DEVNULL, "stdout": subprocess.PIPE, **how}
-    return subprocess.run([program, *words], stderr=subprocess.PIPE, text=True, check=False, **how)
+Answer = tuple[int, str | None, str]
 
 
-def try_words(program: str | pathlib.Path) -> None:
-    for words, sentence in ROWS:
-        ran = call(program, words.split())
-        report(f"refused: {words}", (ran.returncode, ran.stdout, ran.stderr) == (2, "", f"instants-lines: {sentence}\n"), ran.stderr)
+def call(program: pathlib.Path, *words: str, **how: Any) -> Answer:
+    """Returns the status of a call, its output where that is a pipe of ours, and what it says."""
+    how = {"input": "x\n", "stdout": subprocess.PIPE, **how}
+    ran = subprocess.run([program, *words], stderr=subprocess.PIPE, text=True, check=False, **how)
+    return ran.returncode, ran.stdout, ran.stderr
 
 
-def try_devices(program: str | pathlib.Path) -> None:
+@pytest.mark.parametrize("words, sentence", ROWS, ids=[words or "no words" for words, _ in ROWS])
+def test_refused(instants_lines: pathlib.Path, words: str, sentence: str) -> None:
+    assert call(instants_lines, *words.split()) == (2, "", f"instants-lines: {sentence}\n")
+
+
+def test_a_folder_as_input(instants_lines: pathlib.Path) -> None:
     folder = os.open("/", os.O_RDONLY)
-    ran = call(program, ["key", "rfc3339"], stdin=folder)
+    how = {"input": None, "stdin": folder}
+    assert call(instants_lines, "key", "rfc3339", **how) == (1, "", "instants-lines: reading failed: is a directory\n")
     os.close(folder)
-    report("a folder as input", (ran.returncode, ran.stderr) == (1, "instants-lines: reading failed: is a directory\n"), ran.stderr)
-    how = {"input": "x\n"}
+
+
+def test_a_full_output(instants_lines: pathlib.Path) -> None:
     with open("/dev/full", "w") as full:
-        ran = call(program, ["key", "rfc3339"], stdout=full, **how)
-    report("a full output", (ran.returncode, ran.stderr) == (1, "instants-lines: writing failed: no storage space\n"), ran.stderr)
+        assert call(instants_lines, "key", "rfc3339", stdout=full) == (1, None, "instants-lines: writing failed: no storage space\n")
+
+
+def test_a_closed_pipe(instants_lines: pathlib.Path) -> None:
     reads, writes = os.pipe()
     os.close(reads)
-    ran = call(program, ["key", "rfc3339"], stdout=writes, **how)
+    assert call(instants_lines, "key", "rfc3339", stdout=writes) == (1, None, "")
     os.close(writes)
-    report("a closed pipe", (ran.returncode, ran.stderr) == (1, ""), ran.stderr)
-    ran = call(program, ["key", "v3", "%F"], **how)
+
+
+def test_a_description_without_components(instants_lines: pathlib.Path) -> None:
     said = 'instants-lines: warning: v3 "%F" names no component, as [year]\ninstants-lines: source 1 names no moment: it has no year\n'
-    report("a description without components", (ran.returncode, ran.stdout, ran.stderr) == (2, "", said), ran.stderr)
+    assert call(instants_lines, "key", "v3", "%F") == (2, "", said)
 
 
-def try_texts(program: str | pathlib.Path) -> None:
-    for word in ("--help", "-h", "--version"):
-        ran, wrapped = call(program, [word]), call(ROOT / "instants-lines", [word])
-        report(word, ran.returncode == 0 and ran.stdout.startswith("instants-lines ") and ran.stdout == wrapped.stdout, ran.stderr)
-
-
-def main(program: str | pathlib.Path = PROGRAM) -> int:
-    if not os.access(program, os.X_OK):
-        sys.exit(f"{program} is not built")
-    try_words(program)
-    try_devices(program)
-    try_texts(program)
-    return summary()
+@pytest.mark.parametrize("word", ["--help", "-h", "--version"])
+def test_text(instants_lines: pathlib.Path, word: str) -> None:
+    status, text, _ = call(instants_lines, word)
+    assert status == 0 and text and text.startswith("instants-lines ")
+    assert text == call(ROOT / "instants-lines", word)[1]
 
 
 if __name__ == "__main__":
-    sys.exit(main(*sys.argv[1:]))
+    sys.exit(pytest.main([__file__, *sys.argv[1:]]))
