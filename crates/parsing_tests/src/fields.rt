@@ -5,9 +5,9 @@ use datetime_types::WallClock;
 use description::{
     BorrowedFormatItem, Description, DescriptionVersion, parse_borrowed, parse_strftime_borrowed,
 };
-use parsing_combinator::{above_zeros, digit_chunk, number};
+use parsing_combinator::{above_zeros, digit_chunk, long_number, number};
 use parsing_components::assumed_minutes;
-use parsing_item_parts::Listed;
+use parsing_item_parts::{Listed, Minutes};
 use parsing_places::{Moves, Window, Windows};
 use parsing_plan::{Plan, PlanAt};
 use parsing_values::{Fields, Fraction, Year, digit_pair, minute_of_day};
@@ -70,6 +70,7 @@ fn digits(rt: HostRuntime) {
             == Some(u64::from_le_bytes([1, 2, 3, 4, 5, 6, 7, 8]))
     );
     assert!(rt; number(b"123456789") == 123_456_789);
+    assert!(rt; long_number(b"1234567890123456789") == 1_234_567_890_123_456_789);
 }
 
 fn formats() -> [Option<(i64, u32)>; 4] {
@@ -182,6 +183,14 @@ fn plans(rt: HostRuntime) {
     assert!(rt; planned_by_letters(rt.alloc(), "%s", b"1609553045") == [WHOLE; 2]);
     let behind = UtcOffset::from_hms(-1, -30, 0).expect(&rt, "an offset");
     assert!(rt; assumed_minutes(behind) == -90);
+    assert!(rt; minutes_of(Some(behind)) == Some(-90));
+    assert!(rt; minutes_of(None) == None);
+}
+
+// The minutes that count for lines without an offset.
+fn minutes_of(assumed: Option<UtcOffset>) -> Option<i16> {
+    let minutes = Minutes::assumed(false, assumed)?;
+    Some(minutes.number)
 }
 
 // The parts of a strftime description.
