@@ -6,7 +6,7 @@ use Rattle.instants_edges.specs.Edge.{is_edge}
 use Rattle.instants_prefixes.specs.declared.given.Given.{Given}
 use Rattle.instants_sources.specs.Grammar.{Grammar}
 use Rattle.instants_found.specs.Candidate.{candidates, longest}
-use Rattle.instants_found.specs.Found.{at_place, found, of_candidates, finding}
+use Rattle.instants_found.specs.Found.{at_place, found, found_in, looked_at, of_candidates, finding}
 use Rattle.instants_found.specs.IsFound.{IsReadAt, NoneBefore, IsLongest, IsFound}
 use Rattle.instants_found.specs.declared.candidate.Candidate.{Candidate}
 use Rattle.instants_found.specs.declared.found.Finding.{Finding}
@@ -26,28 +26,28 @@ module _ (given : Given) (sources : List Grammar) (line : List ℕ) where
       let same : read.far ≡ number = omega (arith, read.is) in
       record { grammar = read.grammar; source = rw same at read.source; within = within; edge = edge; reads = read.reads }
 
-  nothing_there : (dates : List Candidate) → of_candidates dates ≡ None → dates ≡ []
-  nothing_there [] e = refl
-  nothing_there (one ∷ others) e = absurd cc
+  nothing_there : (place : ℕ) (dates : List Candidate) → of_candidates place dates ≡ None → dates ≡ []
+  nothing_there place [] e = refl
+  nothing_there place (one ∷ others) e = absurd cc
 
   -- no source reads a date at a place where nothing is found
   none_read : (place number : ℕ) (date : Candidate) → at_place given sources line place ≡ None → IsReadAt given sources line place number date → ⊥
   unfolding at_place
   none_read place number date none read =
-      never_read given line place 0 sources number date (read_there place number date read) (nothing_there (candidates given line place 0 sources) (rw read.edge at none))
+      never_read given line place 0 sources number date (read_there place number date read) (nothing_there place (candidates given line place 0 sources) (rw read.edge at none))
 
   -- what is found at a place that is no place inside a word
-  pub edge_there : (place : ℕ) (date : Finding) → at_place given sources line place ≡ Some date → (is_edge line place ≡ true) × (of_candidates (candidates given line place 0 sources) ≡ Some date)
+  pub edge_there : (place : ℕ) (date : Finding) → at_place given sources line place ≡ Some date → (is_edge line place ≡ true) × (of_candidates place (candidates given line place 0 sources) ≡ Some date)
   unfolding at_place
   edge_there place date e =
-      elim (is_edge line place) as (λ b. is_edge line place ≡ b → (if b then of_candidates (candidates given line place 0 sources) else None) ≡ Some date → (is_edge line place ≡ true) × (of_candidates (candidates given line place 0 sources) ≡ Some date)) [
+      elim (is_edge line place) as (λ b. is_edge line place ≡ b → (if b then of_candidates place (candidates given line place 0 sources) else None) ≡ Some date → (is_edge line place ≡ true) × (of_candidates place (candidates given line place 0 sources) ≡ Some date)) [
         | true ↦ λ t h. (t, h)
         | false ↦ λ t h. absurd cc
       ] refl e
 
-  pub something_there : (dates : List Candidate) (date : Finding) → of_candidates dates ≡ Some date → (one : Candidate) × (others : List Candidate) × (dates ≡ one ∷ others) × (finding (longest dates) ≡ date)
-  something_there [] date e = absurd cc
-  something_there (one ∷ others) date e = (one, others, refl, cc)
+  pub something_there : (place : ℕ) (dates : List Candidate) (date : Finding) → of_candidates place dates ≡ Some date → (one : Candidate) × (others : List Candidate) × (dates ≡ one ∷ others) × (finding place (longest dates) ≡ date)
+  something_there place [] date e = absurd cc
+  something_there place (one ∷ others) date e = (one, others, refl, cc)
 
   -- ---- the first place
 
@@ -83,12 +83,11 @@ module _ (given : Given) (sources : List Grammar) (line : List ℕ) where
 
   -- what is found there is the longest, or in doubt
   of_place : (limit place : ℕ) (date : Finding) → place < limit → place < length line → is_edge line place ≡ true → NoneBefore given sources line place → SomeRead given line place 0 sources
-      → (o : Option Candidate) → IsBestOf given line place 0 sources o → finding o ≡ date → IsFound limit given sources line (Some date)
+      → (o : Option Candidate) → IsBestOf given line place 0 sources o → finding place o ≡ date → IsFound limit given sources line (Some date)
   of_place limit place date near within edge least some None best is =
-      let doubt : Doubtful ≡ date = is in
+      let doubt : Doubtful place ≡ date = is in
       let P : Finding → Type 0 = λ f. IsFound limit given sources line (Some f) in
       subst P doubt (record {
-        place = place;
         number = some.number;
         date = some.date;
         near = near;
@@ -110,16 +109,16 @@ module _ (given : Given) (sources : List Grammar) (line : List ℕ) where
       } in
       subst P there (one, long, refl)
 
-  at_first : (limit : ℕ) → IsFirstPlace (min limit (length line)) → IsFound limit given sources line (found limit given sources line)
+  at_first : (limit : ℕ) → IsFirstPlace (min limit (length line)) → IsFound limit given sources line (found_in limit given sources line)
   at_first limit it =
       let there = found_here limit given sources line it.place it.date it.before it.least (sym it.has) in
       let edge = edge_there it.place it.date it.has in
-      let (one, others, are, is) = something_there (candidates given line it.place 0 sources) it.date edge.1 in
+      let (one, others, are, is) = something_there it.place (candidates given line it.place 0 sources) it.date edge.1 in
       let P : Option Finding → Type 0 = λ f. IsFound limit given sources line f in
       subst P there (of_place limit it.place it.date (omega (arith, it.before)) (omega (arith, it.before)) edge.0 (none_before it.place (omega (arith, it.before)) it.least)
       (some_read given line it.place 0 sources one others are) (longest (candidates given line it.place 0 sources)) (best_of given line it.place 0 sources) is)
 
-  nowhere : (limit : ℕ) → NothingBefore given sources line (min limit (length line)) → IsFound limit given sources line (found limit given sources line)
+  nowhere : (limit : ℕ) → NothingBefore given sources line (min limit (length line)) → IsFound limit given sources line (found_in limit given sources line)
   nowhere limit nothing =
       let none = found_nothing limit given sources line nothing in
       let P : Option Finding → Type 0 = λ f. IsFound limit given sources line f in
@@ -127,9 +126,14 @@ module _ (given : Given) (sources : List Grammar) (line : List ℕ) where
       none_read earlier number date (nothing earlier (omega (arith, lt, read.within))) read in
       subst P (sym none) before
 
-  pub is_found : (limit : ℕ) → IsFound limit given sources line (found limit given sources line)
+  pub is_found : (limit : ℕ) → IsFound limit given sources line (found_in limit given sources line)
   is_found limit =
       elim (first_or_none (min limit (length line))) [
         | inl nothing ↦ nowhere limit nothing
         | inr it ↦ at_first limit it
       ]
+
+-- of the bytes that are looked at
+pub first_found : (limit : ℕ) (given : Given) (sources : List Grammar) (line : List ℕ) → IsFound limit given sources (looked_at limit line) (found limit given sources line)
+unfolding found
+first_found limit given sources line = is_found given sources (looked_at limit line) limit

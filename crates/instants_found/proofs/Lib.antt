@@ -1,5 +1,4 @@
 pub mod Needless
-pub mod Doubts
 pub mod Steps
 pub mod ReadAt
 pub mod LaneLemmas

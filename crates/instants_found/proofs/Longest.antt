@@ -5,7 +5,7 @@ use Rattle.std.proofs.lemmas.Bool.{cases_lt}
 use Rattle.std.proofs.lemmas.Bool.Decides.{nat_tests}
 use Rattle.instants_prefixes.specs.declared.given.Given.{Given}
 use Rattle.instants_sources.specs.Grammar.{Grammar}
-use Rattle.instants_found.specs.Candidate.{candidate, candidates, joined, longer, longest}
+use Rattle.instants_found.specs.Candidate.{candidate, candidates, joined, longer, longest, is_whole}
 use Rattle.instants_found.specs.declared.candidate.Candidate.{Candidate}
 
 -- of sources that are numbered from a number on the one of this number reads the date
@@ -18,14 +18,14 @@ pub record IsRead (given : Given) (line : List ℕ) (start first : ℕ) (sources
 
 -- none that stands whole is read
 abbrev pub NoneWhole : Given → List ℕ → ℕ → ℕ → List Grammar → Type 0
-NoneWhole given line start first sources = (other : Candidate) (later : ℕ) → IsRead given line start first sources later other → other.is_whole ≡ true → ⊥
+NoneWhole given line start first sources = (other : Candidate) (later : ℕ) → IsRead given line start first sources later other → (is_whole other) ≡ true → ⊥
 
 -- the date stands whole, and none that does reaches further, or as far and is read by an earlier source
 pub record IsBest (given : Given) (line : List ℕ) (start first : ℕ) (sources : List Grammar) (date : Candidate) : Type 0 where
   pub number : ℕ
   pub here : IsRead given line start first sources number date
-  pub whole : date.is_whole ≡ true
-  pub longest : (other : Candidate) (later : ℕ) → IsRead given line start first sources later other → other.is_whole ≡ true → (other.reach < date.reach) ⊎ ((other.reach ≡ date.reach) × (number ≤ later))
+  pub whole : (is_whole date) ≡ true
+  pub longest : (other : Candidate) (later : ℕ) → IsRead given line start first sources later other → (is_whole other) ≡ true → (other.reach < date.reach) ⊎ ((other.reach ≡ date.reach) × (number ≤ later))
 
 abbrev pub IsBestOf : Given → List ℕ → ℕ → ℕ → List Grammar → Option Candidate → Type 0
 IsBestOf given line start first sources None = NoneWhole given line start first sources
@@ -72,7 +72,7 @@ module _ (given : Given) (line : List ℕ) (start : ℕ) (first : ℕ) (grammar 
   later_read number date read = record { far = suc read.far; grammar = read.grammar; is = omega (arith, read.is); source = read.source; reads = read.reads }
 
   -- the first source reads no date that stands whole, and what is best after it is best
-  skip_none : ((other : Candidate) → candidate given line start first grammar ≡ Some other → other.is_whole ≡ true → ⊥) → NoneWhole given line start (first + 1) others → NoneWhole given line start first (grammar ∷ others)
+  skip_none : ((other : Candidate) → candidate given line start first grammar ≡ Some other → (is_whole other) ≡ true → ⊥) → NoneWhole given line start (first + 1) others → NoneWhole given line start first (grammar ∷ others)
   skip_none never none = λ other later read whole.
       elim (split later other read) [
         | inl here ↦ never other here.1 whole
@@ -80,7 +80,7 @@ module _ (given : Given) (line : List ℕ) (start : ℕ) (first : ℕ) (grammar 
       ]
 
   -- it reads none that reaches as far
-  skip_some : (date : Candidate) → ((other : Candidate) → candidate given line start first grammar ≡ Some other → other.is_whole ≡ true → other.reach < date.reach) → IsBest given line start (first + 1) others date → IsBest given line start first (grammar ∷ others) date
+  skip_some : (date : Candidate) → ((other : Candidate) → candidate given line start first grammar ≡ Some other → (is_whole other) ≡ true → other.reach < date.reach) → IsBest given line start (first + 1) others date → IsBest given line start first (grammar ∷ others) date
   skip_some date less best = record {
     number = best.number;
     here = later_read best.number date best.here;
@@ -92,7 +92,7 @@ module _ (given : Given) (line : List ℕ) (start : ℕ) (first : ℕ) (grammar 
         ];
   }
 
-  skip : (o : Option Candidate) → ((other : Candidate) → candidate given line start first grammar ≡ Some other → other.is_whole ≡ true → ⊥) → IsBestOf given line start (first + 1) others o → IsBestOf given line start first (grammar ∷ others) o
+  skip : (o : Option Candidate) → ((other : Candidate) → candidate given line start first grammar ≡ Some other → (is_whole other) ≡ true → ⊥) → IsBestOf given line start (first + 1) others o → IsBestOf given line start first (grammar ∷ others) o
   skip None never best = skip_none never best
   skip (Some date) never best = skip_some date (λ other e whole. absurd (never other e whole)) best
 
@@ -100,8 +100,8 @@ module _ (given : Given) (line : List ℕ) (start : ℕ) (first : ℕ) (grammar 
   same_reach one other e there = cc
 
   -- it reads one that stands whole, and none after it reaches further
-  keep : (one : Candidate) → candidate given line start first grammar ≡ Some one → one.is_whole ≡ true
-      → ((other : Candidate) (later : ℕ) → IsRead given line start (first + 1) others later other → other.is_whole ≡ true → other.reach ≤ one.reach) → IsBest given line start first (grammar ∷ others) one
+  keep : (one : Candidate) → candidate given line start first grammar ≡ Some one → (is_whole one) ≡ true
+      → ((other : Candidate) (later : ℕ) → IsRead given line start (first + 1) others later other → (is_whole other) ≡ true → other.reach ≤ one.reach) → IsBest given line start first (grammar ∷ others) one
   keep one e standing most = record {
     number = first;
     here = here_read one e;
@@ -120,31 +120,31 @@ module _ (given : Given) (line : List ℕ) (start : ℕ) (first : ℕ) (grammar 
   chosen true one other first_is other_is = first_is refl
   chosen false one other first_is other_is = other_is refl
 
-  step_whole : (one : Candidate) (o : Option Candidate) → candidate given line start first grammar ≡ Some one → one.is_whole ≡ true → IsBestOf given line start (first + 1) others o
+  step_whole : (one : Candidate) (o : Option Candidate) → candidate given line start first grammar ≡ Some one → (is_whole one) ≡ true → IsBestOf given line start (first + 1) others o
       → IsBestOf given line start first (grammar ∷ others) (longer one o)
-  step_whole one None e standing best = chosen one.is_whole one None (λ t. keep one e standing (λ other later read whole. absurd (best other later read whole))) (λ t. absurd cc)
+  step_whole one None e standing best = chosen (is_whole one) one None (λ t. keep one e standing (λ other later read whole. absurd (best other later read whole))) (λ t. absurd cc)
   step_whole one (Some last) e standing best =
-      chosen (one.is_whole && not (nat_lt one.reach last.reach)) one (Some last)
+      chosen ((is_whole one) && not (nat_lt one.reach last.reach)) one (Some last)
       (λ t.
-      let most : last.reach ≤ one.reach = no_less one.is_whole one.reach last.reach t in
+      let most : last.reach ≤ one.reach = no_less (is_whole one) one.reach last.reach t in
       keep one e standing (λ other later read whole.
       let less = no_more other.reach last.reach best.number later (best.longest other later read whole) in
       omega (arith, less, most)))
       (λ t.
-      let less : one.reach < last.reach = is_less one.is_whole one.reach last.reach standing t in
+      let less : one.reach < last.reach = is_less (is_whole one) one.reach last.reach standing t in
       skip_some last (λ other there whole.
       let same : one ≡ other = same_reach one other e there in
       let reach : one.reach ≡ other.reach = cc in
       omega (arith, less, reach)) best)
 
-  not_whole : (one : Candidate) (o : Option Candidate) → one.is_whole ≡ false → longer one o ≡ o
+  not_whole : (one : Candidate) (o : Option Candidate) → (is_whole one) ≡ false → longer one o ≡ o
   not_whole one None e = rw e refl
   not_whole one (Some last) e = rw e refl
 
   step_some : (one : Candidate) (o : Option Candidate) → candidate given line start first grammar ≡ Some one → IsBestOf given line start (first + 1) others o
       → IsBestOf given line start first (grammar ∷ others) (longer one o)
   step_some one o e best =
-      elim (one.is_whole) as (λ b. one.is_whole ≡ b → IsBestOf given line start first (grammar ∷ others) (longer one o)) [
+      elim (is_whole one) as (λ b. (is_whole one) ≡ b → IsBestOf given line start first (grammar ∷ others) (longer one o)) [
         | true ↦ λ standing. step_whole one o e standing best
         | false ↦ λ standing.
             rw (not_whole one o standing) (skip o (λ other there whole.

@@ -10,7 +10,7 @@ use Rattle.instants_prefixes.specs.declared.given.Given.{Given}
 use Rattle.instants_prefixes.specs.NoPrefix.{HasNoPrefix}
 use Rattle.instants_sources.specs.Grammar.{Grammar}
 use Rattle.instants_found.specs.Candidate.{candidate, candidates}
-use Rattle.instants_found.specs.Found.{at_place, found}
+use Rattle.instants_found.specs.Found.{at_place, found_in}
 use Rattle.instants_found.specs.Starts.{CannotStand, AreMarked, IsNoDate, HasNoDate}
 use Rattle.instants_found.specs.declared.found.Finding.{Finding}
 use Rattle.instants_found.proofs.Steps.{GiveFromPlace, place_has, place_has_none, places_end}
@@ -72,15 +72,13 @@ nothing_gives given sources line bytes (suc n) within none =
 
 -- what is found at the first place at which something is is found in the line
 pub found_here : (limit : ℕ) (given : Given) (sources : List Grammar) (line : List ℕ) (place : ℕ) (date : Finding) → place < min limit (length line) → NothingBefore given sources line place
-    → Some date ≡ at_place given sources line place → Some date ≡ found limit given sources line
-unfolding found
+    → Some date ≡ at_place given sources line place → Some date ≡ found_in limit given sources line
 found_here limit given sources line place date within none here =
     let long = length-take limit line in
     place_has given sources line (take limit line) place date (omega (arith, within, long)) (nothing_gives given sources line (take limit line) place (omega (arith, within, long)) none) here
 
 -- and where nothing is nothing is found in the line
-pub found_nothing : (limit : ℕ) (given : Given) (sources : List Grammar) (line : List ℕ) → NothingBefore given sources line (min limit (length line)) → found limit given sources line ≡ None
-unfolding found
+pub found_nothing : (limit : ℕ) (given : Given) (sources : List Grammar) (line : List ℕ) → NothingBefore given sources line (min limit (length line)) → found_in limit given sources line ≡ None
 found_nothing limit given sources line none =
     let long = length-take limit line in
     let end = min limit (length line) in

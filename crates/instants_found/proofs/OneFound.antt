@@ -3,13 +3,13 @@ use Rattle.std.proofs.Common.{◌≡◌, ◌<◌, ◌≤◌, ◌⊎◌, ℕ, Lis
 use Rattle.std.proofs.lemmas.Bool.{cases_lt}
 use Rattle.instants_prefixes.specs.declared.given.Given.{Given}
 use Rattle.instants_sources.specs.Grammar.{Grammar}
-use Rattle.instants_found.specs.Found.{found}
+use Rattle.instants_found.specs.Found.{found, looked_at}
 use Rattle.instants_found.specs.IsFound.{IsReadAt, NoneBefore, IsLongest, IsDoubtful, IsFound}
 use Rattle.instants_found.specs.declared.candidate.Candidate.{Candidate}
 use Rattle.instants_found.specs.declared.found.Finding.{Finding}
 use Rattle.instants_found.specs.declared.found.Finding.TheVariants.{Doubtful, There}
 use Rattle.instants_found.specs.declared.found.Found.{Found}
-use Rattle.instants_found.proofs.FirstFound.{is_found}
+use Rattle.instants_found.proofs.FirstFound.{first_found}
 
 -- of two dates neither is longer than the other
 same_number : (one other number later : ℕ) → (other < one) ⊎ ((other ≡ one) × (number ≤ later)) → (one < other) ⊎ ((one ≡ other) × (later ≤ number)) → number ≡ later
@@ -41,23 +41,24 @@ module _ (limit : ℕ) (given : Given) (sources : List Grammar) (line : List ℕ
       let number = same_number date.reach dated.reach one.number other.number (one.longest dated other.number there other.whole) (other.longest date one.number here one.whole) in
       same_date one.place one.number other.number date dated number one.here there
 
-  no_doubt : (date : Candidate) → IsLongest limit given sources line date → IsDoubtful limit given sources line → ⊥
-  no_doubt date long doubt =
-      let place = same_place long.place doubt.place long.number doubt.number date doubt.date long.here long.least doubt.here doubt.least in
-      doubt.none date long.number (moved doubt.place long.place long.number date place long.here) long.whole
+  no_doubt : (date : Candidate) (place : ℕ) → IsLongest limit given sources line date → IsDoubtful limit given sources line place → ⊥
+  no_doubt date place long doubt =
+      let same = same_place long.place place long.number doubt.number date doubt.date long.here long.least doubt.here doubt.least in
+      doubt.none date long.number (moved place long.place long.number date same long.here) long.whole
 
   only_one : (one other : Option Finding) → IsFound limit given sources line one → IsFound limit given sources line other → one ≡ other
   only_one None None none none_there = refl
-  only_one None (Some Doubtful) none doubt = absurd (none doubt.place doubt.number doubt.date doubt.near doubt.here)
+  only_one None (Some (Doubtful place)) none doubt = absurd (none place doubt.number doubt.date doubt.near doubt.here)
   only_one None (Some (There date)) none (candidate, long, is) = absurd (none long.place long.number candidate long.near long.here)
-  only_one (Some Doubtful) None doubt none = absurd (none doubt.place doubt.number doubt.date doubt.near doubt.here)
-  only_one (Some Doubtful) (Some Doubtful) doubt doubt_there = refl
-  only_one (Some Doubtful) (Some (There date)) doubt (candidate, long, is) = absurd (no_doubt candidate long doubt)
+  only_one (Some (Doubtful place)) None doubt none = absurd (none place doubt.number doubt.date doubt.near doubt.here)
+  only_one (Some (Doubtful place)) (Some (Doubtful other)) doubt there =
+      ap (λ (n : ℕ). Some (Doubtful n)) (same_place place other doubt.number there.number doubt.date there.date doubt.here doubt.least there.here there.least)
+  only_one (Some (Doubtful place)) (Some (There date)) doubt (candidate, long, is) = absurd (no_doubt candidate place long doubt)
   only_one (Some (There date)) None (candidate, long, is) none = absurd (none long.place long.number candidate long.near long.here)
-  only_one (Some (There date)) (Some Doubtful) (candidate, long, is) doubt = absurd (no_doubt candidate long doubt)
+  only_one (Some (There date)) (Some (Doubtful place)) (candidate, long, is) doubt = absurd (no_doubt candidate place long doubt)
   only_one (Some (There date)) (Some (There dated)) (candidate, long, is) (other, long_there, is_there) =
       let same : date ≡ dated = sym is ∙ ap (λ (c : Candidate). c.date) (one_longest candidate other long long_there) ∙ is_there in
       ap (λ (d : Found). Some (There d)) same
 
-  pub only_found : (finding : Option Finding) → IsFound limit given sources line finding → finding ≡ found limit given sources line
-  only_found finding is = only_one finding (found limit given sources line) is (is_found given sources line limit)
+pub only_found : (limit : ℕ) (given : Given) (sources : List Grammar) (line : List ℕ) (finding : Option Finding) → IsFound limit given sources (looked_at limit line) finding → finding ≡ found limit given sources line
+only_found limit given sources line finding is = only_one limit given sources (looked_at limit line) finding (found limit given sources line) is (first_found limit given sources line)

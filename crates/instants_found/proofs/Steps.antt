@@ -8,7 +8,7 @@ use Rattle.instants_prefixes.specs.declared.given.Given.{Given}
 use Rattle.instants_prefixes.specs.DateSource.{grammar_in}
 use Rattle.instants_sources.specs.Grammar.{Grammar}
 use Rattle.instants_prefixes.specs.declared.date_source.DateSource.{DateSource}
-use Rattle.instants_found.specs.Candidate.{candidate, candidates, joined, longer, longest}
+use Rattle.instants_found.specs.Candidate.{candidate, candidates, joined, longer, longest, is_whole}
 use Rattle.instants_found.specs.Kept.{kept}
 use Rattle.instants_found.specs.Within.{LiesWithin, IsWithin}
 use Rattle.instants_found.specs.Found.{at_place, from_place, of_candidates, finding}
@@ -40,27 +40,27 @@ three first one other false false false x y z = rw (x, z) refl
 -- the longest of what came before, this date and what comes after it
 pub longer_of : (before : Option Candidate) (one : Candidate) (after : Option Candidate) → best before (longer one after) ≡ best (kept before one) after
 longer_of None one None =
-    elim one.is_whole as (λ b. best None (if b then Some one else None) ≡ best (if b then Some one else None) None) [ true ↦ refl | false ↦ refl ]
+    elim (is_whole one) as (λ b. best None (if b then Some one else None) ≡ best (if b then Some one else None) None) [ true ↦ refl | false ↦ refl ]
 longer_of None one (Some other) =
-    elim one.is_whole as (λ b. best None (if b && not (nat_lt one.reach other.reach) then Some one else Some other) ≡ best (if b then Some one else None) (Some other)) [
+    elim (is_whole one) as (λ b. best None (if b && not (nat_lt one.reach other.reach) then Some one else Some other) ≡ best (if b then Some one else None) (Some other)) [
       | true ↦ elim (nat_lt one.reach other.reach) as (λ t. (if not t then Some one else Some other) ≡ (if t then Some other else Some one)) [ true ↦ refl | false ↦ refl ]
       | false ↦ refl
     ]
 longer_of (Some first) one None =
-    elim one.is_whole as (λ b. best (Some first) (if b then Some one else None) ≡ best (if b && nat_lt first.reach one.reach then Some one else Some first) None) [
+    elim (is_whole one) as (λ b. best (Some first) (if b then Some one else None) ≡ best (if b && nat_lt first.reach one.reach then Some one else Some first) None) [
       | true ↦ elim (nat_lt first.reach one.reach) as (λ t. (if t then Some one else Some first) ≡ best (if t then Some one else Some first) None) [ true ↦ refl | false ↦ refl ]
       | false ↦ refl
     ]
 longer_of (Some first) one (Some other) =
-    elim one.is_whole as (λ b. best (Some first) (if b && not (nat_lt one.reach other.reach) then Some one else Some other) ≡ best (if b && nat_lt first.reach one.reach then Some one else Some first) (Some other)) [
+    elim (is_whole one) as (λ b. best (Some first) (if b && not (nat_lt one.reach other.reach) then Some one else Some other) ≡ best (if b && nat_lt first.reach one.reach then Some one else Some first) (Some other)) [
       | true ↦ three first one other (nat_lt first.reach one.reach) (nat_lt one.reach other.reach) (nat_lt first.reach other.reach) refl refl refl
       | false ↦ refl
     ]
 
 -- what holds of what was kept and of a date holds of what is kept then
 pub kept_holds : (P : Candidate → Type 0) (before : Option Candidate) (one : Candidate) → IfSome before P → P one → IfSome (kept before one) P
-kept_holds P None one h here = elim one.is_whole as (λ b. IfSome (if b then Some one else None) P) [ true ↦ here | false ↦ tt ]
-kept_holds P (Some first) one h here = elim (one.is_whole && nat_lt first.reach one.reach) as (λ b. IfSome (if b then Some one else Some first) P) [ true ↦ here | false ↦ h ]
+kept_holds P None one h here = elim (is_whole one) as (λ b. IfSome (if b then Some one else None) P) [ true ↦ here | false ↦ tt ]
+kept_holds P (Some first) one h here = elim ((is_whole one) && nat_lt first.reach one.reach) as (λ b. IfSome (if b then Some one else Some first) P) [ true ↦ here | false ↦ h ]
 
 -- ---- sources
 
@@ -91,19 +91,19 @@ module _ (given : Given) (line : List ℕ) (start : ℕ) (sources : List DateSou
   none_read give e = sym (rw (← e) at (source_step given line start sources number source within is)) ∙ give
 
   pub first_read : (one : Candidate) → GiveAll given line start sources number → Some one ≡ candidate given line start number (grammar_in source)
-      → of_candidates (candidates given line start 0 (map grammar_in sources)) ≡ Some (finding (longest (one ∷ from_number given line start sources (number + 1))))
+      → of_candidates start (candidates given line start 0 (map grammar_in sources)) ≡ Some (finding start (longest (one ∷ from_number given line start sources (number + 1))))
   first_read one give e =
       let step = rw (← e) at (source_step given line start sources number source within is) in
       rw (sym give ∙ step) refl
 
   pub last_read : (one : Candidate) → from_number given line start sources (number + 1) ≡ [] → GiveAll given line start sources number → Some one ≡ candidate given line start number (grammar_in source)
-      → of_candidates (candidates given line start 0 (map grammar_in sources)) ≡ Some (finding (if one.is_whole then Some one else None))
+      → of_candidates start (candidates given line start 0 (map grammar_in sources)) ≡ Some (finding start (if is_whole one then Some one else None))
   unfolding longest
   last_read one none give e =
-      first_read one give e ∙ ap (λ (others : List Candidate). Some (finding (longest (one ∷ others)))) none
+      first_read one give e ∙ ap (λ (others : List Candidate). Some (finding start (longest (one ∷ others)))) none
 
-pub no_read : (given : Given) (line : List ℕ) (start : ℕ) (sources : List DateSource) (number : ℕ) → length sources ≤ number → GiveAll given line start sources number → None ≡ of_candidates (candidates given line start 0 (map grammar_in sources))
-no_read given line start sources number past give = ap of_candidates (rw (no_sources given line start sources number past) at give)
+pub no_read : (given : Given) (line : List ℕ) (start : ℕ) (sources : List DateSource) (number : ℕ) → length sources ≤ number → GiveAll given line start sources number → None ≡ of_candidates start (candidates given line start 0 (map grammar_in sources))
+no_read given line start sources number past give = ap (of_candidates start) (rw (no_sources given line start sources number past) at give)
 
 -- ---- the sources after it
 
@@ -159,6 +159,6 @@ places_end given sources line bytes start past so_far =
 
 -- ---- where dates lie
 
-pub finding_within : (line sources : ℕ) (long : Option Candidate) → IfSome long (λ (one : Candidate). LiesWithin line sources one.date) → IsWithin line sources (finding long)
-finding_within line sources None h = tt
-finding_within line sources (Some one) h = h
+pub finding_within : (line sources start : ℕ) (long : Option Candidate) → start < line → IfSome long (λ (one : Candidate). LiesWithin line sources one.date) → IsWithin line sources (finding start long)
+finding_within line sources start None within h = within
+finding_within line sources start (Some one) within h = h

@@ -1,71 +1,63 @@
--- Whether a date stands whole in its line, and nothing beside it says otherwise.
-use Rattle.std.specs.Prelude.{ℕ, ◌+◌, ◌&&◌, ◌||◌, not, Bool, List, drop, Option, None, Some, if◌then◌else◌}
+-- Why a date that a source reads at a place does not stand whole in its line, if it does not.
+use Rattle.std.specs.Prelude.{ℕ, ◌+◌, ◌&&◌, ◌||◌, not, is_some, Bool, List, drop, Option, None, Some, unwrap_or, if◌then◌else◌, pos}
 use Rattle.std.specs.Option.{is_none}
+use Rattle.parsing_components.specs.declared.fields.Record.{Record}
 use Rattle.instants_sources.specs.Grammar.{Grammar}
 use Rattle.instants_edges.specs.Edge.{is_edge, may_say}
-use Rattle.instants_edges.specs.Clock.{has_clock_beside, has_clock_before}
-use Rattle.instants_edges.specs.Offset.{has_another_offset}
-use Rattle.instants_edges.specs.Year.{has_another_year}
-use Rattle.instants_prefixes.specs.Prefix.{prefix_at}
-use Rattle.instants_prefixes.specs.Given.{year_of}
+use Rattle.instants_edges.specs.Beside.{has_another_offset, has_half_after, has_clock_beside, has_clock_before, has_another_year}
+use Rattle.instants_prefixes.specs.Given.{year_of, lacks_offset, lacks_year, lacks_time}
 use Rattle.instants_prefixes.specs.declared.given.Given.{Given}
-use Rattle.instants_prefixes.specs.declared.given.Years.TheVariants.{Unknown}
-use Rattle.instants_prefixes.specs.Reading.{text_for, prefix_named, has_unix_time}
+use Rattle.instants_prefixes.specs.Lacks.{is_known}
+use Rattle.instants_prefixes.specs.Reading.{record_at}
 use Rattle.instants_prefixes.specs.declared.prefix.Prefix.{Prefix}
-
--- ---- what is given, and said otherwise
-
--- what is given less one part
-abbrev pub without_offset : Given → Given
-without_offset given = record given { offset = None }
-
-abbrev pub without_time : Given → Given
-without_time given = record given { time = None }
-
-abbrev pub without_year : Given → Given
-without_year given = record given { years = Unknown }
-
--- no prefix of the bytes names a moment with so little given
-abbrev pub names_nothing : Given → Grammar → List ℕ → Bool
-names_nothing without grammar bytes = is_none (prefix_named without grammar (text_for grammar bytes))
-
--- the line says another offset after the date than one that was given and is needed
-abbrev pub says_another_offset : Given → Grammar → List ℕ → ℕ → Prefix → Bool
-says_another_offset given grammar line start prefix =
-    has_another_offset line (start + prefix.ends) given.offset && names_nothing (without_offset given) grammar (drop start line)
-
--- it says a clock beside a date whose time of day was given and is needed
-abbrev pub says_another_time : Given → Grammar → List ℕ → ℕ → Prefix → Bool
-says_another_time given grammar line start prefix =
-    has_clock_beside line (start + prefix.begins) (start + prefix.ends) && names_nothing (without_time given) grammar (drop start line)
-
--- it says another year beside the date than one that was given and is needed
-abbrev pub says_another_year : Given → Grammar → List ℕ → ℕ → Prefix → Bool
-says_another_year given grammar line start prefix =
-    has_another_year line (start + prefix.begins) (start + prefix.ends) (year_of prefix.moment) && names_nothing (without_year given) grammar (drop start line)
-
-unfoldable pub is_gainsaid : Given → Grammar → List ℕ → ℕ → Prefix → Bool
-is_gainsaid given grammar line start prefix =
-    says_another_offset given grammar line start prefix || says_another_time given grammar line start prefix || says_another_year given grammar line start prefix
-
--- ---- a date at a place
+use Rattle.instants_found.specs.declared.doubt.Doubt.{Doubt}
+use Rattle.instants_found.specs.declared.doubt.Doubt.TheVariants.{After, ClockBefore, AnotherOffset, AnotherTime, AnotherYear}
 
 -- a date is read there: it may say something from its beginning on, and a number of Unix time inside a word is none
 abbrev pub is_read : Grammar → List ℕ → ℕ → Prefix → Bool
 is_read grammar line start prefix =
-    may_say line (start + prefix.begins) && (is_edge line (start + prefix.all) || not (has_unix_time grammar))
+    may_say line (start + prefix.begins) && (is_edge line (start + prefix.all) || is_none (record_at grammar (drop start line)).unix_timestamp_nanos)
 
-abbrev pub if_read : Grammar → List ℕ → ℕ → Option Prefix → Option Prefix
-if_read grammar line start None = None
-if_read grammar line start (Some prefix) = if is_read grammar line start prefix then Some prefix else None
+-- ---- what is given, and said otherwise
 
--- the prefix of a date that a source reads at a place
-unfoldable pub read_at : Given → Grammar → List ℕ → ℕ → Option Prefix
-read_at given grammar line start = if_read grammar line start (prefix_at given grammar (drop start line))
+-- an offset was given to what was read, a time of day, a year
+abbrev pub needs_offset : Given → Record → Bool
+needs_offset given read = is_some given.offset && lacks_offset read
 
--- it stands whole: no word and no clock goes on after it, the line does not say otherwise beside it, and no clock stands before it and of all quotation marks, unless text of its description chose the place
-unfoldable pub stands_whole : Given → Grammar → List ℕ → ℕ → Prefix → Bool
-stands_whole given grammar line start prefix =
-    is_edge line (start + prefix.all) &&
-    (prefix.is_chosen || not (has_clock_before line (start + prefix.begins))) &&
-    not (is_gainsaid given grammar line start prefix)
+abbrev pub needs_time : Given → Record → Bool
+needs_time given read = is_some given.time && lacks_time read
+
+abbrev pub needs_year : Given → Record → Bool
+needs_year given read = is_known given.years && lacks_year read
+
+-- the line says another offset after the date than the one that was given to it
+abbrev pub says_another_offset : Given → Record → List ℕ → ℕ → Prefix → Bool
+says_another_offset given read line start prefix =
+    needs_offset given read && has_another_offset line start (start + prefix.ends) (unwrap_or given.offset (pos 0))
+
+-- it says a half of the day after a date without one and without an offset, or a clock beside one whose time of day was given
+abbrev pub says_another_time : Given → Record → List ℕ → ℕ → Prefix → Bool
+says_another_time given read line start prefix =
+    ((needs_offset given read && is_none read.hour_12_is_pm) && has_half_after line (start + prefix.ends)) ||
+    (needs_time given read && has_clock_beside line (start + prefix.begins) (start + prefix.ends))
+
+-- it says another year beside the date than the one that was given to it
+abbrev pub says_another_year : Given → Record → List ℕ → ℕ → Prefix → Bool
+says_another_year given read line start prefix =
+    needs_year given read && has_another_year line (start + prefix.begins) (start + prefix.ends) (year_of prefix.moment)
+
+-- what the line says otherwise beside a date than what was given for it, the first of these; a number of Unix time needs nothing
+unfoldable pub otherwise : Given → Record → List ℕ → ℕ → Prefix → Option Doubt
+otherwise given read line start prefix =
+    if is_some read.unix_timestamp_nanos then None
+    else if says_another_offset given read line start prefix then Some AnotherOffset
+    else if says_another_time given read line start prefix then Some AnotherTime
+    else if says_another_year given read line start prefix then Some AnotherYear
+    else None
+
+-- why a date does not stand whole, the first of these: a word or a clock goes on after it, a clock stands before it and text of its description did not choose the place, or the line says otherwise beside it
+unfoldable pub why : Given → Grammar → List ℕ → ℕ → Prefix → Option Doubt
+why given grammar line start prefix =
+    if not (is_edge line (start + prefix.all)) then Some After
+    else if not prefix.is_chosen && has_clock_before line (start + prefix.begins) then Some ClockBefore
+    else otherwise given (record_at grammar (drop start line)) line start prefix

@@ -3,7 +3,7 @@ use Rattle.std.specs.Prelude.{◌≡◌, ◌<◌, ◌≤◌, ◌⊎◌, ℕ, tru
 use Rattle.instants_sources.specs.Grammar.{Grammar}
 use Rattle.instants_edges.specs.Edge.{is_edge}
 use Rattle.instants_prefixes.specs.declared.given.Given.{Given}
-use Rattle.instants_found.specs.Candidate.{candidate}
+use Rattle.instants_found.specs.Candidate.{candidate, is_whole}
 use Rattle.instants_found.specs.declared.candidate.Candidate.{Candidate}
 use Rattle.instants_found.specs.declared.found.Finding.{Finding}
 use Rattle.instants_found.specs.declared.found.Finding.TheVariants.{Doubtful, There}
@@ -27,21 +27,20 @@ pub record IsLongest (limit : ℕ) (given : Given) (sources : List Grammar) (lin
   pub near : place < limit
   pub here : IsReadAt given sources line place number date
   pub least : NoneBefore given sources line place
-  pub whole : date.is_whole ≡ true
-  pub longest : (other : Candidate) (later : ℕ) → IsReadAt given sources line place later other → other.is_whole ≡ true → (other.reach < date.reach) ⊎ ((other.reach ≡ date.reach) × (number ≤ later))
+  pub whole : is_whole date ≡ true
+  pub longest : (other : Candidate) (later : ℕ) → IsReadAt given sources line place later other → is_whole other ≡ true → (other.reach < date.reach) ⊎ ((other.reach ≡ date.reach) × (number ≤ later))
 
 -- at the least place at which a source reads a date none stands whole
-pub record IsDoubtful (limit : ℕ) (given : Given) (sources : List Grammar) (line : List ℕ) : Type 0 where
-  pub place : ℕ
+pub record IsDoubtful (limit : ℕ) (given : Given) (sources : List Grammar) (line : List ℕ) (place : ℕ) : Type 0 where
   pub number : ℕ
   pub date : Candidate
   pub near : place < limit
   pub here : IsReadAt given sources line place number date
   pub least : NoneBefore given sources line place
-  pub none : (other : Candidate) (later : ℕ) → IsReadAt given sources line place later other → other.is_whole ≡ true → ⊥
+  pub none : (other : Candidate) (later : ℕ) → IsReadAt given sources line place later other → is_whole other ≡ true → ⊥
 
 -- what is found is the longest date at the least place, or that it is in doubt, or that none is read at the first places
 abbrev pub IsFound : ℕ → Given → List Grammar → List ℕ → Option Finding → Type 0
 IsFound limit given sources line (Some (There found)) = (date : Candidate) × IsLongest limit given sources line date × (date.date ≡ found)
-IsFound limit given sources line (Some Doubtful) = IsDoubtful limit given sources line
+IsFound limit given sources line (Some (Doubtful place)) = IsDoubtful limit given sources line place
 IsFound limit given sources line None = NoneBefore given sources line limit

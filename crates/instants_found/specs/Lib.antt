@@ -3,6 +3,7 @@ pub mod Candidate
 pub mod Kept
 pub mod Found
 pub mod Doubts
+pub mod Said
 pub mod Within
 pub mod IsFound
 pub mod Ranges

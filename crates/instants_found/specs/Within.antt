@@ -1,5 +1,5 @@
 -- Where a date that is found lies.
-use Rattle.std.specs.Prelude.{◌<◌, ◌≤◌, ℕ, ⊤}
+use Rattle.std.specs.Prelude.{◌<◌, ◌≤◌, ℕ}
 use Rattle.instants_found.specs.declared.found.Found.{Found}
 use Rattle.instants_found.specs.declared.found.Finding.{Finding}
 use Rattle.instants_found.specs.declared.found.Finding.TheVariants.{Doubtful, There}
@@ -11,5 +11,5 @@ pub record LiesWithin (line sources : ℕ) (date : Found) : Type 0 where
   pub source : date.source < sources
 
 abbrev pub IsWithin : ℕ → ℕ → Finding → Type 0
-IsWithin line sources Doubtful = ⊤
+IsWithin line sources (Doubtful place) = place < line
 IsWithin line sources (There date) = LiesWithin line sources date

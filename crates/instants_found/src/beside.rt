@@ -1,20 +1,22 @@
 //! Whether a date stands whole in its line, and nothing beside it says otherwise.
-ghost use Rattle.std.specs.Prelude.{◌≡◌, ◌<◌, ◌≤◌, ◌+◌, ◌&&◌, not, true, false, drop, length, Some, IfSome, is_some};
-ghost use Rattle.instants_edges.specs.Clock.{has_clock_before};
+ghost use Rattle.std.specs.Prelude.{◌≡◌, ◌<◌, ◌≤◌, ◌+◌, ◌&&◌, not, true, false, drop, length, is_some};
+ghost use Rattle.instants_edges.specs.Beside.{has_clock_before};
 ghost use Rattle.instants_edges.specs.Edge.{is_edge};
-ghost use Rattle.instants_prefixes.specs.Prefix.{prefix_at};
-ghost use Rattle.instants_prefixes.specs.DateSource.{grammar_in, IsWithin};
+ghost use Rattle.instants_prefixes.specs.DateSource.{grammar_in};
+ghost use Rattle.instants_prefixes.specs.Reading.{record_at};
 ghost use Rattle.instants_prefixes.specs.declared.given.Years.TheVariants.{Unknown};
 ghost use Rattle.instants_found.specs.Beside as Beside;
-ghost use Rattle.instants_found.specs.Beside.{read_at};
-ghost use Rattle.instants_found.specs.Doubts as Doubts;
+ghost use Rattle.instants_found.specs.Said.{IsSaid, doubt_by, says_year};
 
 use crate::doubt::Doubt;
+use calendar::UtcOffset;
 use datetime_types::WallClock;
 use instants_edges::{
-    has_another_offset, has_another_year, has_clock_before, has_clock_beside, is_edge, may_say,
+    has_another_offset, has_another_year, has_clock_before, has_clock_beside, has_half_after,
+    is_edge, may_say,
 };
-use instants_prefixes::{DateSource, Given, Prefix, Years};
+use instants_prefixes::{DateSource, Given, Prefix, Years, lacks_time, lacks_year};
+use parsing_record::Parsed;
 
 /// The bytes from a place on.
 #[inline(always)]
@@ -26,121 +28,102 @@ pub(crate) fn after(line: &[u8], start: usize) -> &[u8]
     &line[start..]
 }
 
+// Whether what a source read is no number of Unix time.
+#[inline(never)]
+fn is_no_unix_time(source: &DateSource<'_>, bytes: &[u8]) -> bool
+    ensures { result
+        ≡ not (is_some (record_at (grammar_in source.now) bytes.now).unix_timestamp_nanos) }
+{
+    source.record(bytes).unix_timestamp_nanos().is_none()
+}
+
 /// Whether what a source read at a place may be a date: it may say something there, and a number of Unix time inside a word is
 /// none.
 #[inline(always)]
 pub(crate) fn is_read(source: &DateSource<'_>, line: &[u8], start: usize, prefix: &Prefix) -> bool
+    requires within { start < length line.now }
     requires begins { start + prefix.now.begins ≤ length line.now }
     requires all { start + prefix.now.all ≤ length line.now }
     ensures { result ≡ Beside.is_read (grammar_in source.now) line.now start prefix.now }
 {
-    may_say(line, start + prefix.begins)
-        && (!source.has_unix_time() || is_edge(line, start + prefix.all))
-}
-
-/// The prefix of a date that a source reads at a place.
-#[inline(always)]
-#[tactic(auto, unfolding(crate::specs::Beside::read_at))]
-pub(crate) fn read_at(
-    source: &DateSource<'_>,
-    given: &Given,
-    line: &[u8],
-    start: usize,
-) -> Option<Prefix>
-    requires { start < length line.now }
-    ensures is { result ≡ read_at given.now (grammar_in source.now) line.now start }
-    ensures prefix { IfSome result (λ prefix. prefix_at given.now (grammar_in source.now) (drop start line.now) ≡ Some prefix) }
-    ensures within { IfSome result (IsWithin (drop start line.now)) }
-{
-    let Some(prefix) = source.read(after(line, start), given) else {
-        return None;
-    };
-    if is_read(source, line, start, &prefix) {
-        Some(prefix)
-    } else {
-        None
-    }
-}
-
-// Whether the line says another offset after the date than one that was given and is needed.
-#[inline(always)]
-fn says_another_offset(
-    source: &DateSource<'_>,
-    given: &Given,
-    line: &[u8],
-    start: usize,
-    prefix: &Prefix,
-) -> bool
-    requires within { start < length line.now }
-    requires ends { start + prefix.now.ends ≤ length line.now }
-    requires read { prefix_at given.now (grammar_in source.now) (drop start line.now) ≡ Some prefix.now }
-    ensures { result ≡ Beside.says_another_offset given.now (grammar_in source.now) line.now start prefix.now }
-{
-    if given.offset.is_none() || !has_another_offset(line, start + prefix.ends, given.offset) {
+    if !may_say(line, start + prefix.begins) {
         return false;
     }
-    let without = Given {
-        offset: None,
-        years: given.years,
-        time: given.time,
-    };
-    source.needs(after(line, start), &without)
-}
-
-// Whether the line says a clock beside a date whose time of day was given and is needed.
-#[inline(always)]
-fn says_another_time(
-    source: &DateSource<'_>,
-    given: &Given,
-    line: &[u8],
-    start: usize,
-    prefix: &Prefix,
-) -> bool
-    requires within { start < length line.now }
-    requires begins { start + prefix.now.begins ≤ length line.now }
-    requires ends { start + prefix.now.ends ≤ length line.now }
-    requires read { prefix_at given.now (grammar_in source.now) (drop start line.now) ≡ Some prefix.now }
-    ensures { result ≡ Beside.says_another_time given.now (grammar_in source.now) line.now start prefix.now }
-{
-    if given.time.is_none() || !has_clock_beside(line, start + prefix.begins, start + prefix.ends) {
-        return false;
+    if !source.may_read_unix_time() || is_edge(line, start + prefix.all) {
+        return true;
     }
-    let without = Given {
-        offset: given.offset,
-        years: given.years,
-        time: None,
-    };
-    source.needs(after(line, start), &without)
+    is_no_unix_time(source, after(line, start))
 }
 
-// Whether the line says another year beside the date than one that was given and is needed.
+/// What a line says beside a date, where something was given that it may say otherwise.
+#[derive(Clone, Copy)]
+pub(crate) struct Said {
+    offset: bool,
+    half: bool,
+    clock: bool,
+    year: bool,
+}
+
+// Whether a year is said beside a date, and another one than the one given.
 #[inline(always)]
-fn says_another_year(
-    source: &DateSource<'_>,
-    given: &Given,
-    line: &[u8],
-    start: usize,
-    prefix: &Prefix,
-) -> bool
-    requires within { start < length line.now }
+fn says_year(given: &Given, line: &[u8], start: usize, prefix: &Prefix) -> bool
     requires begins { start + prefix.now.begins ≤ length line.now }
     requires ends { start + prefix.now.ends ≤ length line.now }
-    requires read { prefix_at given.now (grammar_in source.now) (drop start line.now) ≡ Some prefix.now }
-    ensures { result ≡ Beside.says_another_year given.now (grammar_in source.now) line.now start prefix.now }
+    ensures { result ≡ says_year given.now line.now start prefix.now }
 {
     if let Years::Unknown = given.years {
         return false;
     }
     let year = prefix.moment.moment().year();
-    if !has_another_year(line, start + prefix.begins, start + prefix.ends, year) {
-        return false;
+    has_another_year(line, start + prefix.begins, start + prefix.ends, year)
+}
+
+impl Said {
+    // What a line says beside a date that is read at a place.
+    fn beside(given: &Given, line: &[u8], start: usize, prefix: &Prefix) -> Said
+        requires begins { start + prefix.now.begins ≤ length line.now }
+        requires ends { start + prefix.now.ends ≤ length line.now }
+        ensures { IsSaid given.now line.now start prefix.now result }
+    {
+        let (begins, ends) = (start + prefix.begins, start + prefix.ends);
+        let offset = given.offset.unwrap_or(UtcOffset::UTC);
+        let has_offset = given.offset.is_some();
+        Said {
+            offset: has_offset && has_another_offset(line, start, ends, offset),
+            half: has_offset && has_half_after(line, ends),
+            clock: given.time.is_some() && has_clock_beside(line, begins, ends),
+            year: says_year(given, line, start, prefix),
+        }
     }
-    let without = Given {
-        offset: given.offset,
-        years: Years::Unknown,
-        time: given.time,
-    };
-    source.needs(after(line, start), &without)
+
+    // Whether it says nothing.
+    #[inline(always)]
+    fn is_nothing(&self) -> bool
+        ensures { result ≡ not (self.now.offset || self.now.half || self.now.clock || self.now.year) }
+    {
+        !(self.offset || self.half || self.clock || self.year)
+    }
+
+    // The doubt that it makes of what was read: a number of Unix time needs nothing that was given.
+    fn doubt(&self, read: &Parsed) -> Option<Doubt>
+        ensures { result ≡ doubt_by self.now read.now }
+    {
+        if read.unix_timestamp_nanos().is_some() {
+            return None;
+        }
+        let lacks_offset = read.offset_hour().is_none();
+        if lacks_offset && self.offset {
+            return Some(Doubt::AnotherOffset);
+        }
+        let lacks_half = lacks_offset && read.hour_12_is_pm().is_none();
+        if (lacks_half && self.half) || (self.clock && lacks_time(read)) {
+            return Some(Doubt::AnotherTime);
+        }
+        if self.year && lacks_year(read) {
+            return Some(Doubt::AnotherYear);
+        }
+        None
+    }
 }
 
 /// Whether nothing is given.
@@ -153,9 +136,8 @@ pub(crate) fn gives_nothing(given: &Given) -> bool
     given.offset.is_none() && given.time.is_none() && matches!(given.years, Years::Unknown)
 }
 
-// What the line says otherwise beside a date than what was given for it.
+// What the line says otherwise beside a date than what was given for it. What was read is asked only where it says something.
 #[inline(never)]
-#[tactic(auto, unfolding(crate::specs::Doubts::otherwise))]
 fn otherwise(
     source: &DateSource<'_>,
     given: &Given,
@@ -166,25 +148,19 @@ fn otherwise(
     requires within { start < length line.now }
     requires begins { start + prefix.now.begins ≤ length line.now }
     requires ends { start + prefix.now.ends ≤ length line.now }
-    requires read { prefix_at given.now (grammar_in source.now) (drop start line.now) ≡ Some prefix.now }
-    ensures { result ≡ Doubts.otherwise given.now (grammar_in source.now) line.now start prefix.now }
+    ensures { result ≡ Beside.otherwise given.now (record_at (grammar_in source.now) (drop start line.now)) line.now start prefix.now }
 {
-    if says_another_offset(source, given, line, start, prefix) {
-        return Some(Doubt::AnotherOffset);
+    let said = Said::beside(given, line, start, prefix);
+    if said.is_nothing() {
+        return None;
     }
-    if says_another_time(source, given, line, start, prefix) {
-        return Some(Doubt::AnotherTime);
-    }
-    if says_another_year(source, given, line, start, prefix) {
-        return Some(Doubt::AnotherYear);
-    }
-    None
+    said.doubt(&source.record(after(line, start)))
 }
 
 /// Why the date that a source reads at a place does not stand whole there, if it does not. The line can say nothing otherwise
 /// where nothing is given.
 #[inline(always)]
-#[tactic(auto, unfolding(crate::specs::Doubts::why))]
+#[tactic(auto, unfolding(crate::specs::Beside::why))]
 pub(crate) fn why(
     source: &DateSource<'_>,
     given: &Given,
@@ -196,8 +172,7 @@ pub(crate) fn why(
     requires begins { start + prefix.now.begins ≤ length line.now }
     requires ends { start + prefix.now.ends ≤ length line.now }
     requires all { start + prefix.now.all ≤ length line.now }
-    requires read { prefix_at given.now (grammar_in source.now) (drop start line.now) ≡ Some prefix.now }
-    ensures { result ≡ Doubts.why given.now (grammar_in source.now) line.now start prefix.now }
+    ensures { result ≡ Beside.why given.now (grammar_in source.now) line.now start prefix.now }
 {
     if !is_edge(line, start + prefix.all) {
         return Some(Doubt::After);
@@ -229,23 +204,4 @@ pub(crate) fn stands_apart(line: &[u8], start: usize, prefix: &Prefix) -> bool
         return true;
     }
     !has_clock_before(line, start + prefix.begins)
-}
-
-/// Whether the date that a source reads at a place stands whole there.
-#[inline(always)]
-pub(crate) fn stands_whole(
-    source: &DateSource<'_>,
-    given: &Given,
-    line: &[u8],
-    start: usize,
-    prefix: &Prefix,
-) -> bool
-    requires within { start < length line.now }
-    requires begins { start + prefix.now.begins ≤ length line.now }
-    requires ends { start + prefix.now.ends ≤ length line.now }
-    requires all { start + prefix.now.all ≤ length line.now }
-    requires read { prefix_at given.now (grammar_in source.now) (drop start line.now) ≡ Some prefix.now }
-    ensures { result ≡ Beside.stands_whole given.now (grammar_in source.now) line.now start prefix.now }
-{
-    why(source, given, line, start, prefix).is_none()
 }

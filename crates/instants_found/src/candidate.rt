@@ -2,9 +2,11 @@
 ghost use Rattle.std.specs.Prelude.{◌≡◌, ◌<◌, ◌≤◌, ◌+◌, ◌^◌, drop, length, IfSome};
 ghost use Rattle.instants_prefixes.specs.DateSource.{grammar_in, IsWithin};
 ghost use Rattle.instants_found.specs.Candidate as Candidates;
+ghost use Rattle.instants_found.specs.Doubts.{doubted};
 ghost use Rattle.instants_found.specs.Kept.{kept};
 
-use crate::beside::{read_at, stands_whole};
+use crate::beside::{after, is_read, why};
+use crate::doubt::{Doubt, Doubted};
 use crate::found::Found;
 use instants_edges::reach;
 use instants_prefixes::{DateSource, Given, Prefix};
@@ -15,7 +17,8 @@ pub(crate) struct Candidate {
     pub(crate) date: Found,
     // How far it reaches for sure.
     pub(crate) reach: usize,
-    pub(crate) is_whole: bool,
+    // Why it does not stand whole, if it does not.
+    pub(crate) doubt: Option<Doubt>,
 }
 
 /// The date of a prefix that the source of this number reads at a place.
@@ -33,18 +36,18 @@ pub(crate) fn found_at(start: usize, number: usize, prefix: Prefix) -> Found
     }
 }
 
-/// The date of a prefix that the source of this number reads at a place, with how far it reaches, and whether it stands whole.
+/// The date of a prefix that the source of this number reads at a place, with how far it reaches and its doubt.
 #[inline(always)]
 pub(crate) fn candidate_with(
     line: &[u8],
     start: usize,
     number: usize,
     prefix: Prefix,
-    is_whole: bool,
+    doubt: Option<Doubt>,
 ) -> Candidate
     requires within { start < length line.now }
     requires prefix { IsWithin (drop start line.now) prefix }
-    ensures { result ≡ Candidates.candidate_with line.now start number prefix is_whole }
+    ensures { result ≡ Candidates.candidate_with line.now start number prefix doubt }
 {
     let (begins, ends, zone) = (
         start + prefix.begins,
@@ -55,12 +58,12 @@ pub(crate) fn candidate_with(
     Candidate {
         date: found_at(start, number, prefix),
         reach,
-        is_whole,
+        doubt,
     }
 }
 
 /// The date that a source of this number reads at a place.
-#[tactic(auto, unfolding(crate::specs::Candidate::candidate, crate::specs::Beside::read_at))]
+#[tactic(auto, unfolding(crate::specs::Candidate::candidate))]
 pub(crate) fn read_candidate(
     source: &DateSource<'_>,
     given: &Given,
@@ -75,11 +78,14 @@ pub(crate) fn read_candidate(
     ensures end { IfSome result (λ one. one.date.end ≤ length line.now) }
     ensures source { IfSome result (λ one. one.date.source ≡ number) }
 {
-    let Some(prefix) = read_at(source, given, line, start) else {
+    let Some(prefix) = source.read(after(line, start), given) else {
         return None;
     };
-    let is_whole = stands_whole(source, given, line, start, &prefix);
-    Some(candidate_with(line, start, number, prefix, is_whole))
+    if !is_read(source, line, start, &prefix) {
+        return None;
+    }
+    let doubt = why(source, given, line, start, &prefix);
+    Some(candidate_with(line, start, number, prefix, doubt))
 }
 
 /// Of a date that stands whole and another one the one that stands whole and reaches further, and of equals the first.
@@ -88,10 +94,35 @@ pub(crate) fn longer(one: Option<Candidate>, other: Candidate) -> Option<Candida
     ensures { result ≡ kept one other }
 {
     let Some(best) = one else {
-        return if other.is_whole { Some(other) } else { None };
+        return if other.doubt.is_none() { Some(other) } else { None };
     };
-    if other.is_whole && best.reach < other.reach {
+    if other.doubt.is_none() && best.reach < other.reach {
         return Some(other);
     }
     Some(best)
+}
+
+/// The date that a source reads at a place, if it is in doubt.
+pub(crate) fn doubted_at(
+    source: &DateSource<'_>,
+    given: &Given,
+    line: &[u8],
+    start: usize,
+    number: usize,
+) -> Option<Doubted>
+    requires { start < length line.now }
+    ensures is { result
+        ≡ doubted (Candidates.candidate given.now line.now start number (grammar_in source.now)) }
+    ensures start { IfSome result (λ date. date.start ≤ length line.now) }
+    ensures end { IfSome result (λ date. date.end ≤ length line.now) }
+{
+    let Some(one) = read_candidate(source, given, line, start, number) else {
+        return None;
+    };
+    let doubt = one.doubt?;
+    Some(Doubted {
+        start: one.date.start,
+        end: one.date.end,
+        doubt,
+    })
 }

@@ -7,20 +7,21 @@ ghost use Rattle.instants_found.specs.Found.{at_place, finding, of_candidates};
 ghost use Rattle.instants_found.specs.Within as Within;
 ghost use Rattle.instants_found.specs.declared.found.Finding.TheVariants.{There};
 
-use crate::beside::{after, gives_nothing, is_read, stands_apart, stands_whole};
+use crate::beside::{after, gives_nothing, is_read, stands_apart, why};
 use crate::candidate::{Candidate, candidate_with, found_at, longer, read_candidate};
+use crate::doubt::Doubt;
 use crate::found::{Finding, Found};
 use instants_edges::is_edge;
 use instants_prefixes::{DateSource, Given, Prefix, lacks_byte, rules_out};
 
-// What is found where some date is read, by the longest that stands whole.
+// What is found where some date is read at a place, by the longest that stands whole.
 #[inline(always)]
-fn finding(longest: Option<Candidate>) -> Finding
-    ensures { result ≡ finding longest }
+fn finding(start: usize, longest: Option<Candidate>) -> Finding
+    ensures { result ≡ finding start longest }
 {
     match longest {
         Some(one) => Finding::There(one.date),
-        None => Finding::Doubtful,
+        None => Finding::Doubtful(start),
     }
 }
 
@@ -33,17 +34,17 @@ fn with_others(
     start: usize,
     number: usize,
     prefix: Prefix,
-    is_whole: bool,
+    doubt: Option<Doubt>,
 ) -> Finding
     requires start { start < length line.now }
     requires number { number < length sources.now }
     requires prefix { IsWithin (drop start line.now) prefix }
-    ensures found { result ≡ finding (longest (candidate_with line.now start number prefix is_whole
+    ensures found { result ≡ finding start (longest (candidate_with line.now start number prefix doubt
         ∷ candidates given.now line.now start (number + 1) (map grammar_in (drop (number + 1) sources.now)))) }
     ensures within { Within.IsWithin (length line.now) (length sources.now) result }
 {
     let bytes = after(line, start);
-    let one = candidate_with(line, start, number, prefix, is_whole);
+    let one = candidate_with(line, start, number, prefix, doubt);
     let mut longest = longer(None, one);
     for number in number + 1..sources.len() {
         let source = &sources[number];
@@ -54,7 +55,7 @@ fn with_others(
             longest = longer(longest, other);
         }
     }
-    finding(longest)
+    finding(start, longest)
 }
 
 // The sources from a number on.
@@ -96,7 +97,7 @@ fn by_sources(
     start: usize,
 ) -> Option<Finding>
     requires { start < length line.now }
-    ensures found { result ≡ of_candidates
+    ensures found { result ≡ of_candidates start
         (candidates given.now line.now start 0 (map grammar_in sources.now)) }
     ensures within { IfSome result (Within.IsWithin (length line.now) (length sources.now)) }
 {
@@ -112,12 +113,12 @@ fn by_sources(
         if !is_read(source, line, start, &prefix) {
             continue;
         }
-        let is_whole = stands_whole(source, given, line, start, &prefix);
+        let doubt = why(source, given, line, start, &prefix);
         if others_may_read(sources, number + 1, bytes) {
-            return Some(with_others(sources, given, line, start, number, prefix, is_whole));
+            return Some(with_others(sources, given, line, start, number, prefix, doubt));
         }
-        if !is_whole {
-            return Some(Finding::Doubtful);
+        if doubt.is_some() {
+            return Some(Finding::Doubtful(start));
         }
         return Some(Finding::There(found_at(start, number, prefix)));
     }
@@ -162,7 +163,7 @@ fn plain_by_sources(
 ) -> Option<Found>
     requires { start < length line.now }
     ensures { IfSome result (λ date. Some (There date)
-        ≡ of_candidates (candidates given.now line.now start 0 (map grammar_in sources.now))) }
+        ≡ of_candidates start (candidates given.now line.now start 0 (map grammar_in sources.now))) }
 {
     let bytes = after(line, start);
     for number in 0..sources.len() {

@@ -18,8 +18,8 @@ pub struct Found {
 /// What a line has where a source reads a date in it.
 #[derive(Drop)]
 pub enum Finding {
-    /// A date is read at some place, and none that begins there stands whole.
-    Doubtful,
+    /// Dates are read at this place, and none of them stands whole.
+    Doubtful(usize),
     /// The date of the line.
     There(Found),
 }

@@ -1,28 +1,25 @@
 //! Laws that follow from the definitions, each the contract of a function here.
 ghost use Rattle.std.specs.Prelude.{◌≡◌, ◌+◌, ◌<◌, ◌≤◌, ◌*◌, ℕ, Option, Some, List, ◌++◌, length, take};
 ghost use Rattle.instants_sources.specs.Grammar.{Grammar};
-ghost use Rattle.std.specs.Option.{is_none};
-ghost use Rattle.instants_prefixes.specs.declared.prefix.Prefix.{Prefix};
 ghost use Rattle.instants_prefixes.specs.declared.given.Given.{Given};
 ghost use Rattle.instants_prefixes.specs.Reading.{text_for, window};
-ghost use Rattle.instants_found.specs.Beside.{stands_whole};
-ghost use Rattle.instants_found.specs.Doubts.{HasDoubt, why};
-ghost use Rattle.instants_found.specs.Found.{found};
+ghost use Rattle.instants_found.specs.Doubts.{HasDoubt};
+ghost use Rattle.instants_found.specs.Found.{found, looked_at};
 ghost use Rattle.instants_found.specs.IsFound.{IsFound};
 ghost use Rattle.instants_found.specs.Tried.{nodes_of, tried_from};
 ghost use Rattle.instants_found.specs.declared.found.Found.{Found};
 ghost use Rattle.instants_found.specs.declared.found.Finding.{Finding};
 ghost use Rattle.instants_found.specs.declared.found.Finding.TheVariants.{Doubtful, There};
 
-/// What is found, and nothing else, is the longest date that stands whole at the least place of the line at which a source reads
-/// one, or that it is in doubt. Where nothing is found no source reads a date at any of the first places.
-#[tactic(auto, using(crate::proofs::FirstFound::is_found, crate::proofs::OneFound::only_found))]
+/// What is found, and nothing else, is the longest date that stands whole at the least place of the bytes that are looked at, at
+/// which a source reads one, or that it is in doubt. Where nothing is found no source reads a date at any of the first places.
+#[tactic(auto, using(crate::proofs::FirstFound::first_found, crate::proofs::OneFound::only_found))]
 pub fn longest_date()
     ensures is { (limit : ℕ) (given : Given) (sources : List Grammar) (line : List ℕ)
-        → IsFound limit given sources line (found limit given sources line) }
+        → IsFound limit given sources (looked_at limit line) (found limit given sources line) }
     ensures only { (limit : ℕ) (given : Given) (sources : List Grammar) (line : List ℕ)
         (finding : Option Finding)
-        → IsFound limit given sources line finding
+        → IsFound limit given sources (looked_at limit line) finding
         → finding ≡ found limit given sources line }
 {}
 
@@ -42,14 +39,12 @@ pub fn looks_near()
         → found limit given sources (line ++ rest) ≡ found limit given sources line }
 {}
 
-/// A date stands whole exactly where there is no reason against it. Where the date of a line is in doubt some source reads a date
-/// there that is.
-#[tactic(auto, using(crate::proofs::Doubts::whole_if, crate::proofs::DoubtOf::has_doubt))]
+/// Where the date of a line is in doubt some source reads a date at that place that is.
+#[tactic(auto, using(crate::proofs::DoubtOf::has_doubt))]
 pub fn doubts()
-    ensures whole { (given : Given) (grammar : Grammar) (line : List ℕ) (start : ℕ) (prefix : Prefix)
-        → stands_whole given grammar line start prefix ≡ is_none (why given grammar line start prefix) }
-    ensures some { (limit : ℕ) (given : Given) (sources : List Grammar) (line : List ℕ)
-        → found limit given sources line ≡ Some Doubtful → HasDoubt limit given sources line }
+    ensures { (limit : ℕ) (given : Given) (sources : List Grammar) (line : List ℕ) (place : ℕ)
+        → found limit given sources line ≡ Some (Doubtful place)
+        → HasDoubt limit given sources line place }
 {}
 
 /// Finding tries at most so many items as places are looked at, times the nodes of the sources, and each item is given no more

@@ -1,10 +1,10 @@
 //! The calls of a finder.
-ghost use Rattle.std.specs.Prelude.{◌≡◌, ◌<◌, ◌≤◌, ◌+◌, length, map, min, take, false, None, Some, All, IfOk, IfSome, IfNone};
+ghost use Rattle.std.specs.Prelude.{◌≡◌, ◌<◌, ◌≤◌, ◌+◌, length, map, min, false, None, Some, All, IfOk, IfSome, IfNone};
 ghost use Rattle.instants_prefixes.specs.declared.given.Given.{Given};
 ghost use Rattle.instants_prefixes.specs.DateSource.{grammar_in};
 ghost use Rattle.instants_sources.specs.Grammar.{grammar_of};
-ghost use Rattle.instants_found.specs.Found.{found};
-ghost use Rattle.instants_found.specs.Doubts.{doubt_of, first_read};
+ghost use Rattle.instants_found.specs.Found.{found, found_in, looked_at};
+ghost use Rattle.instants_found.specs.Doubts.{doubt_of};
 ghost use Rattle.instants_found.specs.Finder.{limit_of, sources_of};
 ghost use Rattle.instants_found.specs.Keys.{IsKeyedBy, NeedsFour};
 ghost use Rattle.instants_found.specs.Marks.{AreMarks};
@@ -13,7 +13,8 @@ ghost use Rattle.instants_found.specs.Within.{IsWithin};
 ghost use Rattle.instants_found.specs.declared.found.Finding.TheVariants.{There};
 
 use crate::beside::after;
-use crate::doubt::{Doubted, doubted_at};
+use crate::candidate::doubted_at;
+use crate::doubt::Doubted;
 use crate::finder::Finder;
 use crate::finding::{at_place, may_read, plain_at};
 use crate::found::{Finding, Found};
@@ -25,6 +26,9 @@ use instants_edges::is_edge;
 use instants_prefixes::{DateSource, Given};
 use instants_sources::Source;
 use std::alloc::{AllocError, Global};
+
+// How far behind the last place at which a date may begin bytes are looked at: a date's window, and what may stand beside it.
+const BEYOND: usize = 320;
 
 impl<'a> Finder<'a> {
     /// A finder of dates by these sources in order, which begin at one of so many first places of a line. The error says that
@@ -255,6 +259,18 @@ impl<'a> Finder<'a> {
         self.by_blocks(marks, line, from)
     }
 
+    // The bytes of a line that are looked at.
+    #[inline(always)]
+    fn looked_at<'l>(&self, line: &'l [u8]) -> &'l [u8]
+        ensures { result.now ≡ looked_at (limit_of self.now) line.now }
+    {
+        if line.len() > self.limit && line.len() - self.limit > BEYOND {
+            &line[..self.limit + BEYOND]
+        } else {
+            line
+        }
+    }
+
     /// How many bytes at the start of a line are passed over, since no date begins at them: `None` where none begins in the
     /// whole line, or at its places up to the limit. `Some` says nothing of what stands after them, and not that they are all such
     /// bytes.
@@ -262,19 +278,19 @@ impl<'a> Finder<'a> {
     pub fn undated_len(&self, line: &[u8]) -> Option<usize>
         ensures none { IfNone result ((given : Given)
             → found (limit_of self.now) given (sources_of self.now) line.now ≡ None) }
-        ensures within { IfSome result (λ start. start < length line.now) }
-        ensures passed { IfSome result (HasNoDate (sources_of self.now) line.now 0) }
+        ensures within { IfSome result (λ start. start < length (looked_at (limit_of self.now) line.now)) }
+        ensures passed { IfSome result
+            (HasNoDate (sources_of self.now) (looked_at (limit_of self.now) line.now) 0) }
     {
-        self.next_start(line, 0)
+        self.next_start(self.looked_at(line), 0)
     }
 
-    /// The date of a line with what is given, where none begins before a place, as `find` finds it: `undated_len` gives such a
-    /// place. The two calls are for a caller that makes room for a date only where one may begin.
+    // The date of the bytes that are looked at, where none begins before a place.
     #[inline(always)]
-    pub fn find_from(&self, given: &Given, line: &[u8], first: usize) -> Option<Finding>
+    fn find_in(&self, given: &Given, line: &[u8], first: usize) -> Option<Finding>
         requires within { first < length line.now }
         requires passed { HasNoDate (sources_of self.now) line.now 0 first }
-        ensures found { result ≡ found (limit_of self.now) given.now (sources_of self.now) line.now }
+        ensures found { result ≡ found_in (limit_of self.now) given.now (sources_of self.now) line.now }
         ensures within { IfSome result (IsWithin (length line.now) (length (sources_of self.now))) }
     {
         let end = self.end(line);
@@ -291,20 +307,34 @@ impl<'a> Finder<'a> {
         None
     }
 
+    /// The date of a line with what is given, where none begins before a place, as `find` finds it: `undated_len` gives such a
+    /// place. The two calls are for a caller that makes room for a date only where one may begin.
+    #[inline(always)]
+    #[tactic(auto, unfolding(crate::specs::Found::found))]
+    pub fn find_from(&self, given: &Given, line: &[u8], first: usize) -> Option<Finding>
+        requires within { first < length (looked_at (limit_of self.now) line.now) }
+        requires passed { HasNoDate (sources_of self.now) (looked_at (limit_of self.now) line.now) 0 first }
+        ensures found { result ≡ found (limit_of self.now) given.now (sources_of self.now) line.now }
+        ensures within { IfSome result
+            (IsWithin (length (looked_at (limit_of self.now) line.now)) (length (sources_of self.now))) }
+    {
+        self.find_in(given, self.looked_at(line), first)
+    }
+
     /// The date of a line with what is given, where none begins before a place and the date there is found at once: nothing is
     /// given, a plan reads it, and it stands whole. `None` says nothing of the line. A caller that looks here first has the
     /// date's fields without room in memory for all that `find_from` may find.
     #[inline(always)]
     pub fn plain_date(&self, given: &Given, line: &[u8], first: usize) -> Option<Found>
-        requires within { first < length line.now }
-        requires passed { HasNoDate (sources_of self.now) line.now 0 first }
+        requires within { first < length (looked_at (limit_of self.now) line.now) }
+        requires passed { HasNoDate (sources_of self.now) (looked_at (limit_of self.now) line.now) 0 first }
         ensures { IfSome result (λ date.
             Some (There date) ≡ found (limit_of self.now) given.now (sources_of self.now) line.now) }
     {
         if first >= self.limit {
             return None;
         }
-        let Some(date) = plain_at(self.sources.as_slice(), given, line, first) else {
+        let Some(date) = plain_at(self.sources.as_slice(), given, self.looked_at(line), first) else {
             return None;
         };
         Some(date)
@@ -317,7 +347,8 @@ impl<'a> Finder<'a> {
     #[inline(always)]
     pub fn find(&self, given: &Given, line: &[u8]) -> Option<Finding>
         ensures found { result ≡ found (limit_of self.now) given.now (sources_of self.now) line.now }
-        ensures within { IfSome result (IsWithin (length line.now) (length (sources_of self.now))) }
+        ensures within { IfSome result
+            (IsWithin (length (looked_at (limit_of self.now) line.now)) (length (sources_of self.now))) }
     {
         let Some(start) = self.undated_len(line) else {
             return None;
@@ -325,25 +356,18 @@ impl<'a> Finder<'a> {
         self.find_from(given, line, start)
     }
 
-    // The least place, among the first ones, at which a source reads a date.
-    fn first_read(&self, given: &Given, line: &[u8]) -> Option<usize>
-        ensures place { result ≡ first_read given.now (sources_of self.now) line.now 0
-            (take (limit_of self.now) line.now) }
-        ensures within { IfSome result (λ place. place < length line.now) }
-    {
-        for place in 0..self.end(line) {
-            if at_place(self.sources.as_slice(), given, line, place).is_some() {
-                return Some(place);
-            }
-        }
-        None
-    }
-
-    /// Why what one source reads is in doubt, with what is given, at the least place, among the first ones, at which some source
-    /// reads a date: `find` looks there too. `None` where the source of this number reads none there, where its date stands whole,
-    /// and where no source has this number.
-    pub fn doubt_of(&self, given: &Given, line: &[u8], number: usize) -> Option<Doubted>
-        ensures is { result ≡ doubt_of (limit_of self.now) given.now (sources_of self.now) line.now number }
+    /// Why what one source reads at a place is in doubt, with what is given: `find` gives such a place. `None` where the source of
+    /// this number reads none there, where its date stands whole, and where no source has this number or the line no such place.
+    pub fn doubt_of(
+        &self,
+        given: &Given,
+        line: &[u8],
+        start: usize,
+        number: usize,
+    ) -> Option<Doubted>
+        requires { start < length (looked_at (limit_of self.now) line.now) }
+        ensures is { result
+            ≡ doubt_of (limit_of self.now) given.now (sources_of self.now) line.now start number }
         ensures start { IfSome result (λ date. date.start ≤ length line.now) }
         ensures end { IfSome result (λ date. date.end ≤ length line.now) }
     {
@@ -351,10 +375,7 @@ impl<'a> Finder<'a> {
         if number >= sources.len() {
             return None;
         }
-        let Some(place) = self.first_read(given, line) else {
-            return None;
-        };
-        doubted_at(&sources[number], given, line, place)
+        doubted_at(&sources[number], given, self.looked_at(line), start, number)
     }
 }
 

@@ -1,9 +1,8 @@
 use Rattle.std.proofs.Common.{◌≡◌, ◌+◌, ◌&&◌, false, refl, sym, ap, ◌∙◌}
 use Rattle.std.specs.Prelude.{not}
-use Rattle.instants_edges.specs.Clock.{has_clock_before}
+use Rattle.instants_edges.specs.Beside.{has_clock_before}
 use Rattle.instants_prefixes.specs.DateSource.{grammar_in}
-use Rattle.instants_found.proofs.Doubts.{nothing_why}
-use Rattle.instants_found.proofs.Needless.{and_false}
+use Rattle.instants_found.proofs.Needless.{nothing_why, and_false}
 use Rattle.instants_found.proofs.beside.why.Goals.{else-not-prefix-via-then-not-prefix+else-has_clock_before, else-not-prefix-via-else-not-prefix}
 use Rattle.instants_found.proofs.beside.why.Goals as goal
 
@@ -16,4 +15,4 @@ returns-then-gives_nothing c =
       | else-not-prefix-via-else-not-prefix w ↦ rw w.if-not-prefix.false refl
     ] in
     nothing_why c.args.given.now (grammar_in c.args.source.now) c.args.line.now c.args.start c.args.prefix.now (sym c.is_edge.ensures ∙ c.if-not-is_edge.false) clock
-    (c.gives_nothing.ensures.offset c.if-gives_nothing.true) (c.gives_nothing.ensures.years c.if-gives_nothing.true) (c.gives_nothing.ensures.time c.if-gives_nothing.true) c.requires.read
+    (c.gives_nothing.ensures.offset c.if-gives_nothing.true) (c.gives_nothing.ensures.years c.if-gives_nothing.true) (c.gives_nothing.ensures.time c.if-gives_nothing.true)

@@ -1,16 +1,20 @@
-use Rattle.std.proofs.Common.{Some, ap, ◌∙◌}
-use Rattle.std.specs.Prelude.{Bool}
+use Rattle.std.proofs.Common.{Option, Some, sym, ap, ◌∙◌}
 use Rattle.instants_prefixes.specs.DateSource.{grammar_in}
 use Rattle.instants_found.specs.Candidate.{candidate_with}
-use Rattle.instants_found.proofs.ReadAt.{none_there, some_there}
+use Rattle.instants_found.specs.declared.doubt.Doubt.{Doubt}
+use Rattle.instants_found.proofs.ReadAt.{unread, refused, accepted}
 use Rattle.instants_found.proofs.candidate.read_candidate.Goals as goal
 
 pub returns-in_default-clause-is : goal.returns-in_default-clause-is
-returns-in_default-clause-is c = none_there c.args.given.now c.args.line.now c.args.start c.args.number (grammar_in c.args.source.now) c.in_default.ensures.is
+returns-in_default-clause-is c = unread c.args.given.now c.args.line.now c.args.start c.args.number (grammar_in c.args.source.now) (rw c.after.ensures at c.in_default.ensures.prefix)
+
+pub returns-then-not-is_read-clause-is : goal.returns-then-not-is_read-clause-is
+returns-then-not-is_read-clause-is c =
+    refused c.args.given.now c.args.line.now c.args.start c.args.number (grammar_in c.args.source.now) c.in-Some.prefix (rw c.after.ensures at c.in-Some.ensures.prefix) (sym c.is_read.ensures ∙ c.if-not-is_read.true)
 
 pub returns-clause-is : goal.returns-clause-is
 returns-clause-is c =
     let line = c.args.line.now in
     let prefix = c.in-Some.prefix in
-    ap Some (c.candidate_with.ensures ∙ ap (λ (b : Bool). candidate_with line c.args.start c.args.number prefix b) c.stands_whole-is_whole.ensures)
-    ∙ some_there c.args.given.now line c.args.start c.args.number (grammar_in c.args.source.now) prefix c.in-Some.ensures.is
+    ap Some (c.candidate_with.ensures ∙ ap (λ (o : Option Doubt). candidate_with line c.args.start c.args.number prefix o) c.why-doubt.ensures)
+    ∙ accepted c.args.given.now line c.args.start c.args.number (grammar_in c.args.source.now) prefix (rw c.after.ensures at c.in-Some.ensures.prefix) (sym c.is_read.ensures ∙ c.if-not-is_read.false)

@@ -23,5 +23,5 @@ returns-in-loop-number c =
     let date = c.in-Some.ensures in
     let others = no_candidates given line start (number + 1) (map grammar_in (drop (number + 1) c.args.sources.now)) (rw c.after-bytes.ensures at (c.others_may_read.ensures c.if-others_may_read.false)) in
     ap (λ (d : Found). Some (There d)) date.is
-    ∙ ap (λ (b : Bool). Some (finding (if b then Some date.one else None))) (sym date.whole)
+    ∙ ap (λ (b : Bool). Some (finding start (if b then Some date.one else None))) (sym date.whole)
     ∙ sym (last_read given line start c.args.sources.now number c.index-sources-number.result (omega arith) c.index-sources-number.is date.one others c.loop-number.invariant date.read)

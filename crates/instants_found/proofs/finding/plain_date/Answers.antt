@@ -1,8 +1,9 @@
-use Rattle.std.proofs.Common.{sym, ◌∙◌}
+use Rattle.std.proofs.Common.{sym, ap, ◌∙◌}
+use Rattle.std.specs.Option.{is_none}
 use Rattle.instants_prefixes.specs.DateSource.{grammar_in}
 use Rattle.instants_found.specs.Candidate.{as_candidate}
-use Rattle.instants_found.proofs.Doubts.{whole_apart}
-use Rattle.instants_found.proofs.ReadAt.{some_there, accepted}
+use Rattle.instants_found.proofs.Needless.{nothing_why}
+use Rattle.instants_found.proofs.ReadAt.{accepted}
 use Rattle.instants_found.proofs.finding.plain_date.Goals as goal
 
 pub returns : goal.returns
@@ -15,8 +16,8 @@ returns c =
     let there = rw c.after.ensures at c.in-Some.ensures.prefix in
     record {
       one = as_candidate given line start c.args.number grammar prefix;
-      read = some_there given line start c.args.number grammar prefix (accepted given line start grammar prefix there (sym c.is_read.ensures ∙ c.if-not-is_read.false));
-      whole = whole_apart given grammar line start prefix (c.stands_apart.ensures.edge c.if-not-stands_apart.false) (c.stands_apart.ensures.clock c.if-not-stands_apart.false)
-          (c.gives_nothing.ensures.offset c.if-not-gives_nothing.false) (c.gives_nothing.ensures.years c.if-not-gives_nothing.false) (c.gives_nothing.ensures.time c.if-not-gives_nothing.false) (sym there);
+      read = accepted given line start c.args.number grammar prefix there (sym c.is_read.ensures ∙ c.if-not-is_read.false);
+      whole = ap is_none (sym (nothing_why given grammar line start prefix (c.stands_apart.ensures.edge c.if-not-stands_apart.false) (c.stands_apart.ensures.clock c.if-not-stands_apart.false)
+          (c.gives_nothing.ensures.offset c.if-not-gives_nothing.false) (c.gives_nothing.ensures.years c.if-not-gives_nothing.false) (c.gives_nothing.ensures.time c.if-not-gives_nothing.false)));
       is = c.found_at.ensures;
     }

@@ -14,7 +14,7 @@ use Rattle.instants_found.proofs.finding.with_others.Goals as goal
 pub loop-number-init : goal.loop-number-init
 loop-number-init c =
     let line = c.args.line.now in
-    let one = candidate_with line c.args.start c.args.number c.args.prefix c.args.is_whole in
+    let one = candidate_with line c.args.start c.args.number c.args.prefix c.args.doubt in
     let P : Candidate → Type 0 = λ date. LiesWithin (length line) (length c.args.sources.now) date.date in
     rw (c.longer-longest.ensures, c.candidate_with-one.ensures) (record {
       gives = longest_first one (from_number c.args.given.now line c.args.start c.args.sources.now (c.args.number + 1));
@@ -55,7 +55,7 @@ loop-number-preserved c =
     ]
 
 pub returns-clause-found : goal.returns-clause-found
-returns-clause-found c = c.finding.ensures ∙ ap finding (longest_end c.args.given.now c.args.line.now c.args.start c.args.sources.now _ c.loop-number.number c.loop-number.longest (omega arith) c.loop-number.invariant.gives)
+returns-clause-found c = c.finding.ensures ∙ ap (finding c.args.start) (longest_end c.args.given.now c.args.line.now c.args.start c.args.sources.now _ c.loop-number.number c.loop-number.longest (omega arith) c.loop-number.invariant.gives)
 
 pub returns-clause-within : goal.returns-clause-within
-returns-clause-within c = rw c.finding.ensures (finding_within (length c.args.line.now) (length c.args.sources.now) c.loop-number.longest c.loop-number.invariant.within)
+returns-clause-within c = rw c.finding.ensures (finding_within (length c.args.line.now) (length c.args.sources.now) c.args.start c.loop-number.longest c.requires.start c.loop-number.invariant.within)

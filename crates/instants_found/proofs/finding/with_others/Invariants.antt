@@ -8,6 +8,6 @@ use Rattle.instants_found.proofs.finding.with_others.Given as goal
 
 abbrev pub invariant-loop-number : goal.invariant-loop-number
 invariant-loop-number l = record {
-  gives : GiveLongest l.given l.line l.start l.sources (longest (candidate_with l.line l.start l.fn.number l.fn.prefix l.fn.is_whole ∷ from_number l.given l.line l.start l.sources (l.fn.number + 1))) l.number l.longest;
+  gives : GiveLongest l.given l.line l.start l.sources (longest (candidate_with l.line l.start l.fn.number l.fn.prefix l.fn.doubt ∷ from_number l.given l.line l.start l.sources (l.fn.number + 1))) l.number l.longest;
   within : IfSome l.longest (λ (one : Candidate). LiesWithin (length l.line) (length l.sources) one.date);
 }

@@ -1,7 +1,7 @@
 use Rattle.std.proofs.Common.{◌≡◌, ℕ, length, min, arith, Option, None, Some}
 use Rattle.std.specs.Prelude.{IfNone}
 use Rattle.instants_prefixes.specs.declared.given.Given.{Given}
-use Rattle.instants_found.specs.Found.{found}
+use Rattle.instants_found.specs.Found.{found, looked_at}
 use Rattle.instants_found.specs.Finder.{sources_of, limit_of}
 use Rattle.instants_found.specs.Starts.{HasNoDate}
 use Rattle.instants_found.proofs.NoDates.{found_nothing}
@@ -12,10 +12,11 @@ none_of None holds follows so is = so is
 none_of (Some start) holds follows so is = is
 
 pub returns-clause-none : goal.returns-clause-none
+unfolding found
 returns-clause-none c =
     let sources = sources_of c.args.self.now in
     let limit = limit_of c.args.self.now in
-    let line = c.args.line.now in
-    none_of c.next_start.result (HasNoDate sources line 0 (min limit (length line))) ((given : Given) → found limit given sources line ≡ None)
+    let line = looked_at limit c.args.line.now in
+    none_of c.next_start.result (HasNoDate sources line 0 (min limit (length line))) ((given : Given) → found limit given sources c.args.line.now ≡ None)
     (λ none given. found_nothing limit given sources line (λ place lt. none place (omega arith) lt given))
-    c.next_start.ensures.none
+    (rw c.looked_at.ensures at c.next_start.ensures.none)

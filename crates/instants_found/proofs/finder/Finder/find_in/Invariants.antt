@@ -1,7 +1,7 @@
 use Rattle.std.proofs.Common.{◌<◌, ◌-◌, length}
 use Rattle.instants_found.specs.Finder.{sources_of}
 use Rattle.instants_found.proofs.NoDates.{NothingBefore}
-use Rattle.instants_found.proofs.finder.Finder.find_from.Given as goal
+use Rattle.instants_found.proofs.finder.Finder.find_in.Given as goal
 
 -- nothing is found at the places so far
 abbrev pub invariant-loop-start : goal.invariant-loop-start

@@ -1,7 +1,7 @@
 use Rattle.std.proofs.Common.{length, min, sym, arith}
 use Rattle.instants_found.specs.Finder.{sources_of, limit_of}
 use Rattle.instants_found.proofs.NoDates.{found_here, found_nothing, nothing_more}
-use Rattle.instants_found.proofs.finder.Finder.find_from.Goals as goal
+use Rattle.instants_found.proofs.finder.Finder.find_in.Goals as goal
 
 pub loop-start-init : goal.loop-start-init
 loop-start-init c = record { within = c.requires.within; so_far = λ place lt. c.requires.passed place (omega arith) lt c.args.given.now }
