@@ -10,7 +10,7 @@ use Rattle.instants_sources.specs.Grammar.{Grammar}
 use Rattle.instants_prefixes.specs.declared.date_source.DateSource.{DateSource}
 use Rattle.instants_found.specs.Candidate.{candidate, candidates, joined, longer, longest, is_whole}
 use Rattle.instants_found.specs.Kept.{kept}
-use Rattle.instants_found.specs.Within.{LiesWithin, IsWithin}
+use Rattle.instants_found.specs.Within.{LiesWithin, IsIn}
 use Rattle.instants_found.specs.Found.{at_place, from_place, of_candidates, finding}
 use Rattle.instants_found.specs.declared.candidate.Candidate.{Candidate}
 use Rattle.instants_found.specs.declared.found.Finding.{Finding}
@@ -159,6 +159,6 @@ places_end given sources line bytes start past so_far =
 
 -- ---- where dates lie
 
-pub finding_within : (line sources start : ℕ) (long : Option Candidate) → start < line → IfSome long (λ (one : Candidate). LiesWithin line sources one.date) → IsWithin line sources (finding start long)
+pub finding_within : (line sources start : ℕ) (long : Option Candidate) → start < line → IfSome long (λ (one : Candidate). LiesWithin line sources one.date) → IsIn line sources (finding start long)
 finding_within line sources start None within h = within
 finding_within line sources start (Some one) within h = h

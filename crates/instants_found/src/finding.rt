@@ -41,7 +41,7 @@ fn with_others(
     requires prefix { IsWithin (drop start line.now) prefix }
     ensures found { result ≡ finding start (longest (candidate_with line.now start number prefix doubt
         ∷ candidates given.now line.now start (number + 1) (map grammar_in (drop (number + 1) sources.now)))) }
-    ensures within { Within.IsWithin (length line.now) (length sources.now) result }
+    ensures within { Within.IsIn (length line.now) (length sources.now) result }
 {
     let bytes = after(line, start);
     let one = candidate_with(line, start, number, prefix, doubt);
@@ -99,7 +99,7 @@ fn by_sources(
     requires { start < length line.now }
     ensures found { result ≡ of_candidates start
         (candidates given.now line.now start 0 (map grammar_in sources.now)) }
-    ensures within { IfSome result (Within.IsWithin (length line.now) (length sources.now)) }
+    ensures within { IfSome result (Within.IsIn (length line.now) (length sources.now)) }
 {
     let bytes = after(line, start);
     for number in 0..sources.len() {
@@ -228,7 +228,7 @@ pub(crate) fn at_place(
 ) -> Option<Finding>
     requires { start < length line.now }
     ensures found { result ≡ at_place given.now (map grammar_in sources.now) line.now start }
-    ensures within { IfSome result (Within.IsWithin (length line.now) (length sources.now)) }
+    ensures within { IfSome result (Within.IsIn (length line.now) (length sources.now)) }
 {
     if is_edge(line, start) {
         by_sources(sources, given, line, start)

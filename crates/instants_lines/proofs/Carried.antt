@@ -57,7 +57,7 @@ after_key many going (line ∷ others) e =
 
 -- the key before it is not asked for
 same_key : (setting : Setting) (key other : List ℕ) (finding : Finding) → key_or setting key (Some finding) ≡ key_or setting other (Some finding)
-same_key setting key other Doubtful = refl
+same_key setting key other (Doubtful place) = refl
 same_key setting key other (There date) = refl
 
 module _ (going : Going) (line : List ℕ) (others : List (List ℕ)) (finding : Finding) (carries : going.mode ≡ Carry) (e : date_in going.search line ≡ Some finding) where

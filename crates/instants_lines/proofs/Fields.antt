@@ -71,7 +71,7 @@ place_field (Some m) =
 key_field : (setting : Setting) (key : List ℕ) (o : Option Finding) → is_field key ≡ true → is_field (key_or setting key o) ≡ true
 unfolding place_of_date
 key_field setting key None is = is
-key_field setting key (Some Doubtful) is = refl
+key_field setting key (Some (Doubtful place)) is = refl
 key_field setting key (Some (There date)) is = place_field (shown_at setting.target (instant date.moment))
 
 -- a line's key is a field, where the key that a line without a date takes is

@@ -60,7 +60,7 @@ time_longer prefix rest date (Err refusal) start end = refl
 
 with_longer : (setting : Setting) (prefix rest : List ℕ) (o : Option Finding) → LiesIn prefix o → with_date setting prefix o ++ rest ≡ with_date setting (prefix ++ rest) o
 with_longer setting prefix rest None lies = refl
-with_longer setting prefix rest (Some Doubtful) lies = refl
+with_longer setting prefix rest (Some (Doubtful place)) lies = refl
 with_longer setting prefix rest (Some (There date)) lies = let both = lies date refl in time_longer prefix rest date (place_of_date setting date) both.0 both.1
 
 -- ---- a line that is longer

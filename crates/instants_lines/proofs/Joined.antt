@@ -18,7 +18,7 @@ use Rattle.instants_lines_words.specs.declared.mode.Mode.TheVariants.{Carry, Exp
 
 pub given_stays : (given : Given) (o : Option Finding) → given.years ≡ Unknown → given_below given o ≡ given
 given_stays given None e = refl
-given_stays given (Some Doubtful) e = refl
+given_stays given (Some (Doubtful place)) e = refl
 given_stays given (Some (There date)) e =
     let same : years_below given.years date.moment ≡ given.years = rw e refl in
     ap (λ (years : Years). record given { years = years }) same

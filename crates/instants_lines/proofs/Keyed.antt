@@ -14,9 +14,9 @@ pub dated : (going : Going) (line : List ℕ) (date : Found) (key : List ℕ) �
 unfolding key_of_line place_of_date
 dated going line date key e is = is ∙ ap (key_or going.search.setting going.key) e
 
-pub doubtful : (going : Going) (line : List ℕ) → Some Doubtful ≡ date_in going.search line → doubt ≡ key_of_line going line
+pub doubtful : (going : Going) (line : List ℕ) (place : ℕ) → Some (Doubtful place) ≡ date_in going.search line → doubt ≡ key_of_line going line
 unfolding key_of_line
-doubtful going line e = ap (key_or going.search.setting going.key) e
+doubtful going line place e = ap (key_or going.search.setting going.key) e
 
 pub undated : (going : Going) (line : List ℕ) → None ≡ date_in going.search line → going.key ≡ key_of_line going line
 unfolding key_of_line
@@ -52,16 +52,16 @@ locate_key : (going : Going) (line : List ℕ) → going.mode ≡ Locate → goi
 locate_key going line mode = rw mode refl
 
 -- where dates are replaced
-pub below_doubtful : (going : Going) (line : List ℕ) → going.mode ≡ Replace → date_in going.search line ≡ Some Doubtful → below going line ≡ going
-below_doubtful going line mode e = sym (below_here going line (Some Doubtful) (replace_key going line mode) (sym e))
+pub below_doubtful : (going : Going) (line : List ℕ) (place : ℕ) → going.mode ≡ Replace → date_in going.search line ≡ Some (Doubtful place) → below going line ≡ going
+below_doubtful going line place mode e = sym (below_here going line (Some (Doubtful place)) (replace_key going line mode) (sym e))
 
 pub below_dated : (going : Going) (line : List ℕ) (date : Found) → going.mode ≡ Replace → date_in going.search line ≡ Some (There date)
     → record going { search = record going.search { given = given_below going.search.given (Some (There date)) } } ≡ below going line
 below_dated going line date mode e = below_here going line (Some (There date)) (replace_key going line mode) (sym e)
 
 -- where they are located
-pub located_doubtful : (going : Going) (line : List ℕ) → going.mode ≡ Locate → date_in going.search line ≡ Some Doubtful → below going line ≡ going
-located_doubtful going line mode e = sym (below_here going line (Some Doubtful) (locate_key going line mode) (sym e))
+pub located_doubtful : (going : Going) (line : List ℕ) (place : ℕ) → going.mode ≡ Locate → date_in going.search line ≡ Some (Doubtful place) → below going line ≡ going
+located_doubtful going line place mode e = sym (below_here going line (Some (Doubtful place)) (locate_key going line mode) (sym e))
 
 pub located_dated : (going : Going) (line : List ℕ) (date : Found) → going.mode ≡ Locate → date_in going.search line ≡ Some (There date)
     → record going { search = record going.search { given = given_below going.search.given (Some (There date)) } } ≡ below going line

@@ -24,9 +24,9 @@ pub undated : (search : Search) (line : List ℕ) → date_in search line ≡ No
 unfolding replaced
 undated search line e = ap (with_date search.setting line) e
 
-pub doubtful : (search : Search) (line : List ℕ) → date_in search line ≡ Some Doubtful → replaced search line ≡ line
+pub doubtful : (search : Search) (line : List ℕ) (place : ℕ) → date_in search line ≡ Some (Doubtful place) → replaced search line ≡ line
 unfolding replaced
-doubtful search line e = ap (with_date search.setting line) e
+doubtful search line place e = ap (with_date search.setting line) e
 
 -- dates of one instant have one place
 same_place : (setting : Setting) (date again : Found) → instant again.moment ≡ instant date.moment → place_of_date setting again ≡ place_of_date setting date

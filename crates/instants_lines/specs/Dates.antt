@@ -35,7 +35,7 @@ doubt = codes "! doubt"
 -- the key of a line by its date, and another key where it has none
 abbrev pub key_or : Setting → List ℕ → Option Finding → List ℕ
 key_or setting other None = other
-key_or setting other (Some Doubtful) = doubt
+key_or setting other (Some (Doubtful place)) = doubt
 key_or setting other (Some (There date)) = key_of_date setting date
 
 -- the line with a date-time in place of a date; where its year is not written the line stays
@@ -46,7 +46,7 @@ with_date_time line date (Err refusal) = line
 -- the same by the line's date; a line without one stays, and one whose date is in doubt
 abbrev pub with_date : Setting → List ℕ → Option Finding → List ℕ
 with_date setting line None = line
-with_date setting line (Some Doubtful) = line
+with_date setting line (Some (Doubtful place)) = line
 with_date setting line (Some (There date)) = with_date_time line date (place_of_date setting date)
 
 -- the line with the date-time in place of its date

@@ -61,7 +61,7 @@ years_below (Near other) above = Near above
 
 abbrev pub given_below : Given → Option Finding → Given
 given_below given None = given
-given_below given (Some Doubtful) = given
+given_below given (Some (Doubtful place)) = given
 given_below given (Some (There date)) = record given { years = years_below given.years date.moment }
 
 -- what dates are looked for by below a line

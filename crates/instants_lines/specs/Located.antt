@@ -31,15 +31,15 @@ abbrev pub doubt_text : ℕ → Option Doubted → List ℕ
 doubt_text number None = []
 doubt_text number (Some one) = read_text number one.start one.end ++ tab ∷ reason one.doubt
 
--- the same of so many sources, the first ones
-unfoldable pub doubts_of_first : Search → List ℕ → ℕ → List ℕ
-doubts_of_first search line zero = []
-doubts_of_first search line (suc count) = doubts_of_first search line count ++ doubt_text count (doubt_of search.limit search.given search.setting.sources line count)
+-- the same of so many sources, the first ones, at a place
+unfoldable pub doubts_of_first : Search → List ℕ → ℕ → ℕ → List ℕ
+doubts_of_first search line place zero = []
+doubts_of_first search line place (suc count) = doubts_of_first search line place count ++ doubt_text count (doubt_of search.limit search.given search.setting.sources line place count)
 
 -- the key of a line by its date, with what has read it
 abbrev pub finding_text : Search → List ℕ → Option Finding → List ℕ
 finding_text search line None = codes "! none"
-finding_text search line (Some Doubtful) = doubt ++ doubts_of_first search line (length search.setting.sources)
+finding_text search line (Some (Doubtful place)) = doubt ++ doubts_of_first search line place (length search.setting.sources)
 finding_text search line (Some (There date)) = key_of_date search.setting date ++ read_text date.source date.start date.end
 
 unfoldable pub located : Search → List ℕ → List ℕ

@@ -39,8 +39,8 @@ pub fn outside_unchanged()
         → date_in search line ≡ Some (There date)
         → place_of_date search.setting date ≡ Err refusal
         → replaced search line ≡ line }
-    ensures doubtful { (search : Search) (line : List ℕ)
-        → date_in search line ≡ Some Doubtful → replaced search line ≡ line }
+    ensures doubtful { (search : Search) (line : List ℕ) (place : ℕ)
+        → date_in search line ≡ Some (Doubtful place) → replaced search line ≡ line }
     ensures undated { (search : Search) (line : List ℕ)
         → date_in search line ≡ None → replaced search line ≡ line }
 {}

@@ -1,6 +1,7 @@
 //! Where the date of a line is, and by which source, or why it is in doubt.
 ghost use Rattle.std.specs.Prelude.{◌≡◌, ◌<◌, ◌≤◌, ◌+◌, ◌^◌, [], ◌∷◌, ◌++◌, length, false, Some, IfSome};
 ghost use Rattle.instants_found.specs.Doubts.{doubt_of};
+ghost use Rattle.instants_found.specs.Found.{looked_at};
 ghost use Rattle.instants_found.specs.Within.{IsWithin};
 ghost use Rattle.instants_lines.specs.Dates.{doubt, key_of_date};
 ghost use Rattle.instants_lines.specs.Showing.{search_in, setting_in};
@@ -77,21 +78,23 @@ fn write_doubted<W: ByteWriter>(
     write_both(writer, b"\t", reason(one.doubt))
 }
 
-// The same of what a source has read in a line, where that is in doubt.
+// The same of what a source has read at a place, where that is in doubt.
 fn write_doubt<W: ByteWriter>(
     dates: &DateSources<'_>,
     given: &Given,
     line: &[u8],
+    place: usize,
     number: usize,
     writer: &mut W,
 ) -> Result<(), DeviceFailed>
     requires works { W.failed writer.old ≡ false }
     requires number { number + 1 < 2 ^ 64 }
+    requires place { place < length (looked_at (search_in dates.now given.now).limit line.now) }
     ensures { Wrote W.ByteWriter writer.old writer.new result
         (doubt_text number (doubt_of (search_in dates.now given.now).limit given.now
-        (search_in dates.now given.now).setting.sources line.now number)) }
+        (search_in dates.now given.now).setting.sources line.now place number)) }
 {
-    match dates.doubt_of(given, line, number) {
+    match dates.doubt_of(given, line, place, number) {
         Some(one) => write_doubted(number, &one, writer),
         None => Ok(()),
     }
@@ -102,16 +105,18 @@ fn write_doubts<W: ByteWriter>(
     dates: &DateSources<'_>,
     given: &Given,
     line: &[u8],
+    place: usize,
     writer: &mut W,
 ) -> Result<(), DeviceFailed>
-    requires { W.failed writer.old ≡ false }
+    requires works { W.failed writer.old ≡ false }
+    requires place { place < length (looked_at (search_in dates.now given.now).limit line.now) }
     ensures { Wrote W.ByteWriter writer.old writer.new result
-        (doubts_of_first (search_in dates.now given.now) line.now
+        (doubts_of_first (search_in dates.now given.now) line.now place
         (length (search_in dates.now given.now).setting.sources)) }
 {
     let sources = dates.sources();
     for number in 0..sources.len() {
-        write_doubt(dates, given, line, number, writer)?;
+        write_doubt(dates, given, line, place, number, writer)?;
     }
     Ok(())
 }
@@ -140,15 +145,17 @@ fn write_in_doubt<W: ByteWriter>(
     dates: &DateSources<'_>,
     given: &Given,
     line: &[u8],
+    place: usize,
     writer: &mut W,
 ) -> Result<(), DeviceFailed>
-    requires { W.failed writer.old ≡ false }
+    requires works { W.failed writer.old ≡ false }
+    requires place { place < length (looked_at (search_in dates.now given.now).limit line.now) }
     ensures { Wrote W.ByteWriter writer.old writer.new result
-        (doubt ++ doubts_of_first (search_in dates.now given.now) line.now
+        (doubt ++ doubts_of_first (search_in dates.now given.now) line.now place
         (length (search_in dates.now given.now).setting.sources)) }
 {
     writer.write_all(b"! doubt")?;
-    write_doubts(dates, given, line, writer)
+    write_doubts(dates, given, line, place, writer)
 }
 
 /// Writes the key of a line by its date, and what has read it.
@@ -161,13 +168,13 @@ pub(crate) fn write_finding<W: ByteWriter>(
 ) -> Result<(), DeviceFailed>
     requires works { W.failed writer.old ≡ false }
     requires within { IfSome finding.now
-        (IsWithin (length line.now) (length (setting_in dates.now).sources)) }
+        (IsWithin (search_in dates.now given.now).limit line.now (length (setting_in dates.now).sources)) }
     ensures { Wrote W.ByteWriter writer.old writer.new result
         (finding_text (search_in dates.now given.now) line.now finding.now) }
 {
     match finding {
         Some(Finding::There(date)) => write_date(dates, date, writer),
-        Some(Finding::Doubtful) => write_in_doubt(dates, given, line, writer),
+        Some(Finding::Doubtful(place)) => write_in_doubt(dates, given, line, *place, writer),
         None => writer.write_all(b"! none"),
     }
 }

@@ -9,7 +9,7 @@ ghost use Rattle.instants_found.specs.Finder.{limit_of, sources_of};
 ghost use Rattle.instants_found.specs.Keys.{IsKeyedBy, NeedsFour};
 ghost use Rattle.instants_found.specs.Marks.{AreMarks};
 ghost use Rattle.instants_found.specs.Starts.{HasNoDate, IsNoDate, MarkPlaces};
-ghost use Rattle.instants_found.specs.Within.{IsWithin};
+ghost use Rattle.instants_found.specs.Within.{IsIn, IsWithin};
 ghost use Rattle.instants_found.specs.declared.found.Finding.TheVariants.{There};
 
 use crate::beside::after;
@@ -291,7 +291,7 @@ impl<'a> Finder<'a> {
         requires within { first < length line.now }
         requires passed { HasNoDate (sources_of self.now) line.now 0 first }
         ensures found { result ≡ found_in (limit_of self.now) given.now (sources_of self.now) line.now }
-        ensures within { IfSome result (IsWithin (length line.now) (length (sources_of self.now))) }
+        ensures within { IfSome result (IsIn (length line.now) (length (sources_of self.now))) }
     {
         let end = self.end(line);
         let mut start = first;
@@ -316,7 +316,7 @@ impl<'a> Finder<'a> {
         requires passed { HasNoDate (sources_of self.now) (looked_at (limit_of self.now) line.now) 0 first }
         ensures found { result ≡ found (limit_of self.now) given.now (sources_of self.now) line.now }
         ensures within { IfSome result
-            (IsWithin (length (looked_at (limit_of self.now) line.now)) (length (sources_of self.now))) }
+            (IsWithin (limit_of self.now) line.now (length (sources_of self.now))) }
     {
         self.find_in(given, self.looked_at(line), first)
     }
@@ -348,7 +348,7 @@ impl<'a> Finder<'a> {
     pub fn find(&self, given: &Given, line: &[u8]) -> Option<Finding>
         ensures found { result ≡ found (limit_of self.now) given.now (sources_of self.now) line.now }
         ensures within { IfSome result
-            (IsWithin (length (looked_at (limit_of self.now) line.now)) (length (sources_of self.now))) }
+            (IsWithin (limit_of self.now) line.now (length (sources_of self.now))) }
     {
         let Some(start) = self.undated_len(line) else {
             return None;

@@ -11,6 +11,7 @@ ghost use Rattle.instants_sources.specs.Named.{named};
 ghost use Rattle.instants_timeline.specs.Place.{place_text, shown_or_refused};
 ghost use Rattle.instants_faults.specs.Refusal.{year};
 ghost use Rattle.instants_timeline.specs.Settings.{setting_of};
+ghost use Rattle.instants_found.specs.Found.{looked_at};
 ghost use Rattle.instants_lines.specs.Dates.{date_in};
 ghost use Rattle.instants_lines.specs.Lacking.{first_lacking};
 ghost use Rattle.instants_found.specs.Doubts.{doubt_of};
@@ -69,20 +70,27 @@ impl<'a> DateSources<'a> {
         None
     }
 
-    /// What a source has read that is in doubt, where the date of the line is.
-    pub(crate) fn doubt_of(&self, given: &Given, line: &[u8], number: usize) -> Option<Doubted>
+    /// What a source has read at a place that is in doubt.
+    pub(crate) fn doubt_of(
+        &self,
+        given: &Given,
+        line: &[u8],
+        place: usize,
+        number: usize,
+    ) -> Option<Doubted>
+        requires { place < length (looked_at (limit_in self.now) line.now) }
         ensures is { result ≡ doubt_of (limit_in self.now) given.now
-            (setting_in self.now).sources line.now number }
+            (setting_in self.now).sources line.now place number }
         ensures start { IfSome result (λ date. date.start ≤ length line.now) }
     {
-        self.finder.doubt_of(given, line, number)
+        self.finder.doubt_of(given, line, place, number)
     }
 
     /// The date of a line, with what is given.
     #[inline(always)]
     pub(crate) fn date_in(&self, given: &Given, line: &[u8]) -> Option<Finding>
         ensures found { result ≡ date_in (search_in self.now given.now) line.now }
-        ensures within { IfSome result (IsWithin (length line.now) (length (setting_in self.now).sources)) }
+        ensures within { IfSome result (IsWithin (limit_in self.now) line.now (length (setting_in self.now).sources)) }
     {
         self.finder.find(given, line)
     }
@@ -92,8 +100,10 @@ impl<'a> DateSources<'a> {
     pub(crate) fn undated_len(&self, line: &[u8]) -> Option<usize>
         ensures none { IfNone result
             ((given : Given) → date_in (search_in self.now given) line.now ≡ None) }
-        ensures within { IfSome result (λ start. start < length line.now) }
-        ensures passed { IfSome result (HasNoDate (setting_in self.now).sources line.now 0) }
+        ensures within { IfSome result
+            (λ start. start < length (looked_at (limit_in self.now) line.now)) }
+        ensures passed { IfSome result
+            (HasNoDate (setting_in self.now).sources (looked_at (limit_in self.now) line.now) 0) }
     {
         self.finder.undated_len(line)
     }
@@ -101,8 +111,8 @@ impl<'a> DateSources<'a> {
     /// The date of a line, with what is given, where none begins before a place and the date there is found at once.
     #[inline(always)]
     pub(crate) fn plain_date(&self, given: &Given, line: &[u8], first: usize) -> Option<Found>
-        requires within { first < length line.now }
-        requires passed { HasNoDate (setting_in self.now).sources line.now 0 first }
+        requires within { first < length (looked_at (limit_in self.now) line.now) }
+        requires passed { HasNoDate (setting_in self.now).sources (looked_at (limit_in self.now) line.now) 0 first }
         ensures { IfSome result
             (λ date. Some (There date) ≡ date_in (search_in self.now given.now) line.now) }
     {
@@ -112,8 +122,8 @@ impl<'a> DateSources<'a> {
     /// The date of a line, with what is given, where none begins before a place.
     #[inline(always)]
     pub(crate) fn date_from(&self, given: &Given, line: &[u8], first: usize) -> Option<Finding>
-        requires within { first < length line.now }
-        requires passed { HasNoDate (setting_in self.now).sources line.now 0 first }
+        requires within { first < length (looked_at (limit_in self.now) line.now) }
+        requires passed { HasNoDate (setting_in self.now).sources (looked_at (limit_in self.now) line.now) 0 first }
         ensures { result ≡ date_in (search_in self.now given.now) line.now }
     {
         self.finder.find_from(given, line, first)

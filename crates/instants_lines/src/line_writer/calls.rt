@@ -1,6 +1,7 @@
 //! What is written for lines one after another.
 ghost use Rattle.std.specs.Prelude.{◌≡◌, ◌<◌, ◌≤◌, [], ◌∷◌, ◌++◌, length, option_map, false, Some, IfSome, IfNone, OnOk};
 ghost use Rattle.base.specs.Bytes.{tab, line_feed};
+ghost use Rattle.instants_found.specs.Found.{looked_at};
 ghost use Rattle.instants_found.specs.Starts.{HasNoDate};
 ghost use Rattle.instants_found.specs.declared.found.Finding.TheVariants.{Doubtful, There};
 ghost use Rattle.instants_lines.specs.Showing.{search_in};
@@ -113,7 +114,7 @@ impl<'a, 'b> LineWriter<'a, 'b> {
                 self.keep();
                 self.storage
             }
-            Some(Finding::Doubtful) => {
+            Some(Finding::Doubtful(_)) => {
                 self.storage = doubt();
                 self.keep();
                 self.storage
@@ -153,8 +154,9 @@ impl<'a, 'b> LineWriter<'a, 'b> {
         writer: &mut W,
     ) -> Option<Result<(), DeviceFailed>>
         requires works { W.failed writer.old ≡ false }
-        requires within { first < length line.now }
-        requires passed { HasNoDate (going_of self.old).search.setting.sources line.now 0 first }
+        requires within { first < length (looked_at (going_of self.old).search.limit line.now) }
+        requires passed { HasNoDate (going_of self.old).search.setting.sources
+            (looked_at (going_of self.old).search.limit line.now) 0 first }
         ensures wrote { IfSome result (λ end. Wrote W.ByteWriter writer.old writer.new end
             (keyed (going_of self.old) line.now ++ line_feed ∷ [])) }
         ensures next { IfSome result (λ end. OnOk end (going_of self.new ≡ below (going_of self.old) line.now)) }
@@ -177,8 +179,9 @@ impl<'a, 'b> LineWriter<'a, 'b> {
         writer: &mut W,
     ) -> Result<(), DeviceFailed>
         requires works { W.failed writer.old ≡ false }
-        requires within { first < length line.now }
-        requires passed { HasNoDate (going_of self.old).search.setting.sources line.now 0 first }
+        requires within { first < length (looked_at (going_of self.old).search.limit line.now) }
+        requires passed { HasNoDate (going_of self.old).search.setting.sources
+            (looked_at (going_of self.old).search.limit line.now) 0 first }
         ensures wrote { Wrote W.ByteWriter writer.old writer.new result
             (keyed (going_of self.old) line.now ++ line_feed ∷ []) }
         ensures next { OnOk result (going_of self.new ≡ below (going_of self.old) line.now) }
@@ -277,7 +280,7 @@ impl<'a, 'b> LineWriter<'a, 'b> {
                 self.keep_year(&date);
                 Ok(())
             }
-            Some(Finding::Doubtful) => writer.write_all(line),
+            Some(Finding::Doubtful(_)) => writer.write_all(line),
             None => writer.write_all(line),
         }
     }

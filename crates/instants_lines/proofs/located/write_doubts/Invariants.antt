@@ -7,6 +7,6 @@ use Rattle.instants_lines.proofs.located.write_doubts.Given as goal
 -- what the sources so far have read that is in doubt is written
 abbrev pub invariant-loop-number : goal.invariant-loop-number
 invariant-loop-number g l = record {
-  written : Appends (g.W.ByteWriter.held l.fn.writer) (g.W.ByteWriter.held l.writer) (doubts_of_first (search_in l.dates l.given) l.line l.number);
+  written : Appends (g.W.ByteWriter.held l.fn.writer) (g.W.ByteWriter.held l.writer) (doubts_of_first (search_in l.dates l.given) l.line l.place l.number);
   works : g.W.ByteWriter.failed l.writer ≡ g.W.ByteWriter.failed l.fn.writer;
 }
