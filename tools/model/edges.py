@@ -1,11 +1,12 @@
 """What is beside a date in a line: words, signs, clocks, offsets and years. Places count from 0, and past a line's ends is the byte 0."""
 
 import re
+from collections.abc import Iterable, Sequence
 
-from .pieces import number_said, offset_said
+from .pieces import number_said
 
 WINDOW = 256
-OFFSET_REACH = 48
+REACH = 48
 ESCAPE = 27
 DIGIT = frozenset(b"0123456789")
 LETTER = frozenset(b"ABCDEFGHIJKLMNOPQRSTUVWXYZabcdefghijklmnopqrstuvwxyz")
@@ -53,86 +54,191 @@ def may_say(line: bytes, place: int) -> bool:
     return at(line, place) not in SIGN or place == 0 or at(line, place - 1) in BEFORE_SIGN
 
 
-# ---- clocks beside a date and before it
+# ---- words beside a date, by how they are written: a digit of a form is any digit up to it, `+` a sign, a small letter also the capital one
+
+HOURS, HOURS_AND_MINUTES = ("19", "9"), ("19:59", "9:59", "1959")
+SIGNS = (b"+", b"\xe2\x88\x92", rb"\u002b", rb"\u002d")
+NAMES_OF_UTC = (b"utc", b"gmt", b"ut", b"z")
+OTHER_NAMES = (
+    b"cet", b"cest", b"eet", b"eest", b"wet", b"west", b"bst", b"ist", b"msk", b"est", b"edt", b"cst", b"cdt", b"mst", b"mdt", b"pst", b"pdt",
+    b"jst", b"kst", b"aest", b"aedt", b"nzst", b"nzdt",
+)  # fmt: skip
+HALVES = (b"am", b"pm", b"a.m", b"p.m", b"a. m", b"p. m", b"a.\xc2\xa0m", b"p.\xc2\xa0m")
+CLOCKS = ("29:59", "9:59", "29h59", "9h59", "29.59.59", "29-59-59", "19am", "19pm", "9am", "9pm", "19 am", "19 pm", "9 am", "9 pm")
+Form = str | bytes
 
 
-def is_clock(line: bytes, place: int) -> bool:
-    return re.compile(rb"[0-9][0-9]?:[0-9]").match(line, place) is not None
+def fits(mark: int, byte: int) -> bool:
+    if mark in DIGIT:
+        return byte in DIGIT and byte <= mark
+    return byte in SIGN if mark == ord("+") else bytes([byte]).lower() == bytes([mark])
 
 
-def ends_pair(line: bytes, place: int) -> bool:
-    return at(line, place - 1) in DIGIT and at(line, place - 2) in DIGIT
+def begin_so(form: Form, text: bytes) -> bool:
+    marks = form.encode() if isinstance(form, str) else form
+    return len(text) >= len(marks) and all(fits(mark, byte) for mark, byte in zip(marks, text))
 
 
-def ends_clock(line: bytes, place: int) -> bool:
-    return ends_pair(line, place) and at(line, place - 3) == ord(":")
+def begun(forms: Sequence[Form], text: bytes) -> int:
+    """Returns the length of the first form in which a text begins, or 0."""
+    return next((len(it) for it in forms if begin_so(it, text)), 0)
 
 
-def has_clock_beside(line: bytes, begins: int, ends: int) -> bool:
-    after = is_clock(line, ends + 1) or is_clock(line, ends + 2)
-    return after or ends_clock(line, max(begins - 1, 0)) or ends_clock(line, max(begins - 2, 0))
+def word(forms: Sequence[Form], text: bytes) -> int:
+    """The same, where a word ends after it."""
+    return next((len(it) for it in forms if begin_so(it, text) and is_edge(text, len(it))), 0)
 
 
-def ends_seconds(line: bytes, place: int) -> bool:
-    """Whether hours, minutes and seconds end here, in no longer chain of pairs."""
-    is_triple = place >= 8 and ends_clock(line, place) and ends_clock(line, place - 3) and ends_pair(line, place - 6)
-    is_chain = at(line, place - 9) == ord(":") and at(line, place - 12) == ord(":")
-    is_cut = at(line, place) in WORD or at(line, place) == ord(":")
-    return is_triple and at(line, place - 9) not in DIGIT and not is_chain and not is_cut
+def signed(numbers: Sequence[Form], text: bytes) -> int:
+    """Returns the length of a sign and a number in one of these forms, or 0."""
+    sign = begun(SIGNS, text)
+    number = word(numbers, text[sign:])
+    return sign + number if sign and number else 0
 
 
-def has_clock_in_front(line: bytes, place: int) -> bool:
-    """Whether a clock with seconds is before a place and of all quotation marks."""
-    quote = line.find(b'"')
-    return any(ends_seconds(line, it) for it in range(place if quote < 0 else min(place, quote)))
+# ---- what is between a date and a word
 
 
-# ---- the offset that a line says after a date
+def near(text: bytes) -> bytes:
+    """What is after a colour and a fraction."""
+    return re.sub(rb"\A(?:\x1b\[[0-9;]*[A-Za-z])?(?:,[0-9]+)?", b"", text)
 
 
-def offset_here(text: bytes) -> int | None:
-    """Returns the offset at the start of a text, where a word ends after it, or None."""
-    word = text[:6]
-    if is_edge(text, 6) and within_fifteen_hours(offset_said(word)) is not None:
-        return offset_said(word)
-    word = text[:3] + b":" + text[3:5]
-    if is_edge(text, 5) and within_fifteen_hours(offset_said(word)) is not None:
-        return offset_said(word)
-    is_name = (is_edge(text, 3) and text[:3] in (b"UTC", b"GMT", b"Z")) or (is_edge(text, 1) and text[:1] == b"Z")
-    return 0 if is_name else None
+def gap(text: bytes) -> int:
+    """Returns how many bytes that part are at the start, three at most: of ASCII, no letters, digits or signs."""
+    count = 0
+    while count < min(3, len(text)) and text[count] < 128 and text[count] not in WORD | SIGN:
+        count += 1
+    return count
 
 
-def within_fifteen_hours(offset: int | None) -> int | None:
-    return offset if offset is not None and abs(offset) < 54_000 else None
+def apart(text: bytes) -> bytes:
+    return near(text)[gap(near(text)) :]
+
+
+# ---- an offset beside a date
+
+
+def said(numbers: Sequence[Form], text: bytes) -> int | None:
+    """Returns the offset of a sign and a number in one of these forms, less than fifteen hours, or None."""
+    long, sign = signed(numbers, text), begun(SIGNS, text)
+    if not long:
+        return None
+    digits = bytes(it for it in text[sign:long] if it in DIGIT)
+    hours, minutes = (int(digits), 0) if len(digits) <= 2 else divmod(int(digits), 100)
+    seconds = hours * 3600 + minutes * 60
+    is_minus = any(it in b"-dD\xe2" for it in text[:sign])
+    return None if seconds >= 54_000 else -seconds if is_minus else seconds
+
+
+def first_said(offsets: Iterable[int | None]) -> int | None:
+    return next((it for it in offsets if it is not None), None)
+
+
+def said_by_hours(text: bytes) -> int | None:
+    """Hours alone are directly after a date, or with two digits over a space and a bracket."""
+    over = begun((b" (", b" [", b" "), text)
+    return first_said((said(HOURS, text), said(("19",), text[over:]) if over else None))
+
+
+def said_by_name(text: bytes) -> int | None:
+    """The name of a zone with digits after it, or that of UTC alone."""
+    name = begun(NAMES_OF_UTC + OTHER_NAMES, text)
+    if not name:
+        return None
+    after = text[name:]
+    return first_said((said(HOURS_AND_MINUTES + HOURS, after[begun((b" ",), after) :]), 0 if word(NAMES_OF_UTC, text) else None))
 
 
 def offset_after(text: bytes) -> int | None:
-    """The same after a colour and a fraction, directly or over one space; hours alone only directly."""
-    text = re.sub(rb"\A(?:\x1b\[[0-9;]*[A-Za-z])?(?:,[0-9]+)?", b"", text)
-    directly = offset_here(text)
-    if directly is not None:
-        return directly
-    hours = within_fifteen_hours(offset_said(text[:3] + b":00"))
-    if is_edge(text, 3) and hours is not None:
-        return hours
-    return offset_here(text[1:]) if text[:1] == b" " else None
+    return first_said((said_by_hours(near(text)), said(HOURS_AND_MINUTES, apart(text)), said_by_name(apart(text))))
 
 
-def has_another_offset(line: bytes, ends: int, given: int | None) -> bool:
-    said = offset_after(line[ends : ends + OFFSET_REACH])
-    return said is not None and said != given
+def has_name_of_utc(line: bytes, start: int, ends: int) -> bool:
+    return any(is_edge(line, it) and word((b"utc", b"gmt", b"z"), line[it:]) for it in range(start, ends))
+
+
+def has_signed_year(line: bytes, start: int, ends: int) -> bool:
+    """Whether a sign with four digits, after no word, is inside of what is read."""
+    return any(at(line, it - 1) not in WORD and begin_so("+9999", line[it:]) for it in range(start, ends))
+
+
+def has_another_offset(line: bytes, start: int, ends: int, given: int) -> bool:
+    offset = offset_after(line[ends : ends + REACH])
+    is_other = offset is not None and offset != given
+    return is_other or (given != 0 and has_name_of_utc(line, start, ends)) or has_signed_year(line, start, ends)
+
+
+# ---- a time of day beside a date
+
+
+def has_half_after(line: bytes, ends: int) -> bool:
+    after = near(line[ends : ends + REACH])
+    return word(HALVES, after[begun((b" ", b"\t", b",", b";", b"\xc2\xa0", b"\xe2\x80\xaf"), after) :]) > 0
+
+
+def is_clock(line: bytes, place: int) -> bool:
+    return is_edge(line, place) and begun(CLOCKS, line[place:]) > 0
+
+
+def has_clock_beside(line: bytes, begins: int, ends: int) -> bool:
+    return any(is_clock(line, it) for it in (*range(max(begins - 16, 0), begins), *range(ends, ends + 16)))
 
 
 # ---- years beside a date
 
 
+def year_here(text: bytes) -> int | None:
+    return number_said(1000, 2999, 4, text[:4]) if is_edge(text, 4) else None
+
+
+def zone_word(text: bytes) -> int:
+    """Returns the length of a space and the name of a zone in capital letters, or an offset, where a space follows; or 0."""
+    after = text[1:]
+    capitals = len(after) - len(after.lstrip(b"ABCDEFGHIJKLMNOPQRSTUVWXYZ"))
+    long = capitals + signed(HOURS_AND_MINUTES + HOURS, after)
+    return 1 + long if text[:1] == b" " and long and after[long : long + 1] == b" " else 0
+
+
+def is_joint(text: bytes) -> bool:
+    """Whether a text is one byte, or parts, or parts round the word of a weekday."""
+    rest = text[gap(text) :].lstrip(bytes(LETTER))
+    return len(text) == 1 or (gap(text) > 0 and len(rest) == gap(rest))
+
+
+def year_before(line: bytes, begins: int, far: int) -> int | None:
+    start = begins - far
+    is_there = start >= 0 and is_edge(line, start) and is_joint(line[start + 4 : start + 4 + far - 4])
+    return year_here(line[start:]) if is_there else None
+
+
 def has_another_year(line: bytes, begins: int, ends: int, year: int) -> bool:
-    said = []
-    if begins >= 5 and is_edge(line, begins - 5) and is_edge(line, begins - 1):
-        said.append(number_said(1000, 2999, 4, line[begins - 5 : begins - 1]))
-    if is_edge(line, ends + 1) and is_edge(line, ends + 5):
-        said.append(number_said(1000, 2999, 4, line[ends + 1 : ends + 5]))
-    return any(it is not None and it != year for it in said)
+    after = line[ends : ends + REACH]
+    years = [year_here(after[far:]) for far in (1, begun((b", ",), after), zone_word(after) + 1)]
+    years += [year_before(line, begins, far) for far in range(5, 12)]
+    return any(it is not None and it != year for it in years)
+
+
+# ---- a clock before a date
+
+
+def is_in_address(line: bytes, place: int) -> bool:
+    before = line[:place]
+    return before[len(before.rstrip(b"0123456789abcdefABCDEF:")) :].count(b":") > 1
+
+
+def begins_seconds(line: bytes, place: int) -> bool:
+    """Whether hours, minutes and seconds begin here, and no more of a clock or an address."""
+    after = at(line, place + 8)
+    is_there = at(line, place - 1) not in DIGIT and begin_so("99:99:99", line[place:])
+    return is_there and after not in WORD and after != ord(":") and not is_in_address(line, place)
+
+
+def has_clock_in_front(line: bytes, place: int) -> bool:
+    """Whether they do before a place and all quotation marks."""
+    quote = line.find(b'"')
+    before = line[: place if quote < 0 else min(place, quote)]
+    return any(begins_seconds(before, it) for it in range(len(before)))
 
 
 # ---- what a date of ISO 8601 and one of RFC 2822 may have

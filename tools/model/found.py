@@ -51,13 +51,24 @@ class Doubtful(NamedTuple):
 # ---- the moment of a prefix
 
 
+def year_given(year: int, read: Record) -> Record:
+    """Returns the year for a record without one; of two digits alone the year of its hundred that is nearest to a given one."""
+    parts = [it for it in YEAR_PARTS if it in read]
+    if not parts:
+        return {"year": year}
+    if parts not in (["last_two"], ["iso_last_two"]):
+        return {}
+    digits = read[parts[0]]
+    return {parts[0].replace("last_two", "year"): digits + (year - digits + 49) // 100 * 100}
+
+
 def moment_in(given: Given, year: int | None, read: Record) -> Moment | None:
     """Returns the moment of a record, with what is given in place of what was not read, or None."""
     record = dict(read)
     if given.minutes is not None and not any(it in read for it in TIME_PARTS):
         record["hour_24"], record["minute"] = divmod(given.minutes, 60)
-    if year is not None and not any(it in read for it in YEAR_PARTS):
-        record["year"] = year
+    if year is not None:
+        record.update(year_given(year, read))
     if given.offset is not None and "offset_hour" not in read:
         record = with_offset(record, given.offset)
     try:
@@ -75,44 +86,40 @@ def moment_of(given: Given, read: Record) -> Moment | None:
     return min(moments, key=lambda it: abs(it.instant() - instant)) if moments else None
 
 
-def front_named(given: Given, source: Source, text: bytes) -> tuple[Moment, int] | None:
-    """Returns the moment that a prefix of a text names, and the place after it, or None."""
-    front = source.front(text)
-    moment = moment_of(given, front[0]) if front else None
-    if not (front and moment):
-        return None
-    is_likely = LEAST_UNIX <= abs(moment.instant()) < GREATEST_UNIX
-    return (moment, front[1]) if is_likely or not source.has_unix_time else None
+def is_likely(read: Record) -> bool:
+    """A number of Unix time inside a line has nine or ten digits of seconds."""
+    return "unix" not in read or LEAST_UNIX <= abs(read["unix"]) < GREATEST_UNIX
 
 
 # ---- a date at a place
 
 
-def gainsaid(given: Given, source: Source, line: bytes, text: bytes, begins: int, ends: int, moment: Moment) -> str | None:
-    """Returns what the line says otherwise beside the date than what was given and is needed, or None."""
-
-    def is_needed(without: Given) -> bool:
-        return front_named(without, source, text) is None
-
-    if edges.has_another_offset(line, ends, given.offset) and is_needed(given._replace(offset=None)):
+def otherwise(given: Given, read: Record, line: bytes, start: int, begins: int, ends: int, moment: Moment) -> str | None:
+    """Returns what the line says otherwise beside the date than what was given to it, or None."""
+    if "unix" in read:
+        return None
+    needs_offset = given.offset is not None and "offset_hour" not in read
+    needs_time = given.minutes is not None and not any(it in read for it in TIME_PARTS)
+    needs_year = (given.year is not None or given.above is not None) and not any(it in read for it in YEAR_PARTS)
+    if needs_offset and edges.has_another_offset(line, start, ends, given.offset or 0):
         return "another offset"
-    if edges.has_clock_beside(line, begins, ends) and is_needed(given._replace(minutes=None)):
+    if (needs_offset and "is_pm" not in read and edges.has_half_after(line, ends)) or (needs_time and edges.has_clock_beside(line, begins, ends)):
         return "another time"
-    is_other = edges.has_another_year(line, begins, ends, moment.year()) and is_needed(given._replace(year=None, above=None))
-    return "another year" if is_other else None
+    return "another year" if needs_year and edges.has_another_year(line, begins, ends, moment.year()) else None
 
 
 def candidate(given: Given, line: bytes, place: int, number: int, source: Source) -> Candidate | None:
     """Returns the date that a source reads at a place, or None."""
     text = source.text_for(line, place)
-    front = front_named(given, source, text)
-    if not front:
+    front = source.front(text)
+    moment = moment_of(given, front[0]) if front and is_likely(front[0]) else None
+    if not (front and moment):
         return None
-    moment, after = front
+    read, after = front
     long = source.lengths(text, after)
     begins, ends, zone = place + long.begins, place + long.ends, place + long.zone
     is_edge = edges.is_edge(line, place + edges.trimmed_length(text[:after]))
-    if not edges.may_say(line, begins) or (source.has_unix_time and not is_edge):
+    if not edges.may_say(line, begins) or ("unix" in read and not is_edge):
         return None
     doubt: str | None
     if not is_edge:
@@ -120,7 +127,7 @@ def candidate(given: Given, line: bytes, place: int, number: int, source: Source
     elif not long.is_chosen and edges.has_clock_in_front(line, begins):
         doubt = "clock in front"
     else:
-        doubt = gainsaid(given, source, line, text, begins, ends, moment)
+        doubt = otherwise(given, read, line, place, begins, ends, moment)
     return Candidate(Date(begins, zone, number, moment), edges.reach(line, begins, ends, zone), doubt)
 
 
@@ -138,7 +145,8 @@ def at_place(given: Given, sources: Sequence[Source], line: bytes, place: int) -
 
 
 def found(limit: int, given: Given, sources: Sequence[Source], line: bytes) -> Date | Doubtful | None:
-    """Returns the date, or that it is in doubt, or None."""
+    """Returns the date, or that it is in doubt, or None. Of the line no more is looked at than may be of a date or beside it."""
+    line = line[: limit + edges.WINDOW + 64]
     for place in range(min(limit, len(line))):
         there = at_place(given, sources, line, place)
         if there:

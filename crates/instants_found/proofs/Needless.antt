@@ -6,13 +6,13 @@ use Rattle.parsing_components.specs.declared.fields.Record.{Record}
 use Rattle.instants_sources.specs.Grammar.{Grammar}
 use Rattle.instants_edges.specs.Edge.{is_edge}
 use Rattle.instants_edges.specs.Beside.{has_another_offset, has_half_after, has_clock_beside, has_clock_before, has_another_year}
-use Rattle.instants_prefixes.specs.Given.{year_of, lacks_offset, lacks_time, lacks_year}
+use Rattle.instants_prefixes.specs.Given.{year_of, lacks_offset, lacks_time}
 use Rattle.instants_prefixes.specs.Lacks.{is_known}
 use Rattle.instants_prefixes.specs.Reading.{record_at}
 use Rattle.instants_prefixes.specs.declared.prefix.Prefix.{Prefix}
 use Rattle.instants_prefixes.specs.declared.given.Given.{Given}
 use Rattle.instants_prefixes.specs.declared.given.Years.TheVariants.{Unknown}
-use Rattle.instants_found.specs.Beside.{otherwise, why}
+use Rattle.instants_found.specs.Beside.{otherwise, why, says_no_year}
 use Rattle.instants_found.specs.Said.{IsSaid, doubt_by}
 use Rattle.instants_found.specs.declared.beside.Said.{Said}
 use Rattle.instants_found.specs.declared.doubt.Doubt.{Doubt}
@@ -63,7 +63,7 @@ nothing false false false false unix lacks none time years e = rw (and_false lac
 
 pub says_nothing : (said : Said) (read : Record) → not (said.offset || said.half || said.clock || said.year) ≡ true → doubt_by said read ≡ None
 says_nothing said read e =
-    nothing said.offset said.half said.clock said.year (is_some read.unix_timestamp_nanos) (lacks_offset read) (is_none read.hour_12_is_pm) (lacks_time read) (lacks_year read) e
+    nothing said.offset said.half said.clock said.year (is_some read.unix_timestamp_nanos) (lacks_offset read) (is_none read.hour_12_is_pm) (lacks_time read) (says_no_year read) e
 
 -- ---- by what the line says
 
@@ -76,7 +76,7 @@ module _ (given : Given) (read : Record) (line : List ℕ) (start : ℕ) (prefix
       let offset = ap (λ (b : Bool). lacks_offset read && b) are.offset ∙ swapped (is_some given.offset) (lacks_offset read) (has_another_offset line start ends (unwrap_or given.offset (pos 0))) in
       let half = ap (λ (b : Bool). (lacks_offset read && is_none read.hour_12_is_pm) && b) are.half ∙ swapped_three (is_some given.offset) (lacks_offset read) (is_none read.hour_12_is_pm) (has_half_after line ends) in
       let clock = ap (λ (b : Bool). lacks_time read && b) are.clock ∙ swapped (is_some given.time) (lacks_time read) (has_clock_beside line begins ends) in
-      let year = ap (λ (b : Bool). lacks_year read && b) are.year ∙ swapped (is_known given.years) (lacks_year read) (has_another_year line begins ends (year_of prefix.moment)) in
+      let year = ap (λ (b : Bool). says_no_year read && b) are.year ∙ swapped (is_known given.years) (says_no_year read) (has_another_year line begins ends (year_of prefix.moment)) in
       rw (offset, half, clock, year) refl
 
   -- ---- where nothing is given

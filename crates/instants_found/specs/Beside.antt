@@ -20,6 +20,10 @@ is_read grammar line start prefix =
 
 -- ---- what is given, and said otherwise
 
+-- no year was read, and no two digits of one
+abbrev pub says_no_year : Record → Bool
+says_no_year read = lacks_year read && is_none read.year_last_two && is_none read.iso_year_last_two
+
 -- an offset was given to what was read, a time of day, a year
 abbrev pub needs_offset : Given → Record → Bool
 needs_offset given read = is_some given.offset && lacks_offset read
@@ -28,7 +32,7 @@ abbrev pub needs_time : Given → Record → Bool
 needs_time given read = is_some given.time && lacks_time read
 
 abbrev pub needs_year : Given → Record → Bool
-needs_year given read = is_known given.years && lacks_year read
+needs_year given read = is_known given.years && says_no_year read
 
 -- the line says another offset after the date than the one that was given to it
 abbrev pub says_another_offset : Given → Record → List ℕ → ℕ → Prefix → Bool

@@ -3,10 +3,11 @@ use Rattle.std.specs.Prelude.{◌≡◌, ℕ, ◌+◌, ◌&&◌, ◌||◌, is_so
 use Rattle.std.specs.Option.{is_none}
 use Rattle.parsing_components.specs.declared.fields.Record.{Record}
 use Rattle.instants_edges.specs.Beside.{has_another_offset, has_half_after, has_clock_beside, has_another_year}
-use Rattle.instants_prefixes.specs.Given.{year_of, lacks_offset, lacks_year, lacks_time}
+use Rattle.instants_prefixes.specs.Given.{year_of, lacks_offset, lacks_time}
 use Rattle.instants_prefixes.specs.Lacks.{is_known}
 use Rattle.instants_prefixes.specs.declared.given.Given.{Given}
 use Rattle.instants_prefixes.specs.declared.prefix.Prefix.{Prefix}
+use Rattle.instants_found.specs.Beside.{says_no_year}
 use Rattle.instants_found.specs.declared.beside.Said.{Said}
 use Rattle.instants_found.specs.declared.doubt.Doubt.{Doubt}
 use Rattle.instants_found.specs.declared.doubt.Doubt.TheVariants.{AnotherOffset, AnotherTime, AnotherYear}
@@ -28,5 +29,5 @@ doubt_by said read =
     if is_some read.unix_timestamp_nanos then None
     else if lacks_offset read && said.offset then Some AnotherOffset
     else if ((lacks_offset read && is_none read.hour_12_is_pm) && said.half) || (lacks_time read && said.clock) then Some AnotherTime
-    else if lacks_year read && said.year then Some AnotherYear
+    else if says_no_year read && said.year then Some AnotherYear
     else None

@@ -55,6 +55,13 @@ pub(crate) fn is_read(source: &DateSource<'_>, line: &[u8], start: usize, prefix
     is_no_unix_time(source, after(line, start))
 }
 
+// Whether no year was read, and no two digits of one.
+fn says_no_year(read: &Parsed) -> bool
+    ensures { result ≡ Beside.says_no_year read.now }
+{
+    lacks_year(read) && read.year_last_two().is_none() && read.iso_year_last_two().is_none()
+}
+
 /// What a line says beside a date, where something was given that it may say otherwise.
 #[derive(Clone, Copy)]
 pub(crate) struct Said {
@@ -119,7 +126,7 @@ impl Said {
         if (lacks_half && self.half) || (self.clock && lacks_time(read)) {
             return Some(Doubt::AnotherTime);
         }
-        if self.year && lacks_year(read) {
+        if self.year && says_no_year(read) {
             return Some(Doubt::AnotherYear);
         }
         None
