@@ -3,17 +3,17 @@ use Rattle.std.proofs.Common.{◌≡◌, ◌<◌, ◌-◌, ◌+◌, ◌==◌, �
 use Rattle.std.specs.Prelude.{reverse, not, min, if◌then◌else◌}
 use Rattle.std.specs.Char.{is_ascii_alphanumeric, is_ascii_whitespace}
 use Rattle.std.specs.List.{suffix_len}
-use Rattle.std.specs.Option.{is_none}
 use Rattle.std.specs.Result.{result_ok}
 use Rattle.std.proofs.Math.Bool.{and-false, or-true}
 use Rattle.std.proofs.lemmas.Bool.{cases_lt}
 use Rattle.std.proofs.lemmas.Bool.Decides.{nat_tests}
-use Rattle.std.proofs.lemmas.List.{get_or-reverse, get_or_past, take_all}
+use Rattle.std.proofs.lemmas.List.{get_or-reverse, get_or_past, take_all, length-take}
 use Rattle.std.proofs.lemmas.List.Sums.{prefix_len_passes, suffix_len-le-length}
 use Rattle.base.specs.Bytes.{dot, colon}
 use Rattle.datetime_wall.specs.Wall.{Shown}
 use Rattle.parsing_combinator.specs.Fault.{Fault}
 use Rattle.parsing_record.specs.Meaning.{Answer, Meaning}
+use Rattle.parsing_components.specs.declared.fields.Record.{Record}
 use Rattle.parsing_record.specs.Record.{empty}
 use Rattle.parsing_record.specs.Whole.{whole, all_read, names, moment_named}
 use Rattle.parsing_rfc2822.specs.Direct as rfc2822
@@ -21,21 +21,22 @@ use Rattle.parsing_rfc3339.specs.Direct as rfc3339
 use Rattle.parsing_parsable.specs.Staged.{reads_rfc2822, reads_rfc3339, reads_iso8601}
 use Rattle.parsing_parsable.specs.TwoRoads.{AgreeOn}
 use Rattle.instants_sources.specs.Grammar.{Grammar, Described, Rfc2822, Rfc3339, Iso8601}
+use Rattle.instants_sources.specs.Reading.{reading_of}
 use Rattle.instants_sources.specs.Written.{reads_written}
 use Rattle.instants_sources.specs.Named.{named}
-use Rattle.instants_edges.specs.Clock.{has_clock_before, has_seconds_before, quote_place}
+use Rattle.instants_edges.specs.Beside.{has_clock_before, is_any, quote_place}
 use Rattle.instants_edges.specs.Edge.{is_edge, is_sign, may_say}
 use Rattle.instants_edges.specs.Pieces.{trimmed_length}
 use Rattle.instants_prefixes.specs.Prefix.{with_lengths, prefix_in, prefix_at}
-use Rattle.instants_prefixes.specs.Given.{moment_of}
 use Rattle.instants_prefixes.specs.Lengths.{lengths}
-use Rattle.instants_prefixes.specs.Reading.{text_for, may_begin, is_likely, if_likely, prefix_of, prefix_named}
+use Rattle.instants_prefixes.specs.Reading.{text_for, may_begin, is_likely, prefix_of, prefix_named, record_of, record_at}
 use Rattle.instants_prefixes.specs.declared.prefix.Prefix.{Prefix}
 use Rattle.instants_prefixes.specs.declared.given.Given.{Given}
-use Rattle.instants_prefixes.proofs.NamedAlone.{named_given}
-use Rattle.instants_found.specs.Beside.{is_read, is_gainsaid, stands_whole, names_nothing, without_offset, without_time, without_year}
+use Rattle.instants_prefixes.proofs.NamedAlone.{named_given, has_parts}
+use Rattle.instants_prefixes.proofs.Windows.{text_within}
+use Rattle.instants_found.specs.Beside.{is_read, otherwise, why}
 use Rattle.instants_found.specs.Candidate.{as_candidate, of_prefix, candidate, candidates, longest}
-use Rattle.instants_found.specs.Found.{at_place, from_place, found}
+use Rattle.instants_found.specs.Found.{at_place, from_place, found_in, looked_at, found}
 use Rattle.instants_found.specs.declared.found.Found.{Found}
 use Rattle.instants_found.specs.declared.found.Finding.TheVariants.{There}
 use Rattle.instants_timeline.specs.Place.{Setting, first_named, shown_or_refused, place_of, place_text, answer_to}
@@ -52,35 +53,36 @@ ok_of : (r : Result Shown Fault) (m : Shown) → Some m ≡ result_ok r → r �
 ok_of (Ok x) m e = let same : x ≡ m = cc in ap (λ (v : Shown). Ok v) same
 ok_of (Err f) m e = absurd cc
 
-module _ (given : Given) (grammar : Grammar) (moment : Shown) (likely : is_likely grammar moment ≡ true) where
-  kept : (o : Option Shown) → o ≡ Some moment → if_likely grammar o [] ≡ Some (moment, [])
-  kept o e = ap (λ (x : Option Shown). if_likely grammar x []) e ∙ chosen (is_likely grammar moment) (moment, []) likely
+-- all of a text is read, and its record names a moment
+record IsWhole (given : Given) (moment : Shown) (x : Answer) : Type 0 where
+  prefix : prefix_of given x ≡ Some (moment, [])
+  names_it : moment_named (record_of x) ≡ Ok moment
 
-  prefix_all : (x : Answer) → names moment_named (all_read x) ≡ Ok moment → prefix_of given grammar x ≡ Some (moment, [])
-  prefix_all (Ok (r, [])) e = kept (moment_of given given.years r) (named_given given given.years r moment e)
-  prefix_all (Ok (r, byte ∷ rest)) e =
+module _ (given : Given) (moment : Shown) where
+  prefix_all : (x : Answer) → is_likely (record_of x).unix_timestamp_nanos ≡ true → names moment_named (all_read x) ≡ Ok moment → IsWhole given moment x
+  prefix_all (Ok (r, [])) likely e = record { prefix = rw (likely, named_given given given.years r moment e) refl; names_it = e }
+  prefix_all (Ok (r, byte ∷ rest)) likely e =
       let more : (length (byte ∷ rest) == 0) ≡ false = grind (arith, nat_tests) in
       let refused = rw more at e in
       absurd cc
-  prefix_all (Err f) e = absurd cc
+  prefix_all (Err f) likely e = absurd cc
 
-  by_record : (m : Meaning) (line : List ℕ) → names moment_named (whole m None line) ≡ Ok moment → prefix_of given grammar (m empty line) ≡ Some (moment, [])
+  by_record : (m : Meaning) (line : List ℕ) → is_likely (record_of (m empty line)).unix_timestamp_nanos ≡ true → names moment_named (whole m None line) ≡ Ok moment → IsWhole given moment (m empty line)
   unfolding whole
-  by_record m line e = prefix_all (m empty line) e
+  by_record m line likely e = prefix_all (m empty line) likely e
 
-  by_road : (direct : List ℕ → Result Shown Fault) (m : Meaning) (line : List ℕ) → AgreeOn direct m line → direct line ≡ Ok moment → prefix_of given grammar (m empty line) ≡ Some (moment, [])
+  by_road : (direct : List ℕ → Result Shown Fault) (m : Meaning) (line : List ℕ) → AgreeOn direct m line → is_likely (record_of (m empty line)).unix_timestamp_nanos ≡ true → direct line ≡ Ok moment → IsWhole given moment (m empty line)
   unfolding whole
-  by_road direct m line agree e =
+  by_road direct m line agree likely e =
       let alike : Some moment ≡ result_ok (names moment_named (whole m None line)) = sym (ap result_ok e) ∙ agree None None in
-      by_record m line (ok_of (names moment_named (whole m None line)) moment alike)
+      by_record m line likely (ok_of (names moment_named (whole m None line)) moment alike)
 
-prefix_whole : (given : Given) (grammar : Grammar) (line : List ℕ) (moment : Shown) → AgreeOn rfc3339.direct reads_rfc3339 line → AgreeOn rfc2822.direct reads_rfc2822 line
-    → named None grammar line ≡ Ok moment → may_begin grammar line ≡ true → is_likely grammar moment ≡ true → prefix_named given grammar line ≡ Some (moment, [])
-unfolding prefix_named
-prefix_whole given (Described written) line moment of_rfc3339 of_rfc2822 e begins likely = by_record given (Described written) moment likely (reads_written written) line e
-prefix_whole given Rfc2822 line moment of_rfc3339 of_rfc2822 e begins likely = rw begins (by_road given Rfc2822 moment likely rfc2822.direct reads_rfc2822 line of_rfc2822 e)
-prefix_whole given Rfc3339 line moment of_rfc3339 of_rfc2822 e begins likely = by_road given Rfc3339 moment likely rfc3339.direct reads_rfc3339 line of_rfc3339 e
-prefix_whole given Iso8601 line moment of_rfc3339 of_rfc2822 e begins likely = by_record given Iso8601 moment likely reads_iso8601 line e
+read_whole : (given : Given) (grammar : Grammar) (line : List ℕ) (moment : Shown) → AgreeOn rfc3339.direct reads_rfc3339 line → AgreeOn rfc2822.direct reads_rfc2822 line
+    → named None grammar line ≡ Ok moment → is_likely (record_of (reading_of grammar empty line)).unix_timestamp_nanos ≡ true → IsWhole given moment (reading_of grammar empty line)
+read_whole given (Described written) line moment of_rfc3339 of_rfc2822 e likely = by_record given moment (reads_written written) line likely e
+read_whole given Rfc2822 line moment of_rfc3339 of_rfc2822 e likely = by_road given moment rfc2822.direct reads_rfc2822 line of_rfc2822 likely e
+read_whole given Rfc3339 line moment of_rfc3339 of_rfc2822 e likely = by_road given moment rfc3339.direct reads_rfc3339 line of_rfc3339 likely e
+read_whole given Iso8601 line moment of_rfc3339 of_rfc2822 e likely = by_record given moment reads_iso8601 line likely e
 
 -- ---- the edges of the line
 
@@ -122,20 +124,22 @@ says_first : (line : List ℕ) → may_say line 0 ≡ true
 says_first line = or-true (not (is_sign (get_or line 0 0)))
 
 clock_none : (line : List ℕ) → has_clock_before line 0 ≡ false
-unfolding has_clock_before has_seconds_before
+unfolding has_clock_before is_any
 clock_none line =
     let none : min 0 (quote_place line) ≡ 0 = omega arith in
     rw none refl
 
 -- ---- the date at the first place
 
-module _ (given : Given) (grammar : Grammar) (line : List ℕ) (moment : Shown) (text : text_for grammar line ≡ line) (names_it : (other : Given) → prefix_named other grammar line ≡ Some (moment, [])) (first : (lengths grammar line []).begins ≡ 0) where
+module _ (given : Given) (grammar : Grammar) (line : List ℕ) (moment : Shown) (text : text_for grammar line ≡ line) (begun : may_begin grammar line ≡ true) (whole_is : IsWhole given moment (reading_of grammar empty line)) (first : (lengths grammar line []).begins ≡ 0) where
   abbrev prefix : Prefix
   prefix = with_lengths line moment [] (lengths grammar line [])
 
   prefix_is : prefix_at given grammar line ≡ Some prefix
-  unfolding prefix_at
-  prefix_is = ap (λ (bytes : List ℕ). prefix_in grammar bytes (prefix_named given grammar bytes)) text ∙ ap (prefix_in grammar line) (names_it given)
+  unfolding prefix_at prefix_named
+  prefix_is =
+      ap (λ (bytes : List ℕ). prefix_in grammar bytes (prefix_named given grammar bytes)) text
+      ∙ rw (begun, whole_is.prefix) refl
 
   ends : 0 + prefix.all ≡ trimmed_length line
   ends =
@@ -155,16 +159,27 @@ module _ (given : Given) (grammar : Grammar) (line : List ℕ) (moment : Shown) 
   no_clock : has_clock_before line (0 + prefix.begins) ≡ false
   no_clock = ap (λ (place : ℕ). has_clock_before line place) begins ∙ clock_none line
 
-  named_too : (without : Given) → names_nothing without grammar (drop 0 line) ≡ false
-  named_too without = ap (λ (bytes : List ℕ). is_none (prefix_named without grammar bytes)) text ∙ ap (λ (o : Option (Shown × List ℕ)). is_none o) (names_it without)
+  -- what was read needs nothing, or is a number of Unix time
+  abbrev its_record : Record
+  its_record = record_at grammar (drop 0 line)
 
-  unsaid : is_gainsaid given grammar line 0 prefix ≡ false
-  unfolding is_gainsaid
-  unsaid = rw (named_too (without_offset given), named_too (without_time given), named_too (without_year given)) (simp and-false)
+  record_is : its_record ≡ record_of (reading_of grammar empty line)
+  unfolding record_at
+  record_is = ap (λ (bytes : List ℕ). record_of (reading_of grammar empty bytes)) text
 
-  stands : stands_whole given grammar line 0 prefix ≡ true
-  unfolding stands_whole
-  stands = rw (edge, no_clock, unsaid) (simp or-true)
+  unsaid : None ≡ otherwise given its_record line 0 prefix
+  unfolding otherwise
+  unsaid =
+      elim its_record.unix_timestamp_nanos as (λ o. its_record.unix_timestamp_nanos ≡ o → None ≡ otherwise given its_record line 0 prefix) [
+        | Some n ↦ λ e. rw e refl
+        | None ↦ λ e.
+            let has = has_parts its_record moment e (ap moment_named record_is ∙ whole_is.names_it) in
+            rw (e, has.offset, has.time, has.date) (simp and-false)
+      ] refl
+
+  stands : why given grammar line 0 prefix ≡ None
+  unfolding why
+  stands = rw (edge, no_clock, sym unsaid) (simp and-false)
 
   read : is_read grammar line 0 prefix ≡ true
   read = rw (says, edge) refl
@@ -179,25 +194,34 @@ module _ (given : Given) (grammar : Grammar) (line : List ℕ) (moment : Shown) 
 
 -- ---- the date of the line
 
-found_first : (limit : ℕ) (given : Given) (sources : List Grammar) (line : List ℕ) (date : Found) → 0 < limit → 0 < length line → at_place given sources line 0 ≡ Some (There date) → found limit given sources line ≡ Some (There date)
-unfolding found from_place
-found_first limit given sources [] date some long e = absurd (omega (arith, long))
-found_first zero given sources (byte ∷ after) date some long e = absurd (omega (arith, some))
-found_first (suc limit) given sources (byte ∷ after) date some long e = rw e refl
+found_in_first : (limit : ℕ) (given : Given) (sources : List Grammar) (line : List ℕ) (date : Found) → 0 < limit → 0 < length line → at_place given sources line 0 ≡ Some (There date) → found_in limit given sources line ≡ Some (There date)
+unfolding from_place
+found_in_first limit given sources [] date some long e = absurd (omega (arith, long))
+found_in_first zero given sources (byte ∷ after) date some long e = absurd (omega (arith, some))
+found_in_first (suc limit) given sources (byte ∷ after) date some long e = rw e refl
 
 alone_named : (setting : Setting) (grammar : Grammar) (line : List ℕ) (moment : Shown) → setting.sources ≡ grammar ∷ [] → named setting.assumed grammar line ≡ Ok moment → first_named setting.assumed setting.sources line ≡ Ok moment
 unfolding first_named
 alone_named setting grammar line moment alone e = rw alone (rw e refl)
 
+-- all of such a line is looked at
+all_looked_at : (limit : ℕ) (grammar : Grammar) (line : List ℕ) → text_for grammar line ≡ line → looked_at limit line ≡ line
+all_looked_at limit grammar line text =
+    let within = text_within grammar line in
+    let few : length line ≤ length (take 256 line) = rw text at within in
+    take_all (limit + 256 + 64) line (omega (arith, few, length-take 256 line))
+
 pub key_alone : (going : Going) (grammar : Grammar) (line : List ℕ) (moment : Shown) → AgreeOn rfc3339.direct reads_rfc3339 line → AgreeOn rfc2822.direct reads_rfc2822 line
     → going.search.setting.sources ≡ grammar ∷ [] → named None grammar line ≡ Ok moment → named going.search.setting.assumed grammar line ≡ Ok moment → 0 < going.search.limit → 0 < length line
-    → text_for grammar line ≡ line → may_begin grammar line ≡ true → is_likely grammar moment ≡ true → (lengths grammar line []).begins ≡ 0
+    → text_for grammar line ≡ line → may_begin grammar line ≡ true → is_likely (record_at grammar line).unix_timestamp_nanos ≡ true → (lengths grammar line []).begins ≡ 0
     → key_of_line going line ≡ answer_to going.search.setting line
-unfolding key_of_line place_of_date answer_to place_of
+unfolding key_of_line place_of_date answer_to place_of found record_at
 key_alone going grammar line moment of_rfc3339 of_rfc2822 alone e assumed some long text may likely first =
     let search = going.search in
     let setting = search.setting in
-    let at = at_first search.given grammar line moment text (λ other. prefix_whole other grammar line moment of_rfc3339 of_rfc2822 e may likely) first in
-    let is = ap (λ (sources : List Grammar). found search.limit search.given sources line) alone ∙ found_first search.limit search.given (grammar ∷ []) line _ some long at in
+    let whole_is = read_whole search.given grammar line moment of_rfc3339 of_rfc2822 e (rw text at likely) in
+    let at = at_first search.given grammar line moment text may whole_is first in
+    let is = ap (found_in search.limit search.given setting.sources) (all_looked_at search.limit grammar line text)
+        ∙ ap (λ (sources : List Grammar). found_in search.limit search.given sources line) alone ∙ found_in_first search.limit search.given (grammar ∷ []) line _ some long at in
     ap (key_or setting going.key) is
     ∙ ap (λ (n : Result Shown Fault). place_text (shown_or_refused setting.target n)) (sym (alone_named setting grammar line moment alone assumed))

@@ -6,7 +6,7 @@ ghost use Rattle.base.specs.Bytes.{tab, line_feed};
 ghost use Rattle.datetime_wall.specs.Wall.{Shown, instant};
 ghost use Rattle.instants_answers.specs.Text.{moment_text};
 ghost use Rattle.instants_prefixes.specs.Lengths.{lengths};
-ghost use Rattle.instants_prefixes.specs.Reading.{is_likely, may_begin, text_for};
+ghost use Rattle.instants_prefixes.specs.Reading.{is_likely, may_begin, record_at, text_for};
 ghost use Rattle.instants_prefixes.specs.declared.given.Years.TheVariants.{Unknown};
 ghost use Rattle.instants_found.specs.declared.found.Found.{Found};
 ghost use Rattle.instants_found.specs.declared.found.Finding.{Finding};
@@ -69,7 +69,7 @@ pub fn whole_line()
         → named going.search.setting.assumed grammar line ≡ Ok moment
         → 0 < going.search.limit → 0 < length line
         → text_for grammar line ≡ line → may_begin grammar line ≡ true
-        → is_likely grammar moment ≡ true → (lengths grammar line []).begins ≡ 0
+        → is_likely (record_at grammar line).unix_timestamp_nanos ≡ true → (lengths grammar line []).begins ≡ 0
         → key_of_line going line ≡ answer_to going.search.setting line }
 {
     two_roads_of_rfc3339();
