@@ -1,5 +1,6 @@
 -- The rest of a long line is handed on as if the line had been looked at whole.
-use Rattle.std.proofs.Common.{◌≡◌, ◌<◌, ◌≤◌, ◌+◌, ℕ, Bool, true, List, [], ◌∷◌, ◌++◌, length, take, drop, Option, Some, None, Result, Ok, Err, refl, sym, ap, ◌∙◌, inl, inr, arith, append_assoc, length-take-le, take-append-drop}
+use Rattle.std.specs.Prelude.{nat_lt}
+use Rattle.std.proofs.Common.{◌≡◌, ◌<◌, ◌≤◌, ◌+◌, ◌/◌, ℕ, Bool, true, List, [], ◌∷◌, ◌++◌, length, take, drop, Option, Some, None, Result, Ok, Err, refl, sym, ap, ◌∙◌, inl, inr, arith, append_assoc, length-take-le, take-append-drop}
 use Rattle.std.proofs.lemmas.Bool.{cases_lt}
 use Rattle.std.proofs.lemmas.List.{take-append-le, drop-append-le}
 use Rattle.base.specs.Bytes.{tab, line_feed}
@@ -15,7 +16,7 @@ use Rattle.instants_stream.proofs.Written.{line_said-longer, line_next-longer, l
 use Rattle.instants_timeline.specs.Place.{Setting}
 use Rattle.instants_faults.specs.Refusal.{Refusal}
 use Rattle.instants_lines.specs.Dates.{date_in, key_or, place_of_date, with_date_time, with_date, replaced}
-use Rattle.instants_lines.specs.Going.{Going, below, given_below, search_below, key_of_line, key_below, keyed, label_prefix, text_in, next_in, near, begun_in, hands_on, end_in, lines_steps}
+use Rattle.instants_lines.specs.Going.{Going, below, below_by, columns, deep_below, depth, finding_in, goes_on, key_of_line, keyed, label_prefix, text_in, next_in, near, begun_in, hands_on, end_in, lines_steps}
 use Rattle.instants_lines_words.specs.declared.mode.Mode.{Mode}
 use Rattle.instants_lines_words.specs.declared.mode.Mode.TheVariants.{Key, Carry, Replace, Explain, Locate}
 
@@ -63,6 +64,21 @@ with_longer setting prefix rest None lies = refl
 with_longer setting prefix rest (Some (Doubtful place)) lies = refl
 with_longer setting prefix rest (Some (There date)) lies = let both = lies date refl in time_longer prefix rest date (place_of_date setting date) both.0 both.1
 
+-- ---- how deep a line begins
+
+on_by : (mode : Mode) (indent : Option ℕ) (one other : List ℕ) → depth one ≡ depth other → goes_on mode indent one ≡ goes_on mode indent other
+on_by Carry None one other e = refl
+on_by Carry (Some indent) one other e = ap (nat_lt indent) e
+on_by mode indent one other e = refl
+
+deep_by : (mode : Mode) (indent : Option ℕ) (one other : List ℕ) → depth one ≡ depth other → deep_below mode indent one ≡ deep_below mode indent other
+deep_by Carry indent one other e = ap Some e
+deep_by mode indent one other e = refl
+
+below_by_depth : (going : Going) (one other : List ℕ) (finding : Option Finding) → depth one ≡ depth other → below_by going one finding ≡ below_by going other finding
+below_by_depth going one other None e = refl
+below_by_depth going one other (Some finding) e = ap (λ (indent : Option ℕ). record (below_by going one (Some finding)) { indent = indent }) (deep_by going.mode going.indent one other e)
+
 -- ---- a line that is longer
 
 module _ (going : Going) (line : List ℕ) (many : ℕ) (other : HandsOn going.mode) (far : many ≡ going.search.limit + 256 + 64) (longer : many < length line) where
@@ -83,14 +99,22 @@ module _ (going : Going) (line : List ℕ) (many : ℕ) (other : HandsOn going.m
       sym (near_found going.search.limit going.search.given going.search.setting.sources prefix rest (omega (arith, far, prefix_length)))
       ∙ ap (λ (l : List ℕ). found going.search.limit going.search.given going.search.setting.sources l) joined
 
+  same_depth : depth prefix ≡ depth line
+  unfolding depth
+  same_depth = ap (λ (bytes : List ℕ). columns bytes / 2) (sym (take-append-le 256 prefix rest (omega (arith, far, prefix_length))) ∙ ap (take 256) joined)
+
+  same_on : goes_on going.mode going.indent prefix ≡ goes_on going.mode going.indent line
+  same_on = on_by going.mode going.indent prefix line same_depth
+
+  same_finding : finding_in going prefix ≡ finding_in going line
+  same_finding = rw (same_on, same_date) refl
+
   same_key : key_of_line going prefix ≡ key_of_line going line
   unfolding key_of_line
-  same_key = ap (key_or going.search.setting going.key) same_date
+  same_key = ap (key_or going.search.setting going.key) same_finding
 
   same_below : below going prefix ≡ below going line
-  same_below =
-      ap (λ (o : Option Finding). record going { search = record going.search { given = given_below going.search.given o }; key = key_below going.mode going.key (key_of_line going prefix) }) same_date
-      ∙ ap (λ (key : List ℕ). record going { search = search_below going.search line; key = key_below going.mode going.key key }) same_key
+  same_below = ap (below_by going prefix) same_finding ∙ below_by_depth going prefix line (finding_in going line) same_depth
 
   same_keyed : keyed going prefix ++ rest ≡ keyed going line
   same_keyed =

@@ -9,8 +9,8 @@ use Rattle.instants_found.specs.declared.found.Finding.TheVariants.{Doubtful, Th
 use Rattle.instants_stream.specs.Lines.{whole_lines, last_part}
 use Rattle.instants_stream.specs.Steps.{state_within, line_next, after, output}
 use Rattle.instants_stream.proofs.Written.{line_next-longer, line_next-short, output-append}
-use Rattle.instants_lines.specs.Dates.{date_in}
-use Rattle.instants_lines.specs.Going.{Going, below, given_below, years_below, key_of_line, key_below, next_in, lines_steps}
+use Rattle.instants_lines.specs.Dates.{key_or}
+use Rattle.instants_lines.specs.Going.{Going, below, below_by, finding_in, given_below, indent_below, years_below, key_below, next_in, lines_steps}
 use Rattle.instants_lines_words.specs.declared.mode.Mode.{Mode}
 use Rattle.instants_lines_words.specs.declared.mode.Mode.TheVariants.{Carry, Explain}
 
@@ -27,10 +27,17 @@ key_stays : (mode : Mode) → (mode ≡ Carry → ⊥) → (key above : List ℕ
 key_stays Carry other key above = absurd (other refl)
 key_stays mode other key above = refl
 
+deep_stays : (mode : Mode) → (mode ≡ Carry → ⊥) → (indent : Option ℕ) (line : List ℕ) (finding : Option Finding) → indent_below mode indent line finding ≡ indent
+deep_stays mode other indent line None = refl
+deep_stays Carry other indent line (Some finding) = absurd (other refl)
+deep_stays mode other indent line (Some finding) = refl
+
+by_stays : (going : Going) (line : List ℕ) (finding : Option Finding) → (going.mode ≡ Carry → ⊥) → going.search.given.years ≡ Unknown → below_by going line finding ≡ going
+by_stays going line finding other e =
+    rw (given_stays going.search.given finding e, key_stays going.mode other going.key (key_or going.search.setting going.key finding), deep_stays going.mode other going.indent line finding) refl
+
 below_stays : (going : Going) (line : List ℕ) → (going.mode ≡ Carry → ⊥) → going.search.given.years ≡ Unknown → below going line ≡ going
-below_stays going line other e =
-    ap (λ (given : Given). record going { search = record going.search { given = given }; key = key_below going.mode going.key (key_of_line going line) }) (given_stays going.search.given (date_in going.search line) e)
-    ∙ ap (λ (key : List ℕ). record going { key = key }) (key_stays going.mode other going.key (key_of_line going line))
+below_stays going line other e = by_stays going line (finding_in going line) other e
 
 next_stays : (mode : Mode) → (mode ≡ Carry → ⊥) → (going : Going) (line : List ℕ) → below going line ≡ going → next_in mode going line ≡ going
 next_stays Explain other going line e = refl

@@ -1,6 +1,6 @@
 -- What is written for lines one after another.
-use Rattle.std.specs.Prelude.{ℕ, ◌+◌, Bool, true, false, List, [], ◌∷◌, ◌++◌, Option, None, Some, codes}
-use Rattle.base.specs.Bytes.{tab, line_feed}
+use Rattle.std.specs.Prelude.{ℕ, ◌+◌, ◌/◌, ◌==◌, nat_lt, Bool, true, false, List, [], ◌∷◌, ◌++◌, take, Option, None, Some, codes, if◌then◌else◌}
+use Rattle.base.specs.Bytes.{space, tab, line_feed}
 use Rattle.datetime_wall.specs.Wall.{Shown}
 use Rattle.instants_prefixes.specs.Reading.{window}
 use Rattle.instants_prefixes.specs.declared.given.Given.{Given}
@@ -15,16 +15,35 @@ use Rattle.instants_lines.specs.Located.{located}
 use Rattle.instants_lines_words.specs.declared.mode.Mode.{Mode}
 use Rattle.instants_lines_words.specs.declared.mode.Mode.TheVariants.{Key, Carry, Replace, Explain, Locate}
 
--- the mode, what dates are looked for by, the label of the lines, and the key that a line without a date takes
+-- the mode, what dates are looked for by, the label of the lines, the key that a line without a date takes, and how deep the last line with a date begins
 pub record Going : Type 0 where
   pub mode : Mode
   pub search : Search
   pub label : Option (List ℕ)
   pub key : List ℕ
+  pub indent : Option ℕ
+
+-- the columns of white space at the start of a line, a tab for eight
+unfoldable pub columns : List ℕ → ℕ
+columns [] = 0
+columns (byte ∷ others) = if byte == space then 1 + columns others else if byte == tab then 8 + columns others else 0
+
+-- how deep a line begins, in steps of two columns, since a day or an hour may be one digit after a space
+unfoldable pub depth : List ℕ → ℕ
+depth line = columns (take window line) / 2
+
+-- in mode `carry` a line that begins deeper than the last one with a date goes on with what that one says
+abbrev pub goes_on : Mode → Option ℕ → List ℕ → Bool
+goes_on Carry (Some indent) line = nat_lt indent (depth line)
+goes_on _ indent line = false
+
+-- the date of a line, which is none where the line goes on
+abbrev pub finding_in : Going → List ℕ → Option Finding
+finding_in going line = if goes_on going.mode going.indent line then None else date_in going.search line
 
 -- the key of a line: that of its date, and where it has none the one that such a line takes
 unfoldable pub key_of_line : Going → List ℕ → List ℕ
-key_of_line going line = key_or going.search.setting going.key (date_in going.search line)
+key_of_line going line = key_or going.search.setting going.key (finding_in going line)
 
 -- what stands before a line for its label: the label and a tab, or nothing
 abbrev pub label_prefix : Option (List ℕ) → List ℕ
@@ -64,9 +83,9 @@ given_below given None = given
 given_below given (Some (Doubtful place)) = given
 given_below given (Some (There date)) = record given { years = years_below given.years date.moment }
 
--- what dates are looked for by below a line
-abbrev pub search_below : Search → List ℕ → Search
-search_below search line = record search { given = given_below search.given (date_in search line) }
+-- what dates are looked for by below a line with this date
+abbrev pub search_below : Search → Option Finding → Search
+search_below search finding = record search { given = given_below search.given finding }
 
 -- the key that a line without a date takes below a line with this key: that one in mode `carry`, and else the one that it takes anywhere
 abbrev pub key_below : Mode → List ℕ → List ℕ → List ℕ
@@ -76,8 +95,26 @@ key_below Replace key above = key
 key_below Explain key above = key
 key_below Locate key above = key
 
+-- in mode `carry` the last line with a date is as deep as it begins
+abbrev pub deep_below : Mode → Option ℕ → List ℕ → Option ℕ
+deep_below Carry indent line = Some (depth line)
+deep_below _ indent line = indent
+
+abbrev pub indent_below : Mode → Option ℕ → List ℕ → Option Finding → Option ℕ
+indent_below mode indent line None = indent
+indent_below mode indent line (Some finding) = deep_below mode indent line
+
+-- below a line with this date
+abbrev pub below_by : Going → List ℕ → Option Finding → Going
+below_by going line finding =
+    record going {
+      search = search_below going.search finding;
+      key = key_below going.mode going.key (key_or going.search.setting going.key finding);
+      indent = indent_below going.mode going.indent line finding;
+    }
+
 abbrev pub below : Going → List ℕ → Going
-below going line = record going { search = search_below going.search line; key = key_below going.mode going.key (key_of_line going line) }
+below going line = below_by going line (finding_in going line)
 
 -- a line that is explained changes nothing
 abbrev pub next_in : Mode → Going → List ℕ → Going
@@ -135,4 +172,4 @@ lines_steps =
 
 -- at the beginning a line without a date takes `! none`
 abbrev pub beginning : Mode → Option (List ℕ) → Search → Going
-beginning mode label search = record { mode = mode; search = search; label = label; key = codes "! none" }
+beginning mode label search = record { mode = mode; search = search; label = label; key = codes "! none"; indent = None }

@@ -8,7 +8,7 @@ use Rattle.instants_lines.specs.declared.line_writer.LineWriter.{LineWriter}
 use Rattle.instants_lines.specs.declared.program.LinesAsked.{LinesAsked}
 
 abbrev pub going_of : LineWriter → Going
-going_of writer = record { mode = writer.mode; search = search_in writer.dates.now writer.given; label = option_map (λ text. text.now) writer.label; key = writer.key }
+going_of writer = record { mode = writer.mode; search = search_in writer.dates.now writer.given; label = option_map (λ text. text.now) writer.label; key = writer.key; indent = writer.indent }
 
 -- what is written for lines under a limit as words ask
 abbrev pub writing_for : LinesAsked → ℕ → Writing

@@ -14,6 +14,7 @@
 
 mod date_sources;
 mod decimals;
+mod depth;
 mod explained;
 mod lacking;
 pub mod laws;

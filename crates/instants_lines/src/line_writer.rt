@@ -10,8 +10,8 @@ use instants_answers::Answer;
 use instants_lines_words::Mode;
 use instants_prefixes::Given;
 
-/// Writes lines in a mode, by their dates. It keeps the key that a line without a date takes, and
-/// the year of the last date where one is given.
+/// Writes lines in a mode, by their dates. It keeps the key that a line without a date takes,
+/// the year of the last date where one is given, and how deep the last line with a date begins.
 #[derive(Drop)]
 pub(crate) struct LineWriter<'a, 'b> {
     mode: Mode,
@@ -23,6 +23,8 @@ pub(crate) struct LineWriter<'a, 'b> {
     tabbed: Answer,
     // Where the key of a line is made, from which it is written.
     storage: Answer,
+    // How deep the last line with a date begins.
+    indent: Option<usize>,
     // There is room for a tab after it.
     ghost room: { length key ≤ 63 },
     ghost tabbed_is: { tabbed ≡ key ++ tab ∷ [] },

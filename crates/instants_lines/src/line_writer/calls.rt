@@ -6,13 +6,14 @@ ghost use Rattle.instants_found.specs.Starts.{HasNoDate};
 ghost use Rattle.instants_found.specs.declared.found.Finding.TheVariants.{Doubtful, There};
 ghost use Rattle.instants_lines.specs.Showing.{search_in};
 ghost use Rattle.instants_lines.specs.Dates.{date_in, doubt, replaced};
-ghost use Rattle.instants_lines.specs.Going.{below, beginning, given_below, key_of_line, key_below, keyed, label_prefix};
+ghost use Rattle.instants_lines.specs.Going.{below, beginning, deep_below, finding_in, given_below, goes_on, key_of_line, key_below, keyed, label_prefix};
 ghost use Rattle.instants_lines.specs.Located.{located};
 ghost use Rattle.instants_lines.specs.Writing.{going_of};
 ghost use Rattle.instants_lines.specs.Wrote.{Wrote};
 ghost use Rattle.instants_lines_words.specs.declared.mode.Mode.{Mode};
 
 use crate::date_sources::DateSources;
+use crate::depth::depth;
 use crate::line_writer::LineWriter;
 use crate::located::write_finding;
 use crate::parts::{tabbed, write_both, write_keyed, write_labelled, write_three};
@@ -43,15 +44,28 @@ impl<'a, 'b> LineWriter<'a, 'b> {
             key,
             tabbed: tabbed(key),
             storage: Answer::new(),
+            indent: None,
         }
     }
 
-    // Keeps the key of a line, which was made in the storage, where the lines below it take it.
+    // Whether a line goes on with what the last one with a date says.
     #[inline(always)]
-    fn keep(&mut self)
+    fn goes_on(&self, line: &[u8]) -> bool
+        ensures { result ≡ goes_on (going_of self.now).mode (going_of self.now).indent line.now }
+    {
+        match self.indent {
+            Some(indent) if self.mode == Mode::Carry => indent < depth(line),
+            _ => false,
+        }
+    }
+
+    // Keeps the key of a line, which was made in the storage, where the lines below it take it, and how deep the line begins.
+    #[inline(always)]
+    fn keep(&mut self, line: &[u8])
         requires { length self.old.storage ≤ 63 }
         ensures kept { going_of self.new ≡ record (going_of self.old) {
           key = key_below (going_of self.old).mode (going_of self.old).key self.old.storage;
+          indent = deep_below (going_of self.old).mode (going_of self.old).indent line.now;
         } }
         ensures storage { self.new.storage ≡ self.old.storage }
     {
@@ -64,8 +78,19 @@ impl<'a, 'b> LineWriter<'a, 'b> {
                 key: self.storage,
                 tabbed: tabbed(self.storage),
                 storage: self.storage,
+                indent: Some(depth(line)),
             };
         }
+    }
+
+    // The date of a line, which is none where the line goes on.
+    fn finding_in(&self, line: &[u8]) -> Option<Finding>
+        ensures { result ≡ finding_in (going_of self.now) line.now }
+    {
+        if self.goes_on(line) {
+            return None;
+        }
+        self.dates.date_in(&self.given, line)
     }
 
     // Keeps the moment of a date, where a year is given.
@@ -102,7 +127,7 @@ impl<'a, 'b> LineWriter<'a, 'b> {
     #[inline(always)]
     #[tactic(auto, using(crate::proofs::Keyed::dated, crate::proofs::Keyed::doubtful, crate::proofs::Keyed::undated, crate::proofs::Keyed::below_itself))]
     fn take_key(&mut self, line: &[u8], finding: Option<Finding>) -> Answer
-        requires { finding ≡ date_in (going_of self.old).search line.now }
+        requires { finding ≡ finding_in (going_of self.old) line.now }
         ensures key { result ≡ key_of_line (going_of self.old) line.now }
         ensures room { length result ≤ 63 }
         ensures next { going_of self.new ≡ below (going_of self.old) line.now }
@@ -111,12 +136,12 @@ impl<'a, 'b> LineWriter<'a, 'b> {
             Some(Finding::There(date)) => {
                 self.dates.write_named(&date.moment, &mut self.storage);
                 self.keep_year(&date);
-                self.keep();
+                self.keep(line);
                 self.storage
             }
             Some(Finding::Doubtful(_)) => {
                 self.storage = doubt();
-                self.keep();
+                self.keep(line);
                 self.storage
             }
             None => self.key,
@@ -132,14 +157,14 @@ impl<'a, 'b> LineWriter<'a, 'b> {
         writer: &mut W,
     ) -> Result<(), DeviceFailed>
         requires works { W.failed writer.old ≡ false }
-        requires found { date_in (going_of self.old).search line.now ≡ Some (There date.now) }
+        requires found { finding_in (going_of self.old) line.now ≡ Some (There date.now) }
         ensures wrote { Wrote W.ByteWriter writer.old writer.new result
             (keyed (going_of self.old) line.now ++ line_feed ∷ []) }
         ensures next { OnOk result (going_of self.new ≡ below (going_of self.old) line.now) }
     {
         self.dates.write_named(&date.moment, &mut self.storage);
         self.keep_year(date);
-        self.keep();
+        self.keep(line);
         self.storage.push(b'\t');
         write_keyed(writer, &self.storage, &self.label, line)
     }
@@ -157,6 +182,7 @@ impl<'a, 'b> LineWriter<'a, 'b> {
         requires within { first < length (looked_at (going_of self.old).search.limit line.now) }
         requires passed { HasNoDate (going_of self.old).search.setting.sources
             (looked_at (going_of self.old).search.limit line.now) 0 first }
+        requires own { goes_on (going_of self.old).mode (going_of self.old).indent line.now ≡ false }
         ensures wrote { IfSome result (λ end. Wrote W.ByteWriter writer.old writer.new end
             (keyed (going_of self.old) line.now ++ line_feed ∷ [])) }
         ensures next { IfSome result (λ end. OnOk end (going_of self.new ≡ below (going_of self.old) line.now)) }
@@ -182,6 +208,7 @@ impl<'a, 'b> LineWriter<'a, 'b> {
         requires within { first < length (looked_at (going_of self.old).search.limit line.now) }
         requires passed { HasNoDate (going_of self.old).search.setting.sources
             (looked_at (going_of self.old).search.limit line.now) 0 first }
+        requires own { goes_on (going_of self.old).mode (going_of self.old).indent line.now ≡ false }
         ensures wrote { Wrote W.ByteWriter writer.old writer.new result
             (keyed (going_of self.old) line.now ++ line_feed ∷ []) }
         ensures next { OnOk result (going_of self.new ≡ below (going_of self.old) line.now) }
@@ -204,6 +231,9 @@ impl<'a, 'b> LineWriter<'a, 'b> {
             (keyed (going_of self.old) line.now ++ line_feed ∷ []) }
         ensures next { OnOk result (going_of self.new ≡ below (going_of self.old) line.now) }
     {
+        if self.goes_on(line) {
+            return self.write_undated(line, writer);
+        }
         let Some(first) = self.dates.undated_len(line) else {
             return self.write_undated(line, writer);
         };
@@ -228,7 +258,7 @@ impl<'a, 'b> LineWriter<'a, 'b> {
         ensures next { OnOk result (going_of self.new ≡ below (going_of self.old) prefix.now) }
     {
         let label = self.label;
-        let finding = self.dates.date_in(&self.given, prefix);
+        let finding = self.finding_in(prefix);
         let key = self.take_key(prefix, finding);
         write_both(writer, key.as_bytes(), b"\t")?;
         write_labelled(writer, label, prefix)
