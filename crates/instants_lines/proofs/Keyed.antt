@@ -6,7 +6,7 @@ use Rattle.instants_found.specs.declared.found.Finding.{Finding}
 use Rattle.instants_found.specs.declared.found.Finding.TheVariants.{Doubtful, There}
 use Rattle.instants_timeline.specs.Place.{shown_or_refused, place_text}
 use Rattle.instants_lines.specs.Dates.{date_in, doubt, key_or, place_of_date}
-use Rattle.instants_lines.specs.Going.{Going, below, below_by, finding_in, given_below, goes_on, key_of_line, key_below}
+use Rattle.instants_lines.specs.Going.{Going, below, below_by, deep_below, finding_in, given_below, goes_on, key_of_line, key_below}
 use Rattle.instants_lines_words.specs.declared.mode.Mode.{Mode}
 use Rattle.instants_lines_words.specs.declared.mode.Mode.TheVariants.{Carry, Replace, Locate}
 
@@ -37,6 +37,17 @@ below_itself mode key = refl
 -- below a line by what is found in it
 pub below_found : (going : Going) (line : List ℕ) (finding : Option Finding) → finding ≡ finding_in going line → below_by going line finding ≡ below going line
 below_found going line finding e = ap (below_by going line) e
+
+-- where a line has a date its moment is kept, then its key and how deep it begins
+pub kept_by : (old : Going) (line : List ℕ) (date : Found) (years kept : Going) (key storage : List ℕ) → Some (There date) ≡ finding_in old line → key ≡ place_text (shown_or_refused old.search.setting.target (Ok date.moment))
+    → years ≡ record old { search = record old.search { given = given_below old.search.given (Some (There date)) } } → storage ≡ key
+    → kept ≡ record years { key = key_below years.mode years.key storage; indent = deep_below years.mode years.indent line } → kept ≡ below old line
+unfolding place_of_date
+kept_by old line date years kept key storage found is of_years of_key of_kept =
+    of_kept
+    ∙ ap (λ (g : Going). record g { key = key_below g.mode g.key storage; indent = deep_below g.mode g.indent line }) of_years
+    ∙ ap (λ (k : List ℕ). record old { search = record old.search { given = given_below old.search.given (Some (There date)) }; key = key_below old.mode old.key k; indent = deep_below old.mode old.indent line }) (of_key ∙ is)
+    ∙ below_found old line (Some (There date)) found
 
 -- nothing changes below a line without a date
 pub below_none : (going : Going) (line : List ℕ) → finding_in going line ≡ None → below going line ≡ going

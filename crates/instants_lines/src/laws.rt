@@ -20,7 +20,7 @@ ghost use Rattle.instants_faults.specs.Refusal.{Refusal};
 ghost use Rattle.instants_lines.specs.Dates.{Search, date_in, place_of_date, key_of_date, replaced};
 ghost use Rattle.instants_lines.specs.Explained.{IsFirstToName, explained};
 ghost use Rattle.instants_lines.specs.Fields.{IsLabel, is_field, without_fields};
-ghost use Rattle.instants_lines.specs.Going.{Going, below, beginning, hands_on, key_of_line, lines_steps, near, text_in};
+ghost use Rattle.instants_lines.specs.Going.{Going, below, beginning, depth, goes_on, hands_on, key_of_line, lines_steps, near, text_in};
 ghost use Rattle.instants_lines_words.specs.declared.mode.Mode.{Mode};
 ghost use Rattle.instants_lines_words.specs.declared.mode.Mode.TheVariants.{Key, Carry, Explain};
 
@@ -61,10 +61,12 @@ pub fn replaced_twice()
 
 /// A line for which its one source names a moment, whether the offset is assumed or not, has its answer as its key: where
 /// what the source is given of the line is all of it, and its date begins where the line does. A number of Unix time has to
-/// be likely for it, and a line of RFC 2822 to begin with its weekday or its day.
+/// be likely for it, and a line of RFC 2822 to begin with its weekday or its day. In mode `carry` the line does not go on with the one
+/// above.
 pub fn whole_line()
     ensures { (going : Going) (grammar : Grammar) (line : List ℕ) (moment : Shown)
         → going.search.setting.sources ≡ grammar ∷ []
+        → goes_on going.mode going.indent line ≡ false
         → named None grammar line ≡ Ok moment
         → named going.search.setting.assumed grammar line ≡ Ok moment
         → 0 < going.search.limit → 0 < length line
@@ -92,7 +94,7 @@ pub fn order_of_keys()
 /// Where the first of two streams is empty or ends in a line feed, the output of both joined is the output of the first,
 /// and after it the output of the second with what is kept of the lines of the first. Nothing is kept where lines are
 /// explained, and in modes `key` and `replace` where no year is given; and in mode `carry`, where none is, what is kept
-/// counts for nothing if the second stream begins with a line in which a date is found, be it in doubt.
+/// counts for nothing if the second stream begins with a line at the margin in which a date is found, be it in doubt.
 pub fn joined_streams()
     ensures joined { (going : Going) (limit : ℕ) (first second : List ℕ)
         → ((first ≡ []) ⊎ ((prefix : List ℕ) × (first ≡ prefix ++ line_feed ∷ [])))
@@ -113,7 +115,8 @@ pub fn joined_streams()
         (finding : Finding)
         → going.mode ≡ Carry → going.search.given.years ≡ Unknown
         → ((first ≡ []) ⊎ ((prefix : List ℕ) × (first ≡ prefix ++ line_feed ∷ [])))
-        → lines second ≡ line ∷ others → date_in going.search line ≡ Some finding
+        → lines second ≡ line ∷ others → depth line ≡ 0
+        → date_in going.search line ≡ Some finding
         → output lines_steps going (near going.mode going.search.limit) (first ++ second)
         ≡ output lines_steps going (near going.mode going.search.limit) first
         ++ output lines_steps going (near going.mode going.search.limit) second }

@@ -125,7 +125,7 @@ impl<'a, 'b> LineWriter<'a, 'b> {
 
     // The key of a line by what is found in it, which is kept for the lines below.
     #[inline(always)]
-    #[tactic(auto, using(crate::proofs::Keyed::dated, crate::proofs::Keyed::doubtful, crate::proofs::Keyed::undated, crate::proofs::Keyed::below_itself))]
+    #[tactic(auto, using(crate::proofs::Keyed::dated, crate::proofs::Keyed::doubtful, crate::proofs::Keyed::undated, crate::proofs::Keyed::below_none))]
     fn take_key(&mut self, line: &[u8], finding: Option<Finding>) -> Answer
         requires { finding ≡ finding_in (going_of self.old) line.now }
         ensures key { result ≡ key_of_line (going_of self.old) line.now }
@@ -197,7 +197,7 @@ impl<'a, 'b> LineWriter<'a, 'b> {
     // Writes a line after its key and a tab, where no date begins before a place, by whatever is found in it. A call of its own,
     // so that other lines make no room for that.
     #[inline(never)]
-    #[tactic(auto, using(crate::proofs::Keyed::undated, crate::proofs::Keyed::below_undated))]
+    #[tactic(auto, using(crate::proofs::Keyed::own_date))]
     fn write_any<W: ByteWriter>(
         &mut self,
         first: usize,
@@ -220,7 +220,7 @@ impl<'a, 'b> LineWriter<'a, 'b> {
 
     /// Writes a line after its key and a tab, and a line feed.
     #[inline(always)]
-    #[tactic(auto, using(crate::proofs::Keyed::undated, crate::proofs::Keyed::below_undated))]
+    #[tactic(auto, using(crate::proofs::Keyed::undated, crate::proofs::Keyed::below_none, crate::proofs::Keyed::gone_on, crate::proofs::Keyed::own_date))]
     pub(crate) fn write_keyed<W: ByteWriter>(
         &mut self,
         line: &[u8],
@@ -335,7 +335,7 @@ impl<'a, 'b> LineWriter<'a, 'b> {
     /// Writes where the date of a line is, or why it is in doubt, without a line feed.
     #[cold]
     #[inline(never)]
-    #[tactic(auto, using(crate::proofs::Keyed::below_undated, crate::proofs::Keyed::located_doubtful, crate::proofs::Keyed::located_dated), unfolding(crate::specs::Located::located))]
+    #[tactic(auto, using(crate::proofs::Keyed::located_undated, crate::proofs::Keyed::located_doubtful, crate::proofs::Keyed::located_dated), unfolding(crate::specs::Located::located))]
     pub(crate) fn write_located<W: ByteWriter>(
         &mut self,
         line: &[u8],

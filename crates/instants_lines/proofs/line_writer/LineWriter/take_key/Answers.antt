@@ -1,8 +1,8 @@
 use Rattle.std.proofs.Common.{◌≡◌, ℕ, List, Some, sym, ap, ◌∙◌}
 use Rattle.instants_found.specs.declared.found.Finding.TheVariants.{There}
-use Rattle.instants_lines.specs.Going.{Going, given_below, key_below, key_of_line}
+use Rattle.instants_lines.specs.Going.{Going, below_by, deep_below, key_below, key_of_line}
 use Rattle.instants_lines.specs.Writing.{going_of}
-use Rattle.instants_lines.proofs.Keyed.{dated, below_found}
+use Rattle.instants_lines.proofs.Keyed.{dated, below_found, kept_by}
 use Rattle.instants_lines.proofs.line_writer.LineWriter.take_key.Goals as goal
 
 pub returns-in-Some-There-clause-key : goal.returns-in-Some-There-clause-key
@@ -14,10 +14,5 @@ pub returns-in-Some-There-clause-next : goal.returns-in-Some-There-clause-next
 returns-in-Some-There-clause-next c =
     let old = going_of c.args.self.now in
     let line = c.args.line.now in
-    let date = c.in-Some-There.date in
     let found = ap Some (sym c.in-Some-There.field-0-is) ∙ sym c.in-Some-There.is ∙ c.requires in
-    let key : c.write_named.new.answer ≡ key_of_line old line = dated old line date c.write_named.new.answer found c.write_named.ensures.bytes in
-    c.keep.ensures.kept
-    ∙ ap (λ (g : Going). record g { key = key_below g.mode g.key c.keep_year.new.self.storage }) c.keep_year.ensures.kept
-    ∙ ap (λ (k : List ℕ). record old { search = record old.search { given = given_below old.search.given (Some (There date)) }; key = key_below old.mode old.key k }) (c.keep_year.ensures.storage ∙ key)
-    ∙ below_found old line (Some (There date)) found
+    kept_by old line c.in-Some-There.date _ _ c.write_named.new.answer _ found c.write_named.ensures.bytes c.keep_year.ensures.kept c.keep_year.ensures.storage c.keep.ensures.kept

@@ -2,9 +2,9 @@ use Rattle.std.proofs.Common.{◌≡◌, ℕ, List, [], ◌∷◌, ◌++◌, Som
 use Rattle.base.specs.Bytes.{tab}
 use Rattle.instants_found.specs.declared.found.Finding.TheVariants.{There}
 use Rattle.instants_stream.proofs.Gathering.{OnOk-map}
-use Rattle.instants_lines.specs.Going.{Going, given_below, key_below, key_of_line, label_prefix}
+use Rattle.instants_lines.specs.Going.{Going, key_of_line, label_prefix}
 use Rattle.instants_lines.specs.Writing.{going_of}
-use Rattle.instants_lines.proofs.Keyed.{dated, below_found, key_and_tab}
+use Rattle.instants_lines.proofs.Keyed.{dated, kept_by, key_and_tab}
 use Rattle.instants_lines.proofs.line_writer.LineWriter.write_dated.Goals as goal
 
 pub returns-clause-wrote : goal.returns-clause-wrote
@@ -18,14 +18,5 @@ returns-clause-wrote g c =
 
 pub returns-clause-next : goal.returns-clause-next
 returns-clause-next g c =
-    let old = going_of c.args.self.now in
-    let line = c.args.line.now in
-    let date = c.args.date.now in
-    let found = sym c.requires.found in
-    let key : c.write_named.new.answer ≡ key_of_line old line = dated old line date c.write_named.new.answer found c.write_named.ensures.bytes in
-    let next =
-    c.keep.ensures.kept
-    ∙ ap (λ (g : Going). record g { key = key_below g.mode g.key c.keep_year.new.self.storage }) c.keep_year.ensures.kept
-    ∙ ap (λ (k : List ℕ). record old { search = record old.search { given = given_below old.search.given (Some (There date)) }; key = key_below old.mode old.key k }) (c.keep_year.ensures.storage ∙ key)
-    ∙ below_found old line (Some (There date)) found in
+    let next = kept_by (going_of c.args.self.now) c.args.line.now c.args.date.now _ _ c.write_named.new.answer _ (sym c.requires.found) c.write_named.ensures.bytes c.keep_year.ensures.kept c.keep_year.ensures.storage c.keep.ensures.kept in
     OnOk-map c.write_keyed.result (λ _. next) c.write_keyed.ensures.1
