@@ -1,7 +1,6 @@
 """What a run writes: for its words and a stream the output, the sentence on standard error, and the status."""
 
-from . import calendar
-from .edges import WINDOW
+from . import calendar, edges
 from .faults import Refused, WrongWords
 from .found import Date, Doubtful, Given, found
 from .sources import Source
@@ -17,15 +16,19 @@ class Run:
         self.asked = asked
         self.given = Given(asked.assumed, asked.year, None, asked.minutes)
         self.key = NONE
+        self.indent: int | None = None
 
     # ---- dates
 
     def dated(self, line: bytes) -> bytes:
-        """Returns the text for a line in a mode that finds dates, and goes on below it."""
-        date = found(self.asked.limit, self.given, self.asked.sources, line)
+        """Returns the text for a line in a mode that finds dates, and goes on below it. In mode `carry` a line that begins deeper than
+        the last one with a date has none of its own."""
+        is_below = self.asked.mode == "carry" and self.indent is not None and depth(line) > self.indent
+        date = None if is_below else found(self.asked.limit, self.given, self.asked.sources, line)
         text = MODES[self.asked.mode](self, line, date)
         if self.asked.mode == "carry":
             self.key = self.key_of(date)
+            self.indent = self.indent if date is None else depth(line)
         if isinstance(date, Date):
             self.given = self.given.below(date.moment)
         return text
@@ -73,10 +76,17 @@ class Run:
         """Returns what is written for a line, with what ends it. Of a line longer than is looked at its first bytes decide."""
         if self.asked.mode == "explain":
             return (LONG if len(line) > self.asked.limit else self.explained(line)) + (end or b"\n")
-        near = self.asked.limit + WINDOW + 64 + 1
+        near = self.asked.limit + edges.WINDOW + 64 + 1
         last_end = b"" if self.asked.mode == "replace" else b"\n"
         rest = b"" if self.asked.mode == "locate" else line[near:]
         return self.dated(line[:near]) + rest + (end or last_end)
+
+
+def depth(line: bytes) -> int:
+    """Returns how deep a line begins, in steps of two columns of white space; a tab is eight columns."""
+    white = line[: edges.WINDOW]
+    white = white[: len(white) - len(white.lstrip(b" \t"))]
+    return (white.count(b" ") + 8 * white.count(b"\t")) // 2
 
 
 def place_of(date: Date) -> bytes:
