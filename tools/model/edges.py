@@ -105,9 +105,9 @@ def near(text: bytes) -> bytes:
 
 
 def gap(text: bytes) -> int:
-    """Returns how many bytes that part are at the start, three at most: of ASCII, no letters, digits or signs."""
+    """Returns how many bytes that part are at the start, three at most: of ASCII, no letters, digits, signs or backslashes."""
     count = 0
-    while count < min(3, len(text)) and text[count] < 128 and text[count] not in WORD | SIGN:
+    while count < min(3, len(text)) and text[count] < 128 and text[count] not in WORD | SIGN | {ord("\\")}:
         count += 1
     return count
 
