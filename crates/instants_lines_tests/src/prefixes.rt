@@ -2,16 +2,19 @@
 
 use calendar::UtcOffset;
 use instants::SourceText;
-use instants_prefixes::{DateSource, Given, Lack, Prefix, Years, lacks_byte, rules_out};
+use instants_prefixes::{
+    DateSource, Given, Lack, Prefix, Years, lacks_byte, lacks_offset, lacks_time, lacks_year, rules_out,
+};
 use instants_sources::Source;
 use std::alloc::Global;
 
 // A prefix: its Unix time; and where it begins to say something, has said everything, has said its zone, and ends.
 type Told = Option<(i64, [usize; 4])>;
 
-// What is known of a source and bytes: whether it reads numbers of Unix time, what it lacks where nothing is given, whether the
-// bytes' date needs that, and whether a byte is not there that is due, and the first bytes rule a date out.
-type Known = (Option<Lack>, [bool; 4]);
+// What is known of a source and bytes: what it lacks where nothing is given, whether it may read numbers of Unix time, whether
+// the bytes' record lacks an offset, a year and a time, and whether a byte is not there that is due, and the first bytes rule a
+// date out.
+type Known = (Option<Lack>, [bool; 6]);
 
 // A source, bytes, and what is told of them where UTC is given.
 static ROWS: [(SourceText, &[u8], Told, Known); 5] = [
@@ -19,31 +22,31 @@ static ROWS: [(SourceText, &[u8], Told, Known); 5] = [
         SourceText::Rfc3339,
         b"20210102 up",
         None,
-        (None, [false, true, true, true]),
+        (None, [false, true, true, true, true, true]),
     ),
     (
         SourceText::Rfc2822,
         b"2 Jan 2021 03:04:05 +0000 (UTC) up",
         Some((1_609_556_645, [0, 25, 25, 25])),
-        (None, [false; 4]),
+        (None, [false; 6]),
     ),
     (
         SourceText::Strftime("%F %T UTC"),
         b"2021-01-02 03:04:05 UTC up",
         Some((1_609_556_645, [0, 19, 23, 23])),
-        (Some(Lack::Offset), [false, true, false, false]),
+        (Some(Lack::Offset), [false, true, false, false, false, false]),
     ),
     (
         SourceText::Strftime("at %s"),
         b"at 1609556645 up",
         Some((1_609_556_645, [3, 13, 13, 13])),
-        (None, [true, false, false, false]),
+        (None, [true, true, true, true, false, false]),
     ),
     (
         SourceText::Strftime("%b %e %T"),
         b"Jan  2 03:04:05 up",
         None,
-        (Some(Lack::Year), [false, true, false, false]),
+        (Some(Lack::Year), [false, true, true, false, false, false]),
     ),
 ];
 
@@ -70,9 +73,12 @@ fn as_told(prefix: Option<Prefix>) -> Told {
 
 fn known(source: &DateSource, bytes: &[u8]) -> Known {
     let nothing = given(None);
+    let record = source.record(bytes);
     let said = [
-        source.has_unix_time(),
-        source.needs(bytes, &nothing),
+        source.may_read_unix_time(),
+        lacks_offset(&record),
+        lacks_year(&record),
+        lacks_time(&record),
         lacks_byte(source.source(), bytes),
         rules_out(source.source(), bytes),
     ];
@@ -111,5 +117,27 @@ fn planned(rt: HostRuntime) {
                 == Some((1_609_556_645, [0, 24, 24, 24]))
         );
         assert!(rt; as_told(source.read_planned(b"up", &given(None))) == None);
+    }
+}
+
+// A year of two digits is the nearest one to the year that is given.
+#[test]
+fn near_years(rt: HostRuntime) {
+    let given = Given {
+        offset: Some(UtcOffset::UTC),
+        years: Years::In(2024),
+        time: None,
+    };
+    let source = Source::new(rt.alloc(), SourceText::Strftime("%m/%d/%y %T"));
+    assert!(rt; source.is_ok());
+    if let Ok(source) = source {
+        let source = DateSource::new(source);
+        assert!(rt;
+            as_told(source.read(b"02/29/24 00:00:00 up", &given))
+                == Some((1_709_164_800, [0, 17, 17, 17]))
+        );
+        assert!(rt;
+            as_told(source.read(b"12/31/99 23:59:59", &given)) == Some((946_684_799, [0, 17, 17, 17]))
+        );
     }
 }

@@ -3,7 +3,6 @@ pub mod Says
 pub mod Spared
 pub mod NamedAlone
 pub mod Stands
-pub mod OutOfRange
 pub mod Completing
 pub mod FastPrefix
 pub mod ReadPrefixes

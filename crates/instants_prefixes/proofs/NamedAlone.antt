@@ -1,169 +1,185 @@
 -- What a record names of itself it names with anything given.
-use Rattle.std.proofs.Common.{◌≡◌, ◌&&◌, ◌/◌, ◌%◌, ℕ, ℤ, Bool, true, false, Option, Some, None, Result, Ok, Err, refl, sym, ap, ◌∙◌}
-use Rattle.std.specs.Prelude.{option_map, nat_le, if◌then◌else◌}
+use Rattle.std.proofs.Common.{◌≡◌, ◌&&◌, ◌/◌, ◌%◌, ◌⊎◌, inl, inr, ℕ, ℤ, pos, ◌+ℤ◌, ◌-ℤ◌, Bool, true, false, Option, Some, None, Ok, Err, refl, sym, ap, ◌∙◌}
+use Rattle.std.specs.Prelude.{nat_le, int_div, int_rem, if◌then◌else◌}
 use Rattle.std.specs.Option.{is_none}
 use Rattle.std.specs.Result.{result_ok}
+use Rattle.calendar_count.specs.Range.{greatest_year}
 use Rattle.datetime_wall.specs.Wall.{Shown}
 use Rattle.parsing_combinator.specs.Fault.{Fault, insufficient}
-use Rattle.parsing_values.specs.declared.parts.OffsetParts.{OffsetParts}
-use Rattle.parsing_values.specs.declared.parts.MomentParts.{MomentParts}
+use Rattle.parsing_values.specs.declared.date_parts.DateParts.{DateParts}
+use Rattle.parsing_values.specs.declared.date_parts.YearParts.{YearParts}
 use Rattle.parsing_values.specs.NamedDate.{named_date, by_ordinal, by_day, by_iso_week, by_sunday_week, by_monday_week, year_of, split_year}
 use Rattle.parsing_values.specs.NamedTime.{named_time, named_offset, hour_of, half_day_hour}
 use Rattle.parsing_values.specs.NamedMoment.{named_moment, dated_moment, named_wall}
 use Rattle.parsing_components.specs.declared.fields.Record.{Record}
-use Rattle.parsing_record.specs.Parts.{time_parts, offset_parts, moment_parts}
+use Rattle.parsing_record.specs.Parts.{date_parts, time_parts}
+use Rattle.parsing_record.specs.Record.{is_up_to}
 use Rattle.parsing_record.specs.Whole.{moment_named, date_named, offset_named}
-use Rattle.instants_prefixes.specs.Given.{Given, Years, Unknown, In, Near, with_offset, has_no_year, has_no_time, with_year, with_time, completed, moment_in, distance, nearer, moment_of}
+use Rattle.instants_prefixes.specs.Given.{Given, Years, Unknown, In, Near, lacks_offset, lacks_year, lacks_time, with_offset, year_near, in_near_year, with_year, with_time, completed, moment_in, distance, nearer, year_of as year_above, moment_of}
+
+-- ---- what is not there
 
 both_true : (a b : Bool) → (a && b) ≡ true → (a ≡ true) × (b ≡ true)
 both_true true b e = (refl, e)
 both_true false b e = absurd cc
 
-pub three_none : {A B C : Type 0} (a : Option A) (b : Option B) (c : Option C) → ((is_none a && is_none b) && is_none c) ≡ true → (a ≡ None) × (b ≡ None) × (c ≡ None)
-three_none None None None e = (refl, refl, refl)
-three_none None None (Some z) e = absurd cc
-three_none None (Some y) c e = absurd cc
-three_none (Some x) b c e = absurd cc
+pub none_of : {A : Type 0} (o : Option A) → is_none o ≡ true → o ≡ None
+none_of None e = refl
+none_of (Some x) e = absurd cc
 
--- a record without any part of a year, and one without any part of a time of day
-pub years_none : (r : Record) → has_no_year r ≡ true → ((r.year ≡ None) × (r.year_century ≡ None) × (r.year_last_two ≡ None)) × ((r.iso_year ≡ None) × (r.iso_year_century ≡ None) × (r.iso_year_last_two ≡ None))
-years_none r e =
-    let both = both_true ((is_none r.year && is_none r.year_century) && is_none r.year_last_two) ((is_none r.iso_year && is_none r.iso_year_century) && is_none r.iso_year_last_two) e in
-    (three_none r.year r.year_century r.year_last_two both.0, three_none r.iso_year r.iso_year_century r.iso_year_last_two both.1)
+two_none : {A B : Type 0} (a : Option A) (b : Option B) → (is_none a && is_none b) ≡ true → (a ≡ None) × (b ≡ None)
+two_none a b e = let both = both_true (is_none a) (is_none b) e in (none_of a both.0, none_of b both.1)
 
-pub times_none : (r : Record) → has_no_time r ≡ true → ((r.hour_24 ≡ None) × (r.hour_12 ≡ None) × (r.hour_12_is_pm ≡ None)) × ((r.minute ≡ None) × (r.second ≡ None) × (r.subsecond ≡ None))
-times_none r e =
-    let both = both_true ((is_none r.hour_24 && is_none r.hour_12) && is_none r.hour_12_is_pm) ((is_none r.minute && is_none r.second) && is_none r.subsecond) e in
-    (three_none r.hour_24 r.hour_12 r.hour_12_is_pm both.0, three_none r.minute r.second r.subsecond both.1)
+-- a year needs all of its digits, or its century and its last two
+pub yearless : (y : YearParts) → y.year ≡ None → (y.century ≡ None) ⊎ (y.last_two ≡ None) → year_of y ≡ None
+unfolding year_of split_year
+yearless y none (inl century) = rw (none, century) refl
+yearless y none (inr last_two) = elim y.century as (λ o. y.century ≡ o → year_of y ≡ None) [ None ↦ λ e. rw (none, e) refl | Some c ↦ λ e. rw (none, e, last_two) refl ] refl
 
--- ---- what lacks a part names nothing
+pub no_years : (p : DateParts) → year_of p.year ≡ None → year_of p.iso_year ≡ None → named_date p ≡ Err insufficient
+unfolding named_date by_ordinal by_day by_iso_week by_sunday_week by_monday_week
+no_years p year iso = rw (year, iso) refl
 
-pub no_date : (r : Record) → has_no_year r ≡ true → date_named r ≡ Err insufficient
-unfolding named_date by_ordinal by_day by_iso_week by_sunday_week by_monday_week year_of split_year
-no_date r e = let (civil, week) = years_none r e in rw (civil.0, civil.1, week.0, week.1) refl
+no_date : (r : Record) → lacks_year r ≡ true → date_named r ≡ Err insufficient
+no_date r e =
+    let both = both_true (is_none r.year && is_none r.year_century) (is_none r.iso_year && is_none r.iso_year_century) e in
+    let civil = two_none r.year r.year_century both.0 in
+    let week = two_none r.iso_year r.iso_year_century both.1 in
+    no_years (date_parts r) (yearless (date_parts r).year civil.0 (inl civil.1)) (yearless (date_parts r).iso_year week.0 (inl week.1))
 
-pub no_time : (r : Record) → has_no_time r ≡ true → (leap : Bool) → named_time leap (time_parts r) ≡ Err insufficient
+-- a time of day needs an hour of the whole day, or one of a half day and which half
+pub no_hour : (r : Record) → r.hour_24 ≡ None → (r.hour_12 ≡ None) ⊎ (r.hour_12_is_pm ≡ None) → (leap : Bool) → named_time leap (time_parts r) ≡ Err insufficient
 unfolding named_time hour_of half_day_hour
-no_time r e leap = let hours = (times_none r e).0 in rw (hours.0, hours.1) refl
+no_hour r whole (inl hour) leap = rw (whole, hour) refl
+no_hour r whole (inr half) leap =
+    elim r.hour_12 as (λ o. r.hour_12 ≡ o → named_time leap (time_parts r) ≡ Err insufficient) [ None ↦ λ e. rw (whole, e) refl | Some hour ↦ λ e. rw (whole, e, half) refl ] refl
+
+no_time : (r : Record) → lacks_time r ≡ true → (leap : Bool) → named_time leap (time_parts r) ≡ Err insufficient
+no_time r e leap =
+    let hours = both_true ((is_none r.hour_24 && is_none r.hour_12) && is_none r.hour_12_is_pm) ((is_none r.minute && is_none r.second) && is_none r.subsecond) e in
+    let two = two_none r.hour_24 r.hour_12 (both_true (is_none r.hour_24 && is_none r.hour_12) (is_none r.hour_12_is_pm) hours.0).0 in
+    no_hour r two.0 (inl two.1) leap
 
 pub no_offset : (r : Record) → r.offset_hour ≡ None → offset_named r ≡ Err insufficient
 unfolding named_offset
 no_offset r e = rw e refl
 
--- ---- the parts of what is named
+-- ---- a record without Unix time names nothing where it lacks a part
 
--- a record without Unix time that names a moment has all parts
-record HasParts (r : Record) : Type 0 where
-  date : has_no_year r ≡ false
-  time : has_no_time r ≡ false
-  hour : ℤ
-  offset : r.offset_hour ≡ Some hour
+abbrev pub names : Record → Option Shown
+names r = result_ok (moment_named r)
+
+pub without_date : (r : Record) (f : Fault) → r.unix_timestamp_nanos ≡ None → date_named r ≡ Err f → names r ≡ None
+unfolding named_moment dated_moment named_wall
+without_date r f unix e = rw (unix, e) refl
+
+pub without_time : (r : Record) (f : Fault) → r.unix_timestamp_nanos ≡ None → ((leap : Bool) → named_time leap (time_parts r) ≡ Err f) → names r ≡ None
+unfolding named_moment dated_moment named_wall
+without_time r f unix e =
+    elim (date_named r) as (λ x. date_named r ≡ x → names r ≡ None) [
+      | Ok date ↦ λ is. rw (unix, is, e r.leap_second_is_permitted) refl
+      | Err g ↦ λ is. rw (unix, is) refl
+    ] refl
+
+pub without_offset : (r : Record) (f : Fault) → r.unix_timestamp_nanos ≡ None → offset_named r ≡ Err f → names r ≡ None
+unfolding named_moment dated_moment
+without_offset r f unix e =
+    elim (named_wall r.leap_second_is_permitted (date_parts r) (time_parts r)) as (λ x. named_wall r.leap_second_is_permitted (date_parts r) (time_parts r) ≡ x → names r ≡ None) [
+      | Ok wall ↦ λ is. rw (unix, is, e) refl
+      | Err g ↦ λ is. rw (unix, is) refl
+    ] refl
+
+-- so one that names a moment has all parts
+pub record HasParts (r : Record) : Type 0 where
+  pub date : lacks_year r ≡ false
+  pub time : lacks_time r ≡ false
+  pub offset : lacks_offset r ≡ false
 
 or_false : (b : Bool) → (b ≡ true → ⊥) → b ≡ false
 or_false true h = absurd (h refl)
 or_false false h = refl
 
-some_or : {A : Type 0} (o : Option A) → (o ≡ None → ⊥) → (x : A) × (o ≡ Some x)
-some_or None h = absurd (h refl)
-some_or (Some x) h = (x, refl)
+named_not : (r : Record) (m : Shown) → moment_named r ≡ Ok m → names r ≡ None → ⊥
+named_not r m e none = let both : Some m ≡ None = sym (ap result_ok e) ∙ none in cc
 
-abbrev pub Refused : Result Shown Fault → Type 0
-Refused x = (f : Fault) × (x ≡ Err f)
-
-pub never : (x : Result Shown Fault) (m : Shown) → Refused x → x ≡ Ok m → ⊥
-never x m (f, refused) e = let both : Err f ≡ Ok m = sym refused ∙ e in cc
-
-pub without_date : (p : MomentParts) (o : OffsetParts) (f : Fault) → named_date p.date ≡ Err f → Refused (dated_moment p o)
-unfolding dated_moment named_wall
-without_date p o f e = (f, rw e refl)
-
-pub without_time : (p : MomentParts) (o : OffsetParts) (f : Fault) → named_time p.leap_second_is_permitted p.time ≡ Err f → Refused (dated_moment p o)
-unfolding dated_moment named_wall
-without_time p o f e =
-    elim (named_date p.date) as (λ x. named_date p.date ≡ x → Refused (dated_moment p o)) [
-      | Ok date ↦ λ is. (f, rw (is, e) refl)
-      | Err g ↦ λ is. (g, rw is refl)
-    ] refl
-
-after_wall : (p : MomentParts) (o : OffsetParts) (f : Fault) (wall : Result ℤ Fault) → named_wall p.leap_second_is_permitted p.date p.time ≡ wall → named_offset o ≡ Err f → Refused (dated_moment p o)
-unfolding dated_moment
-after_wall p o f (Ok wall) is e = (f, rw (is, e) refl)
-after_wall p o f (Err g) is e = (g, rw is refl)
-
-pub without_offset : (p : MomentParts) (o : OffsetParts) (f : Fault) → named_offset o ≡ Err f → Refused (dated_moment p o)
-without_offset p o f e = after_wall p o f (named_wall p.leap_second_is_permitted p.date p.time) refl e
-
-has_parts : (r : Record) (m : Shown) → dated_moment (moment_parts r) (offset_parts r) ≡ Ok m → HasParts r
-has_parts r m e =
-    let parts = moment_parts r in
-    let offset = offset_parts r in
-    let hour = some_or r.offset_hour (λ none. never (dated_moment parts offset) m (without_offset parts offset insufficient (no_offset r none)) e) in
+pub has_parts : (r : Record) (m : Shown) → r.unix_timestamp_nanos ≡ None → moment_named r ≡ Ok m → HasParts r
+has_parts r m unix e =
     record {
-      date = or_false (has_no_year r) (λ none. never (dated_moment parts offset) m (without_date parts offset insufficient (no_date r none)) e);
-      time = or_false (has_no_time r) (λ none. never (dated_moment parts offset) m (without_time parts offset insufficient (no_time r none r.leap_second_is_permitted)) e);
-      hour = hour.0;
-      offset = hour.1;
+      date = or_false (lacks_year r) (λ none. named_not r m e (without_date r insufficient unix (no_date r none)));
+      time = or_false (lacks_time r) (λ none. named_not r m e (without_time r insufficient unix (no_time r none)));
+      offset = or_false (lacks_offset r) (λ none. named_not r m e (without_offset r insufficient unix (no_offset r (none_of r.offset_hour none))));
     }
 
--- ---- what is given changes nothing
+-- ---- what is given changes nothing that was read
 
-pub complete_time : (given : Option ℕ) (r : Record) → has_no_time r ≡ false → with_time given r ≡ r
-complete_time given r e = rw e refl
+timed : (given : Option ℕ) (r : Record) → lacks_time r ≡ false → with_time given r ≡ r
+timed None r e = refl
+timed (Some minutes) r e = rw e refl
 
-pub complete_year : (given : Option ℤ) (r : Record) → has_no_year r ≡ false → with_year given r ≡ r
-complete_year given r e = rw e refl
+dated : (given : Option ℤ) (r : Record) → lacks_year r ≡ false → with_year given r ≡ r
+dated None r e = refl
+dated (Some year) r e = rw e refl
 
-pub complete_offset : (given : Option ℤ) (r : Record) (hour : ℤ) → r.offset_hour ≡ Some hour → with_offset r.offset_hour given r ≡ r
-complete_offset given r hour e = rw e refl
+placed : (given : Option ℤ) (r : Record) → lacks_offset r ≡ false → with_offset given r ≡ r
+placed None r e = refl
+placed (Some offset) r e = rw e refl
 
-complete : (offset year : Option ℤ) (time : Option ℕ) (r : Record) → HasParts r → completed offset year time r ≡ r
-complete offset year time r has =
-    rw (complete_time time r has.time, complete_year year r has.date) (complete_offset offset r has.hour has.offset)
+pub complete : (year : Option ℤ) (time : Option ℕ) (r : Record) → lacks_year r ≡ false → lacks_time r ≡ false → with_year year (with_time time r) ≡ r
+complete year time r date clock = ap (with_year year) (timed time r clock) ∙ dated year r date
 
--- ---- Unix time
+-- ---- what it leaves as it was
 
-abbrev pub SameUnix : Record → Record → Type 0
-SameUnix one other = (one.unix_timestamp_nanos ≡ other.unix_timestamp_nanos) × (one.subsecond ≡ other.subsecond)
+if_same : {A : Type 0} (part : Record → A) (b : Bool) (one other : Record) → part one ≡ part other → part (if b then one else other) ≡ part other
+if_same part true one other e = e
+if_same part false one other e = refl
 
-if_same : (b : Bool) (one other : Record) → SameUnix one other → SameUnix (if b then one else other) other
-if_same true one other h = h
-if_same false one other h = (refl, refl)
+pub kept_offset : {A : Type 0} (part : Record → A) (given : Option ℤ) (r : Record) → ((hour minute : Option ℤ) → part (record r { offset_hour = hour; offset_minute = minute }) ≡ part r) → part (with_offset given r) ≡ part r
+kept_offset part None r h = refl
+kept_offset part (Some offset) r h = if_same part (lacks_offset r) _ r (h (Some (int_div offset (pos 3600))) (Some (int_rem (int_div offset (pos 60)) (pos 60))))
 
-offset_same : (read given : Option ℤ) (r : Record) → SameUnix (with_offset read given r) r
-offset_same (Some hour) given r = (refl, refl)
-offset_same None None r = (refl, refl)
-offset_same None (Some offset) r = (refl, refl)
+pub kept_time : {A : Type 0} (part : Record → A) (given : Option ℕ) (r : Record) → ((hour minute : Option ℕ) → part (record r { hour_24 = hour; minute = minute }) ≡ part r) → part (with_time given r) ≡ part r
+kept_time part None r h = refl
+kept_time part (Some minutes) r h = if_same part _ _ r (h (Some (minutes / 60)) (Some (minutes % 60)))
 
-same_along : (a b c : Record) → SameUnix a b → SameUnix b c → SameUnix a c
-same_along a b c h k = (h.0 ∙ k.0, h.1 ∙ k.1)
+near_kept : {A : Type 0} (part : Record → A) (year : ℤ) (civil week : Option ℕ) (r : Record) → ((one other : Option ℤ) → part (record r { year = one; iso_year = other }) ≡ part r) → part (in_near_year year civil week r) ≡ part r
+near_kept part year None None r h = if_same part (is_up_to greatest_year year) _ r (h (Some year) r.iso_year)
+near_kept part year (Some n) None r h = if_same part (is_up_to greatest_year (year_near year n)) _ r (h (Some (year_near year n)) r.iso_year)
+near_kept part year None (Some n) r h = if_same part (is_up_to greatest_year (year_near year n)) _ r (h r.year (Some (year_near year n)))
+near_kept part year (Some n) (Some m) r h = refl
 
-pub completed_same : (offset year : Option ℤ) (time : Option ℕ) (r : Record) → SameUnix (completed offset year time r) r
-completed_same offset year time r =
-    let timed = with_time time r in
-    let dated = with_year year timed in
-    let of_time : SameUnix timed r = if_same (has_no_time r) (record r { hour_24 = option_map (λ minutes. minutes / 60) time; minute = option_map (λ minutes. minutes % 60) time }) r (refl, refl) in
-    let of_year : SameUnix dated timed = if_same (has_no_year timed) (record timed { year = year }) timed (refl, refl) in
-    same_along (with_offset r.offset_hour offset dated) dated r (offset_same r.offset_hour offset dated) (same_along dated timed r of_year of_time)
+pub kept_year : {A : Type 0} (part : Record → A) (given : Option ℤ) (r : Record) → ((one other : Option ℤ) → part (record r { year = one; iso_year = other }) ≡ part r) → part (with_year given r) ≡ part r
+kept_year part None r h = refl
+kept_year part (Some year) r h = if_same part _ _ r (near_kept part year r.year_last_two r.iso_year_last_two r h)
 
--- Unix time goes before all other parts
-pub by_unix : (one other : Record) (n : ℤ) → SameUnix one other → other.unix_timestamp_nanos ≡ Some n → moment_named one ≡ moment_named other
-unfolding named_moment
-by_unix one other n (unix, sub) e = rw (unix ∙ e, e, sub) refl
+-- what no part that is given touches
+abbrev pub Aside : {A : Type 0} → (Record → A) → Type 0
+Aside part = (r : Record) (one other hour minute : Option ℤ) (h m : Option ℕ) → part (record r { year = one; iso_year = other; offset_hour = hour; offset_minute = minute; hour_24 = h; minute = m }) ≡ part r
 
-pub named_alone : (given : Given) (year : Option ℤ) (r : Record) (m : Shown) → moment_named r ≡ Ok m → moment_named (completed given.offset year given.time r) ≡ Ok m
-unfolding named_moment dated_moment
-named_alone given year r m e =
-    elim r.unix_timestamp_nanos as (λ o. r.unix_timestamp_nanos ≡ o → moment_named (completed given.offset year given.time r) ≡ Ok m) [
-      | None ↦ λ is.
-          let dated : dated_moment (moment_parts r) (offset_parts r) ≡ Ok m = rw is at e in
-          ap moment_named (complete given.offset year given.time r (has_parts r m dated)) ∙ e
-      | Some n ↦ λ is. by_unix (completed given.offset year given.time r) r n (completed_same given.offset year given.time r) is ∙ e
-    ] refl
+pub kept : {A : Type 0} (part : Record → A) → Aside part → (offset year : Option ℤ) (time : Option ℕ) (r : Record) → part (completed offset year time r) ≡ part r
+kept part h offset year time r =
+    let whole = with_time time r in
+    let dated = with_year year whole in
+    kept_offset part offset dated (λ a b. h dated dated.year dated.iso_year a b dated.hour_24 dated.minute)
+    ∙ kept_year part year whole (λ a b. h whole a b whole.offset_hour whole.offset_minute whole.hour_24 whole.minute)
+    ∙ kept_time part time r (λ a b. h r r.year r.iso_year r.offset_hour r.offset_minute a b)
 
 -- ---- with anything given
 
-named_in : (given : Given) (year : Option ℤ) (r : Record) (m : Shown) → moment_named r ≡ Ok m → moment_in given year r ≡ Some m
-named_in given year r m e = ap result_ok (named_alone given year r m e)
+-- Unix time goes before all other parts
+by_unix : (one other : Record) (n : ℤ) → one.unix_timestamp_nanos ≡ other.unix_timestamp_nanos → one.subsecond ≡ other.subsecond → other.unix_timestamp_nanos ≡ Some n → moment_named one ≡ moment_named other
+unfolding named_moment
+by_unix one other n unix sub e = rw (unix ∙ e, e, sub) refl
+
+named_in : (given : Given) (r : Record) (m : Shown) → moment_named r ≡ Ok m → (year : Option ℤ) → moment_in given year r ≡ Some m
+named_in given r m e year =
+    let whole = completed given.offset year given.time r in
+    elim r.unix_timestamp_nanos as (λ o. r.unix_timestamp_nanos ≡ o → moment_in given year r ≡ Some m) [
+      | None ↦ λ is.
+          let has = has_parts r m is e in
+          ap (λ x. names (with_offset given.offset x)) (complete year given.time r has.date has.time) ∙ ap names (placed given.offset r has.offset) ∙ ap result_ok e
+      | Some n ↦ λ is.
+          ap result_ok (by_unix whole r n (kept (λ x. x.unix_timestamp_nanos) (λ _ _ _ _ _ _ _. refl) given.offset year given.time r) (kept (λ x. x.subsecond) (λ _ _ _ _ _ _ _. refl) given.offset year given.time r) is ∙ e)
+    ] refl
 
 same_nearer : (b : Bool) (m : Shown) → (if b then Some m else Some m) ≡ Some m
 same_nearer true m = refl
@@ -177,7 +193,7 @@ pub each_year : (given : Given) (years : Years) (r : Record) (m : Shown) → ((y
 unfolding moment_of
 each_year given Unknown r m h = h None
 each_year given (In year) r m h = h (Some year)
-each_year given (Near above) r m h = nearest above m _ _ (nearest above m _ _ (h _) (h _)) (h _)
+each_year given (Near above) r m h = nearest above m _ _ (nearest above m _ _ (h (Some (year_above above -ℤ pos 1))) (h (Some (year_above above)))) (h (Some (year_above above +ℤ pos 1)))
 
 none_nearer : (above : Shown) (a b : Option Shown) → a ≡ None → b ≡ None → nearer above a b ≡ None
 none_nearer above a b one other = rw (one, other) refl
@@ -186,8 +202,8 @@ pub no_year : (given : Given) (years : Years) (r : Record) → ((year : Option �
 unfolding moment_of
 no_year given Unknown r h = h None
 no_year given (In year) r h = h (Some year)
-no_year given (Near above) r h = none_nearer above _ _ (none_nearer above _ _ (h _) (h _)) (h _)
+no_year given (Near above) r h = none_nearer above _ _ (none_nearer above _ _ (h (Some (year_above above -ℤ pos 1))) (h (Some (year_above above)))) (h (Some (year_above above +ℤ pos 1)))
 
 -- what a record names of itself it names with anything given
 pub named_given : (given : Given) (years : Years) (r : Record) (m : Shown) → moment_named r ≡ Ok m → moment_of given years r ≡ Some m
-named_given given years r m e = each_year given years r m (λ year. named_in given year r m e)
+named_given given years r m e = each_year given years r m (named_in given r m e)

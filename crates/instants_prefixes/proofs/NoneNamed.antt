@@ -24,7 +24,7 @@ use Rattle.parsing_rfc2822.specs.Names.{weekday, weekday_of}
 use Rattle.parsing_rfc2822.proofs.WhiteSpaceLemmas.{none_at}
 use Rattle.parsing_rfc3339.specs.Reading as rfc3339
 use Rattle.parsing_parsable.specs.Staged.{reads_rfc2822, reads_rfc3339, reads_iso8601}
-use Rattle.instants_sources.specs.Grammar.{Grammar, Described, Rfc2822, Rfc3339, Iso8601, Written}
+use Rattle.instants_sources.specs.Grammar.{Described, Rfc2822, Rfc3339, Iso8601, Written}
 use Rattle.instants_sources.specs.Written.{reads_written}
 use Rattle.instants_sources.proofs.RuledOut.{part_due_of_nothing}
 use Rattle.instants_prefixes.specs.Given.{Given}
@@ -32,15 +32,15 @@ use Rattle.instants_prefixes.specs.NoPrefix.{begins_day, begins_part}
 use Rattle.instants_prefixes.specs.Reading.{prefix_named, prefix_of}
 
 -- what is refused names nothing
-none_prefix : (given : Given) (grammar : Grammar) (x : Answer) → result_ok x ≡ None → prefix_of given grammar x ≡ None
-none_prefix given grammar (Ok x) e = absurd cc
-none_prefix given grammar (Err f) e = refl
+none_prefix : (given : Given) (x : Answer) → result_ok x ≡ None → prefix_of given x ≡ None
+none_prefix given (Ok x) e = absurd cc
+none_prefix given (Err f) e = refl
 
 -- ---- descriptions
 
 pub described_none : (written : Written) (text : List ℕ) → ((r : Record) → result_ok (reads_written written r text) ≡ None) → (given : Given) → prefix_named given (Described written) text ≡ None
 unfolding prefix_named
-described_none written text refused given = none_prefix given (Described written) (reads_written written empty text) (refused empty)
+described_none written text refused given = none_prefix given (reads_written written empty text) (refused empty)
 
 -- ---- RFC 3339
 
@@ -67,7 +67,7 @@ hyphen_due r bytes e = let refused = date_refused true bytes (no_byte hyphen byt
 -- it has a hyphen at this place
 pub hyphen_none : (text : List ℕ) → eqb (get_or text 4 0) hyphen ≡ false → (given : Given) → prefix_named given Rfc3339 text ≡ None
 unfolding prefix_named
-hyphen_none text other given = none_prefix given Rfc3339 (reads_rfc3339 empty text) (hyphen_due empty text other)
+hyphen_none text other given = none_prefix given (reads_rfc3339 empty text) (hyphen_due empty text other)
 
 -- where the fourth is none there are fewer than four digits
 few_digits : (bytes : List ℕ) → is_ascii_digit (get_or bytes 3 0) ≡ false → nat_le 4 (digit_count bytes) ≡ false
@@ -88,7 +88,7 @@ year_due r bytes e = rw (year_refused true bytes e) refl
 -- its year has four digits
 pub year_none : (text : List ℕ) → is_ascii_digit (get_or text 3 0) ≡ false → (given : Given) → prefix_named given Rfc3339 text ≡ None
 unfolding prefix_named
-year_none text other given = none_prefix given Rfc3339 (reads_rfc3339 empty text) (year_due empty text other)
+year_none text other given = none_prefix given (reads_rfc3339 empty text) (year_due empty text other)
 
 -- ---- RFC 2822
 
@@ -128,7 +128,7 @@ day_refused (c ∷ rest) r word none =
     let f = neither (is_ascii_digit c) (to_ascii_lowercase c == 102) m.0 in
     no_day c rest r (above c word) f.0 (unnamed c rest (λ d e. other_name c d e f.1 m.1 s.1 t.1 w.1))
 
-where_so : {A : Type 0} (b : Bool) (x : Option A) → (b ≡ true → x ≡ None) → (if b then x else None) ≡ None
+pub where_so : {A : Type 0} (b : Bool) (x : Option A) → (b ≡ true → x ≡ None) → (if b then x else None) ≡ None
 where_so true x h = h refl
 where_so false x h = refl
 
@@ -136,7 +136,7 @@ where_so false x h = refl
 pub day_none : (text : List ℕ) → begins_day (get_or text 0 0) ≡ false → (given : Given) → prefix_named given Rfc2822 text ≡ None
 unfolding prefix_named
 day_none text none given =
-    where_so (is_ascii_alphanumeric (get_or text 0 0)) _ (λ word. none_prefix given Rfc2822 (reads_rfc2822 empty text) (day_refused text empty word none))
+    where_so (is_ascii_alphanumeric (get_or text 0 0)) _ (λ word. none_prefix given (reads_rfc2822 empty text) (day_refused text empty word none))
 
 -- a weekday takes three letters
 named_rest : (b : Bool) (o : Option Weekday) (left : List ℕ) (x : Weekday × List ℕ) → cond {A = Option (Weekday × List ℕ)} b (option_map (λ w. (w, left)) o) None ≡ Some x → x.1 ≡ left
@@ -164,7 +164,7 @@ comma_due (c ∷ rest) r word digit none =
 pub comma_none : (text : List ℕ) → is_ascii_digit (get_or text 0 0) ≡ false → eqb (get_or text 3 0) rfc2822.comma ≡ false → (given : Given) → prefix_named given Rfc2822 text ≡ None
 unfolding prefix_named
 comma_none text digit none given =
-    where_so (is_ascii_alphanumeric (get_or text 0 0)) _ (λ word. none_prefix given Rfc2822 (reads_rfc2822 empty text) (comma_due text empty word digit none))
+    where_so (is_ascii_alphanumeric (get_or text 0 0)) _ (λ word. none_prefix given (reads_rfc2822 empty text) (comma_due text empty word digit none))
 
 -- ---- ISO 8601
 
@@ -200,7 +200,7 @@ part_refused (c ∷ rest) r none =
 -- it begins with a part of a date
 pub part_none : (text : List ℕ) → begins_part (get_or text 0 0) ≡ false → (given : Given) → prefix_named given Iso8601 text ≡ None
 unfolding prefix_named
-part_none text none given = none_prefix given Iso8601 (reads_iso8601 empty text) (part_refused text empty none)
+part_none text none given = none_prefix given (reads_iso8601 empty text) (part_refused text empty none)
 
 -- ---- the empty text
 

@@ -1,9 +1,12 @@
 -- The prefix of a description that a plan finds.
-use Rattle.std.proofs.Common.{◌≡◌, ◌≤◌, ℕ, ℤ, false, List, length, take, Option, Some, None, refl, sym, ap, ◌∙◌, arith}
+use Rattle.std.proofs.Common.{◌≡◌, ◌≤◌, ℕ, ℤ, Bool, true, false, List, length, take, Option, Some, None, refl, sym, ap, ◌∙◌, arith}
 use Rattle.std.specs.Prelude.{if◌then◌else◌}
 use Rattle.std.proofs.lemmas.List.{length-take}
 use Rattle.datetime_wall.specs.Wall.{Shown}
+use Rattle.description_items.specs.Modern.{modern}
+use Rattle.parsing_components.specs.declared.fields.Record.{Record}
 use Rattle.parsing_record.specs.Prefix.{NamesPrefix, beginning}
+use Rattle.parsing_record.specs.Record.{empty}
 use Rattle.instants_sources.specs.Grammar.{Described, Written}
 use Rattle.instants_sources.specs.Written.{reads_written}
 use Rattle.instants_prefixes.specs.Contents.{AreContents}
@@ -12,22 +15,32 @@ use Rattle.instants_prefixes.specs.DateSource.{IsWithin}
 use Rattle.instants_prefixes.specs.Ends.{LeavesRest}
 use Rattle.instants_prefixes.specs.Prefix.{prefix_at, with_lengths}
 use Rattle.instants_prefixes.specs.Given.{Given}
+use Rattle.instants_prefixes.specs.Kinds.{is_offset_part, is_unix_time}
 use Rattle.instants_prefixes.specs.Lengths.{lengths}
-use Rattle.instants_prefixes.specs.Reading.{prefix_named, text_for}
+use Rattle.instants_prefixes.specs.Reading.{stands_in, prefix_of, prefix_named, text_for}
+use Rattle.instants_prefixes.proofs.Erased.{described_commutes, erased, timeless}
 use Rattle.instants_prefixes.proofs.PrefixesAt.{prefix_at_is, named_leaves, within_bytes, prefix_within}
-use Rattle.instants_prefixes.proofs.ReadPrefixes.{read_as, described_prefix, planned_prefix}
+use Rattle.instants_prefixes.proofs.ReadPrefixes.{named_whatever, named_assumed}
+use Rattle.instants_prefixes.proofs.Spared.{unplaced, placed, can_unplaced_part, can_placed}
 
 module _ (given : Given) (written : Written) (bytes text : List ℕ) (near : text ≡ take 256 bytes) where
   text_is : text ≡ text_for (Described written) bytes
   unfolding text_for
   text_is = near
 
+  planned_by : (part : Bool) (assumed : Option ℤ) (rest : List ℕ) (moment : Shown) → stands_in (λ c. is_offset_part (modern c)) (Described written) ≡ part → stands_in (λ c. is_unix_time (modern c)) (Described written) ≡ false → assumed ≡ (if part then None else given.offset) → NamesPrefix (reads_written written) (beginning assumed) text rest moment
+      → prefix_of given (reads_written written empty text) ≡ Some (moment, rest)
+  planned_by part None rest moment stands plain is names = named_whatever given (reads_written written) text rest moment (timeless (Described written) plain text) names
+  planned_by true (Some offset) rest moment stands plain is names = absurd cc
+  planned_by false (Some offset) rest moment stands plain is names =
+      named_assumed given offset (reads_written written) text rest moment (sym is) (λ hour minute. described_commutes (placed hour minute) is_offset_part (can_placed hour minute) written stands)
+      (ap (λ (r : Record). r.offset_hour) (erased unplaced is_offset_part can_unplaced_part refl written stands text)) (timeless (Described written) plain text) names
+
   -- what is read where no number of Unix time stands
   pub planned_named : (contents : Contents) (assumed : Option ℤ) (rest : List ℕ) (moment : Shown) → AreContents (Described written) contents → contents.has_unix_time ≡ false → assumed ≡ (if contents.has_offset_part then None else given.offset)
       → NamesPrefix (reads_written written) (beginning assumed) text rest moment → prefix_named given (Described written) text ≡ Some (moment, rest)
-  planned_named contents assumed rest moment are plain is names =
-      let read = read_as written contents are in
-      described_prefix given written contents text are ∙ planned_prefix given (reads_written written) contents assumed text rest moment read is names ∙ rw plain refl
+  unfolding prefix_named
+  planned_named contents assumed rest moment are plain is names = planned_by contents.has_offset_part assumed rest moment are.offset_part (are.unix_time ∙ plain) is names
 
   module _ (rest : List ℕ) (moment : Shown) (named : prefix_named given (Described written) text ≡ Some (moment, rest)) where
     pub planned_leaves : LeavesRest (Described written) text rest

@@ -20,7 +20,7 @@ use Rattle.instants_prefixes.specs.Ends.{LeavesRest}
 use Rattle.instants_prefixes.specs.Prefix.{prefix_at, prefix_in, with_lengths}
 use Rattle.instants_prefixes.specs.Given.{Given, moment_of}
 use Rattle.instants_prefixes.specs.Lengths.{Lengths, lengths, lengths_by, whole, length_by, items_written, before_first, up_to_last, with_text}
-use Rattle.instants_prefixes.specs.Reading.{text_for, may_begin, prefix_named, prefix_of, if_likely, is_likely}
+use Rattle.instants_prefixes.specs.Reading.{text_for, may_begin, prefix_named, prefix_of, followed, is_likely}
 use Rattle.instants_prefixes.specs.declared.prefix.Prefix.{Prefix}
 use Rattle.instants_prefixes.proofs.Extents.{read_within}
 
@@ -30,19 +30,16 @@ pub prefix_at_is : (given : Given) (grammar : Grammar) (bytes text : List ℕ) (
 unfolding prefix_at
 prefix_at_is given grammar bytes text o is named = rw (sym is, sym named) refl
 
-likely_rest : (b : Bool) (moment m : Shown) (left rest : List ℕ) → (if◌then◌else◌ {A = Option (Shown × List ℕ)} b (Some (moment, left)) None) ≡ Some (m, rest) → left ≡ rest
-likely_rest true moment m left rest e = let both : ◌≡◌ {A = Shown × List ℕ} (moment, left) (m, rest) = cc in ap (λ (x : Shown × List ℕ). x.1) both
-likely_rest false moment m left rest e = absurd cc
+likely_rest : (b : Bool) (o : Option Shown) (m : Shown) (left rest : List ℕ) → (if b then followed left o else None) ≡ Some (m, rest) → left ≡ rest
+likely_rest true (Some moment) m left rest e = let both : ◌≡◌ {A = Shown × List ℕ} (moment, left) (m, rest) = cc in ap (λ (x : Shown × List ℕ). x.1) both
+likely_rest true None m left rest e = absurd cc
+likely_rest false o m left rest e = absurd cc
 
-named_rest : (grammar : Grammar) (o : Option Shown) (left rest : List ℕ) (m : Shown) → if_likely grammar o left ≡ Some (m, rest) → left ≡ rest
-named_rest grammar None left rest m e = absurd cc
-named_rest grammar (Some moment) left rest m e = likely_rest (is_likely grammar moment) moment m left rest e
-
-read_leaves : (given : Given) (grammar : Grammar) (text rest : List ℕ) (m : Shown) (a : Answer) → reading_of grammar empty text ≡ a → prefix_of given grammar a ≡ Some (m, rest) → LeavesRest grammar text rest
-read_leaves given grammar text rest m (Ok read) is e = (read.0, is ∙ ap (λ left. Ok (read.0, left)) (named_rest grammar (moment_of given given.years read.0) read.1 rest m e))
+read_leaves : (given : Given) (grammar : Grammar) (text rest : List ℕ) (m : Shown) (a : Answer) → reading_of grammar empty text ≡ a → prefix_of given a ≡ Some (m, rest) → LeavesRest grammar text rest
+read_leaves given grammar text rest m (Ok read) is e = (read.0, is ∙ ap (λ left. Ok (read.0, left)) (likely_rest (is_likely read.0.unix_timestamp_nanos) (moment_of given given.years read.0) m read.1 rest e))
 read_leaves given grammar text rest m (Err f) is e = absurd cc
 
-begun_leaves : (b : Bool) (given : Given) (grammar : Grammar) (text : List ℕ) (m : Shown) (rest : List ℕ) → (if b then prefix_of given grammar (reading_of grammar empty text) else None) ≡ Some (m, rest) → LeavesRest grammar text rest
+begun_leaves : (b : Bool) (given : Given) (grammar : Grammar) (text : List ℕ) (m : Shown) (rest : List ℕ) → (if b then prefix_of given (reading_of grammar empty text) else None) ≡ Some (m, rest) → LeavesRest grammar text rest
 begun_leaves true given grammar text m rest e = read_leaves given grammar text rest m (reading_of grammar empty text) refl e
 begun_leaves false given grammar text m rest e = absurd cc
 

@@ -9,9 +9,8 @@ use Rattle.parsing_components.specs.Component.{reads_component, reads_component_
 use Rattle.parsing_components.specs.Put.{put}
 use Rattle.parsing_components.specs.declared.said.Read.{Read}
 use Rattle.parsing_components.specs.declared.fields.Record.{Record}
-use Rattle.parsing_record.specs.Reads.{Language}
-use Rattle.instants_prefixes.specs.Kinds.{is_offset_hour, is_offset_part, is_placing, is_unix_time}
-use Rattle.instants_prefixes.proofs.Commutes.{Spares, changed, neither_left, neither_right}
+use Rattle.instants_prefixes.specs.Kinds.{is_offset_hour, is_offset_part, is_unix_time}
+use Rattle.instants_prefixes.proofs.Commutes.{Spares, changed}
 use Rattle.instants_prefixes.proofs.Says.{Can, EachRead, component_each, component_each_v3}
 
 -- what is said touches nothing of it
@@ -26,15 +25,12 @@ put_each u (Err f) h r = refl
 abbrev pub Erases : (Record → Record) → (Component → Bool) → Type 0
 Erases u kind = (c : Component) → kind c ≡ false → Can (Untouched u) c
 
--- nor does a language
-abbrev pub Erased : Language → Type 0
-Erased language = (u : Record → Record) (kind : Component → Bool) → ((c : Component) → kind c ≡ false → Can (Untouched u) (modern c)) → Spares u language kind
+-- nor do they in a language, in their older forms either
+pub spares : (u : Record → Record) (kind : Component → Bool) → Erases u kind → Spares u reads_component (λ c. kind (modern c))
+spares u kind each c other r bytes = put_each u (reads_component c bytes) (component_each (Untouched u) c (each (modern c) other) bytes) r
 
-pub spares : Erased reads_component
-spares u kind each c other r bytes = put_each u (reads_component c bytes) (component_each (Untouched u) c (each c other) bytes) r
-
-pub spares_v3 : Erased reads_component_v3
-spares_v3 u kind each c other r bytes = put_each u (reads_component_v3 c bytes) (component_each_v3 (Untouched u) c (each c other) bytes) r
+pub spares_v3 : (u : Record → Record) (kind : Component → Bool) → Erases u kind → Spares u reads_component_v3 (λ c. kind (modern c))
+spares_v3 u kind each c other r bytes = put_each u (reads_component_v3 c bytes) (component_each_v3 (Untouched u) c (each (modern c) other) bytes) r
 
 -- ---- Unix time
 
@@ -59,33 +55,16 @@ pub can_unplaced : Erases unplaced is_offset_hour
 can_unplaced (component.OffsetHour m) e said r = absurd cc
 can_unplaced _ e said r = refl
 
-no_hour : (c : Component) → is_offset_part c ≡ false → is_offset_hour c ≡ false
-no_hour (component.OffsetHour m) e = absurd cc
-no_hour _ e = refl
+pub can_unplaced_part : Erases unplaced is_offset_part
+can_unplaced_part (component.OffsetHour m) e said r = absurd cc
+can_unplaced_part _ e said r = refl
 
 -- with this hour and this minute
 abbrev pub placed : ℤ → ℤ → Record → Record
 placed hour minute r = record r { offset_hour = Some hour; offset_minute = Some minute }
 
-can_placed : (hour minute : ℤ) → Erases (placed hour minute) is_offset_part
+pub can_placed : (hour minute : ℤ) → Erases (placed hour minute) is_offset_part
 can_placed hour minute (component.OffsetHour m) e said r = absurd cc
 can_placed hour minute (component.OffsetMinute m) e said r = absurd cc
 can_placed hour minute (component.OffsetSecond m) e said r = absurd cc
 can_placed hour minute _ e said r = refl
-
--- ---- each language
-
--- where nothing places a moment, and where no part of an offset stands
-pub record SparesParts (language : Language) : Type 0 where
-  pub time : Spares untimed language (λ c. is_placing (modern c))
-  pub place : Spares unplaced language (λ c. is_placing (modern c))
-  pub hour : Spares unplaced language (λ c. is_offset_part (modern c))
-  pub offset : (hour minute : ℤ) → Spares (placed hour minute) language (λ c. is_offset_part (modern c))
-
-pub spares_parts : (language : Language) → Erased language → SparesParts language
-spares_parts language spares = record {
-  time = spares untimed (λ c. is_placing (modern c)) (λ c other. can_untimed (modern c) (neither_right (is_offset_hour (modern c)) (is_unix_time (modern c)) other));
-  place = spares unplaced (λ c. is_placing (modern c)) (λ c other. can_unplaced (modern c) (neither_left (is_offset_hour (modern c)) (is_unix_time (modern c)) other));
-  hour = spares unplaced (λ c. is_offset_part (modern c)) (λ c other. can_unplaced (modern c) (no_hour (modern c) other));
-  offset = λ hour minute. spares (placed hour minute) (λ c. is_offset_part (modern c)) (λ c other. can_placed hour minute (modern c) other);
-}

@@ -1,26 +1,27 @@
 -- A source that lacks a part names nothing.
-use Rattle.std.proofs.Common.{◌≡◌, ◌&&◌, ◌||◌, ◌⊎◌, inl, inr, ℕ, ℤ, Bool, true, false, not, List, Option, Some, None, Ok, Err, refl, ap, ◌∙◌}
+use Rattle.std.proofs.Common.{◌≡◌, ◌&&◌, ◌||◌, ◌⊎◌, inl, inr, ℕ, ℤ, Bool, true, false, not, List, Option, Some, None, Ok, Err, refl, sym, ap, ◌∙◌, subst}
 use Rattle.std.specs.Prelude.{if◌then◌else◌}
 use Rattle.std.specs.Option.{is_none}
+use Rattle.description_items.specs.declared.component.Component.{Component}
 use Rattle.parsing_combinator.specs.Fault.{insufficient}
 use Rattle.parsing_values.specs.declared.date_parts.DateParts.{DateParts}
-use Rattle.parsing_values.specs.NamedDate.{named_date, by_ordinal, by_day, by_iso_week, by_sunday_week, by_monday_week, year_of, split_year}
-use Rattle.parsing_values.specs.NamedTime.{named_time, hour_of, half_day_hour}
+use Rattle.parsing_values.specs.NamedDate.{named_date, by_ordinal, by_day, by_iso_week, by_sunday_week, by_monday_week, year_of}
+use Rattle.parsing_values.specs.NamedTime.{named_time}
 use Rattle.parsing_record.specs.Meaning.{Answer}
 use Rattle.parsing_record.specs.Parts.{date_parts, time_parts}
 use Rattle.parsing_components.specs.declared.fields.Record.{Record}
 use Rattle.parsing_record.specs.Record.{empty}
 use Rattle.instants_sources.specs.Grammar.{Grammar}
-use Rattle.instants_prefixes.specs.Given.{Given, Years, Unknown, In, Near, moment_of, moment_in, with_time, has_no_year}
+use Rattle.instants_sources.specs.Reading.{reading_of}
+use Rattle.instants_prefixes.specs.Given.{Given, Years, Unknown, In, Near, moment_of, moment_in, with_time, with_year, completed}
 use Rattle.instants_prefixes.specs.Lacks.{Lack, Century, Year, Day, Hour, Offset, stands, is_known, has_year, has_day, has_hour, has_offset, lack}
 use Rattle.instants_prefixes.specs.Kinds.{is_year, is_century, is_last_two, is_month, is_day, is_ordinal, is_week, is_weekday, is_hour, is_offset_hour, is_unix_time}
-use Rattle.instants_sources.specs.Reading.{reading_of}
-use Rattle.instants_prefixes.specs.Reading.{may_begin, prefix_named, prefix_of, if_likely}
+use Rattle.instants_prefixes.specs.Reading.{may_begin, prefix_named, prefix_of, followed, is_likely, record_of}
 use Rattle.instants_prefixes.proofs.Commutes.{neither_left, neither_right}
-use Rattle.instants_prefixes.proofs.Erased.{IsRead, unread, year_erased, century_erased, last_two_erased, month_erased, day_erased, ordinal_erased, week_erased, weekday_erased, hour_erased}
-use Rattle.instants_prefixes.proofs.Spared.{can_untimed, can_unplaced}
-use Rattle.instants_prefixes.proofs.NamedAlone.{no_year}
-use Rattle.instants_prefixes.proofs.OutOfRange.{none_of_year, none_of_time, without_year, without_hour}
+use Rattle.instants_prefixes.proofs.Erased.{unread, year_erased, century_erased, last_two_erased, month_erased, day_erased, ordinal_erased, week_erased, weekday_erased, hour_erased}
+use Rattle.instants_prefixes.proofs.Spared.{Erases, can_untimed, can_unplaced}
+use Rattle.instants_prefixes.proofs.NamedAlone.{names, no_year, yearless, no_years, no_hour, without_date, without_time, kept, kept_offset, kept_year, kept_time}
+use Rattle.instants_prefixes.proofs.NoneNamed.{where_so}
 use Rattle.instants_prefixes.proofs.ReadPrefixes.{unplaced_in}
 
 -- ---- dates
@@ -28,23 +29,6 @@ use Rattle.instants_prefixes.proofs.ReadPrefixes.{unplaced_in}
 lost_both : (a b : Bool) → (a && b) ≡ false → (a ≡ false) ⊎ (b ≡ false)
 lost_both true b e = inr e
 lost_both false b e = inl refl
-
--- no year is there by all of its digits
-yearless : (p : DateParts) → p.year.year ≡ None → (p.year.century ≡ None) ⊎ (p.year.last_two ≡ None) → year_of p.year ≡ None
-unfolding year_of split_year
-yearless p none (inl century) = rw (none, century) refl
-yearless p none (inr last_two) =
-    elim p.year.century as (λ o. p.year.century ≡ o → year_of p.year ≡ None) [ None ↦ λ e. rw (none, e) refl | Some c ↦ λ e. rw (none, e, last_two) refl ] refl
-
-weekless : (p : DateParts) → p.iso_year.year ≡ None → (p.iso_year.century ≡ None) ⊎ (p.iso_year.last_two ≡ None) → year_of p.iso_year ≡ None
-unfolding year_of split_year
-weekless p none (inl century) = rw (none, century) refl
-weekless p none (inr last_two) =
-    elim p.iso_year.century as (λ o. p.iso_year.century ≡ o → year_of p.iso_year ≡ None) [ None ↦ λ e. rw (none, e) refl | Some c ↦ λ e. rw (none, e, last_two) refl ] refl
-
-no_years : (p : DateParts) → year_of p.year ≡ None → year_of p.iso_year ≡ None → named_date p ≡ Err insufficient
-unfolding named_date by_ordinal by_day by_iso_week by_sunday_week by_monday_week
-no_years p year iso = rw (year, iso) refl
 
 -- what holds where nothing is there and where something is
 either_way : {A : Type 0} {P : Type 0} (o : Option A) → (o ≡ None → P) → ((x : A) → o ≡ Some x → P) → P
@@ -79,23 +63,39 @@ unfolding by_monday_week
 by_no_monday p (inl week) = either_way (year_of p.year) (λ y. rw y refl) (λ year y. rw (y, week.2) refl)
 by_no_monday p (inr day) = either_way (year_of p.year) (λ y. rw y refl) (λ year y. either_way p.monday_week (λ w. rw (y, w) refl) (λ week w. rw (y, w, day) refl))
 
-no_days : (p : DateParts) → p.ordinal ≡ None → (p.month ≡ None) ⊎ (p.day ≡ None) → HasNoWeek p → named_date p ≡ Err insufficient
-unfolding named_date
-no_days p ordinal day week = rw (by_no_ordinal p ordinal, by_no_day p day, by_no_iso p week, by_no_sunday p week, by_no_monday p week) refl
+-- no day of a year
+abbrev HasNoDay : DateParts → Type 0
+HasNoDay p = (p.ordinal ≡ None) × ((p.month ≡ None) ⊎ (p.day ≡ None)) × HasNoWeek p
 
--- ---- what a record lacks
+no_days : (p : DateParts) → HasNoDay p → named_date p ≡ Err insufficient
+unfolding named_date
+no_days p (ordinal, day, week) = rw (by_no_ordinal p ordinal, by_no_day p day, by_no_iso p week, by_no_sunday p week, by_no_monday p week) refl
+
+-- ---- what a record without Unix time lacks
+
+timeless : (offset year : Option ℤ) (time : Option ℕ) (r : Record) → r.unix_timestamp_nanos ≡ None → (completed offset year time r).unix_timestamp_nanos ≡ None
+timeless offset year time r unix = kept (λ x. x.unix_timestamp_nanos) (λ _ _ _ _ _ _ _. refl) offset year time r ∙ unix
+
+-- the parts of a date but its year
+abbrev days : Record → DateParts
+days r = date_parts (record r { year = None; iso_year = None })
+
+day_unread : (given : Given) (r : Record) → r.unix_timestamp_nanos ≡ None → HasNoDay (days r) → (year : Option ℤ) → moment_in given year r ≡ None
+day_unread given r unix none year =
+    let whole = completed given.offset year given.time r in
+    let P : DateParts → Type 0 = λ p. HasNoDay p in
+    without_date whole insufficient (timeless given.offset year given.time r unix) (no_days (date_parts whole) (subst P (sym (kept days (λ _ _ _ _ _ _ _. refl) given.offset year given.time r)) none))
 
 year_unread : (given : Given) (r : Record) → r.unix_timestamp_nanos ≡ None → year_of (date_parts r).year ≡ None → year_of (date_parts r).iso_year ≡ None → moment_in given None r ≡ None
 year_unread given r unix year iso =
-    without_year given.offset None given.time r unix (insufficient, ap (λ (x : Record). named_date (date_parts x)) (none_of_year r) ∙ no_years (date_parts r) year iso)
+    let same = kept_offset date_parts given.offset (with_time given.time r) (λ a b. refl) ∙ kept_time date_parts given.time r (λ a b. refl) in
+    without_date (completed given.offset None given.time r) insufficient (timeless given.offset None given.time r unix) (ap named_date same ∙ no_years (date_parts r) year iso)
 
-if_day : (b : Bool) (year : Option ℤ) (r : Record) → r.ordinal ≡ None → (r.month ≡ None) ⊎ (r.day ≡ None) → HasNoWeek (date_parts r) → named_date (date_parts (if b then record r { year = year } else r)) ≡ Err insufficient
-if_day true year r ordinal day week = no_days (date_parts (record r { year = year })) ordinal day week
-if_day false year r ordinal day week = no_days (date_parts r) ordinal day week
-
-hour_unread : (r : Record) → r.hour_24 ≡ None → r.hour_12 ≡ None → (leap : Bool) → named_time leap (time_parts r) ≡ Err insufficient
-unfolding named_time hour_of half_day_hour
-hour_unread r whole half leap = rw (whole, half) refl
+hour_unread : (given : Given) (r : Record) → r.unix_timestamp_nanos ≡ None → r.hour_24 ≡ None → r.hour_12 ≡ None → given.time ≡ None → (year : Option ℤ) → moment_in given year r ≡ None
+hour_unread given r unix whole half none year =
+    let same = kept_offset time_parts given.offset (with_year year r) (λ a b. refl) ∙ kept_year time_parts year r (λ a b. refl) in
+    ap (λ (time : Option ℕ). names (completed given.offset year time r)) none
+    ∙ without_time (completed given.offset year None r) insufficient (timeless given.offset year None r unix) (λ leap. ap (named_time leap) same ∙ no_hour r whole (inl half) leap)
 
 -- ---- what a source lacks
 
@@ -109,17 +109,9 @@ lacks_one false true true true false which what e = (refl, inr (inr (inr refl)))
 lacks_one false true true true true which what e = absurd cc
 
 -- what a source reads names nothing
-ReadsUnnamed : Given → Grammar → List ℕ → Type 0
-ReadsUnnamed given grammar text = (r : Record) (rest : List ℕ) → IsRead grammar text r rest → moment_of given given.years r ≡ None
-
-of_read : (given : Given) (grammar : Grammar) (text : List ℕ) (a : Answer) → reading_of grammar empty text ≡ a → ReadsUnnamed given grammar text → prefix_of given grammar a ≡ None
-unfolding ReadsUnnamed
-of_read given grammar text (Ok read) is none = ap (λ o. if_likely grammar o read.1) (none read.0 read.1 is)
-of_read given grammar text (Err f) is none = refl
-
-of_begun : (b : Bool) (given : Given) (grammar : Grammar) (text : List ℕ) → ReadsUnnamed given grammar text → (if b then prefix_of given grammar (reading_of grammar empty text) else None) ≡ None
-of_begun true given grammar text none = of_read given grammar text (reading_of grammar empty text) refl none
-of_begun false given grammar text none = refl
+read_none : (given : Given) (a : Answer) → moment_of given given.years (record_of a) ≡ None → prefix_of given a ≡ None
+read_none given (Ok read) none = where_so (is_likely read.0.unix_timestamp_nanos) _ (λ _. ap (followed read.1) none)
+read_none given (Err f) none = refl
 
 unknown : (years : Years) → is_known years ≡ false → years ≡ Unknown
 unknown Unknown e = refl
@@ -130,67 +122,65 @@ not_some : {A : Type 0} (o : Option A) → not (is_none o) ≡ false → o ≡ N
 not_some None e = refl
 not_some (Some x) e = absurd cc
 
-without_years : (given : Given) (grammar : Grammar) (text : List ℕ) → stands is_unix_time grammar ≡ false → has_year given grammar ≡ false → ReadsUnnamed given grammar text
-unfolding ReadsUnnamed moment_of
-without_years given grammar text unix lacking r rest read =
-    let parts = neither_left (stands is_year grammar || (stands is_century grammar && stands is_last_two grammar)) (is_known given.years) lacking in
-    let none_known = unknown given.years (neither_right (stands is_year grammar || (stands is_century grammar && stands is_last_two grammar)) (is_known given.years) lacking) in
-    let year = unread _ _ year_erased refl grammar text r rest read (neither_left (stands is_year grammar) (stands is_century grammar && stands is_last_two grammar) parts) in
-    let split = lost_both (stands is_century grammar) (stands is_last_two grammar) (neither_right (stands is_year grammar) (stands is_century grammar && stands is_last_two grammar) parts) in
-    let civil : (r.year_century ≡ None) ⊎ (r.year_last_two ≡ None) =
-    elim split [ inl c ↦ inl (ap (λ (x : Record). x.year_century) (unread _ _ century_erased refl grammar text r rest read c)) | inr l ↦ inr (ap (λ (x : Record). x.year_last_two) (unread _ _ last_two_erased refl grammar text r rest read l)) ] in
-    let week : (r.iso_year_century ≡ None) ⊎ (r.iso_year_last_two ≡ None) =
-    elim split [ inl c ↦ inl (ap (λ (x : Record). x.iso_year_century) (unread _ _ century_erased refl grammar text r rest read c)) | inr l ↦ inr (ap (λ (x : Record). x.iso_year_last_two) (unread _ _ last_two_erased refl grammar text r rest read l)) ] in
-    ap (λ years. moment_of given years r) none_known
-    ∙ year_unread given r (ap (λ (x : Record). x.unix_timestamp_nanos) (unread _ _ can_untimed refl grammar text r rest read unix)) (yearless (date_parts r) (ap (λ (x : Record). x.year) year) civil) (weekless (date_parts r) (ap (λ (x : Record). x.iso_year) year) week)
+-- the parts that none of a kind touches are as if taken away
+abbrev LacksUnread : Grammar → Record → Type 0
+LacksUnread grammar r = (u : Record → Record) (kind : Component → Bool) → Erases u kind → u empty ≡ empty → stands kind grammar ≡ false → r ≡ u r
 
-without_days : (given : Given) (grammar : Grammar) (text : List ℕ) → stands is_unix_time grammar ≡ false → has_day grammar ≡ false → ReadsUnnamed given grammar text
-unfolding ReadsUnnamed
-without_days given grammar text unix lacking r rest read =
-    let prefix = neither_left ((stands is_month grammar && stands is_day grammar) || stands is_ordinal grammar) (stands is_week grammar && stands is_weekday grammar) lacking in
-    let weeks = lost_both (stands is_week grammar) (stands is_weekday grammar) (neither_right ((stands is_month grammar && stands is_day grammar) || stands is_ordinal grammar) (stands is_week grammar && stands is_weekday grammar) lacking) in
-    let days = lost_both (stands is_month grammar) (stands is_day grammar) (neither_left (stands is_month grammar && stands is_day grammar) (stands is_ordinal grammar) prefix) in
-    let ordinal = ap (λ (x : Record). x.ordinal) (unread _ _ ordinal_erased refl grammar text r rest read (neither_right (stands is_month grammar && stands is_day grammar) (stands is_ordinal grammar) prefix)) in
-    let day : (r.month ≡ None) ⊎ (r.day ≡ None) = elim days [ inl m ↦ inl (ap (λ (x : Record). x.month) (unread _ _ month_erased refl grammar text r rest read m)) | inr d ↦ inr (ap (λ (x : Record). x.day) (unread _ _ day_erased refl grammar text r rest read d)) ] in
-    let week : HasNoWeek (date_parts r) =
-    elim weeks [
-      | inl w ↦ let same = unread _ _ week_erased refl grammar text r rest read w in inl (ap (λ (x : Record). x.iso_week_number) same, ap (λ (x : Record). x.sunday_week_number) same, ap (λ (x : Record). x.monday_week_number) same)
-      | inr d ↦ inr (ap (λ (x : Record). x.weekday) (unread _ _ weekday_erased refl grammar text r rest read d))
-    ] in
-    no_year given given.years r (λ year. without_year given.offset year given.time r (ap (λ (x : Record). x.unix_timestamp_nanos) (unread _ _ can_untimed refl grammar text r rest read unix)) (insufficient, if_day (has_no_year r) year r ordinal day week))
+module _ (given : Given) (grammar : Grammar) (r : Record) (so : LacksUnread grammar r) (plain : stands is_unix_time grammar ≡ false) where
+  unix : r.unix_timestamp_nanos ≡ None
+  unix = ap (λ (x : Record). x.unix_timestamp_nanos) (so _ _ can_untimed refl plain)
 
-without_hours : (given : Given) (grammar : Grammar) (text : List ℕ) → stands is_unix_time grammar ≡ false → has_hour given grammar ≡ false → ReadsUnnamed given grammar text
-unfolding ReadsUnnamed
-without_hours given grammar text unix lacking r rest read =
-    let hour = unread _ _ hour_erased refl grammar text r rest read (neither_left (stands is_hour grammar) (not (is_none given.time)) lacking) in
-    let none = not_some given.time (neither_right (stands is_hour grammar) (not (is_none given.time)) lacking) in
-    let whole = ap (λ (x : Record). x.hour_24) hour in
-    let half = ap (λ (x : Record). x.hour_12) hour in
-    let no_hour : (leap : Bool) → named_time leap (time_parts (with_time given.time r)) ≡ Err insufficient =
-    λ leap. ap (λ (time : Option ℕ). named_time leap (time_parts (with_time time r))) none ∙ ap (λ (x : Record). named_time leap (time_parts x)) (none_of_time r) ∙ hour_unread r whole half leap in
-    no_year given given.years r (λ year. without_hour given.offset year given.time r insufficient (ap (λ (x : Record). x.unix_timestamp_nanos) (unread _ _ can_untimed refl grammar text r rest read unix)) no_hour)
+  without_years : has_year given grammar ≡ false → moment_of given given.years r ≡ None
+  unfolding moment_of
+  without_years lacking =
+      let parts = neither_left (stands is_year grammar || (stands is_century grammar && stands is_last_two grammar)) (is_known given.years) lacking in
+      let none_known = unknown given.years (neither_right (stands is_year grammar || (stands is_century grammar && stands is_last_two grammar)) (is_known given.years) lacking) in
+      let year = so _ _ year_erased refl (neither_left (stands is_year grammar) (stands is_century grammar && stands is_last_two grammar) parts) in
+      let split = lost_both (stands is_century grammar) (stands is_last_two grammar) (neither_right (stands is_year grammar) (stands is_century grammar && stands is_last_two grammar) parts) in
+      let civil : (r.year_century ≡ None) ⊎ (r.year_last_two ≡ None) =
+      elim split [ inl c ↦ inl (ap (λ (x : Record). x.year_century) (so _ _ century_erased refl c)) | inr l ↦ inr (ap (λ (x : Record). x.year_last_two) (so _ _ last_two_erased refl l)) ] in
+      let week : (r.iso_year_century ≡ None) ⊎ (r.iso_year_last_two ≡ None) =
+      elim split [ inl c ↦ inl (ap (λ (x : Record). x.iso_year_century) (so _ _ century_erased refl c)) | inr l ↦ inr (ap (λ (x : Record). x.iso_year_last_two) (so _ _ last_two_erased refl l)) ] in
+      ap (λ years. moment_of given years r) none_known
+      ∙ year_unread given r unix (yearless (date_parts r).year (ap (λ (x : Record). x.year) year) civil) (yearless (date_parts r).iso_year (ap (λ (x : Record). x.iso_year) year) week)
 
-without_offsets : (given : Given) (grammar : Grammar) (text : List ℕ) → stands is_unix_time grammar ≡ false → has_offset given grammar ≡ false → ReadsUnnamed given grammar text
-unfolding ReadsUnnamed
-without_offsets given grammar text unix lacking r rest read =
-    let hour = ap (λ (x : Record). x.offset_hour) (unread _ _ can_unplaced refl grammar text r rest read (neither_left (stands is_offset_hour grammar) (not (is_none given.offset)) lacking)) in
-    let none = not_some given.offset (neither_right (stands is_offset_hour grammar) (not (is_none given.offset)) lacking) in
-    no_year given given.years r (unplaced_in given r none hour (ap (λ (x : Record). x.unix_timestamp_nanos) (unread _ _ can_untimed refl grammar text r rest read unix)))
+  without_days : has_day grammar ≡ false → moment_of given given.years r ≡ None
+  without_days lacking =
+      let prefix = neither_left ((stands is_month grammar && stands is_day grammar) || stands is_ordinal grammar) (stands is_week grammar && stands is_weekday grammar) lacking in
+      let weeks = lost_both (stands is_week grammar) (stands is_weekday grammar) (neither_right ((stands is_month grammar && stands is_day grammar) || stands is_ordinal grammar) (stands is_week grammar && stands is_weekday grammar) lacking) in
+      let dates = lost_both (stands is_month grammar) (stands is_day grammar) (neither_left (stands is_month grammar && stands is_day grammar) (stands is_ordinal grammar) prefix) in
+      let ordinal = ap (λ (x : Record). x.ordinal) (so _ _ ordinal_erased refl (neither_right (stands is_month grammar && stands is_day grammar) (stands is_ordinal grammar) prefix)) in
+      let day : (r.month ≡ None) ⊎ (r.day ≡ None) = elim dates [ inl m ↦ inl (ap (λ (x : Record). x.month) (so _ _ month_erased refl m)) | inr d ↦ inr (ap (λ (x : Record). x.day) (so _ _ day_erased refl d)) ] in
+      let week : HasNoWeek (date_parts r) =
+      elim weeks [
+        | inl w ↦ let same = so _ _ week_erased refl w in inl (ap (λ (x : Record). x.iso_week_number) same, ap (λ (x : Record). x.sunday_week_number) same, ap (λ (x : Record). x.monday_week_number) same)
+        | inr d ↦ inr (ap (λ (x : Record). x.weekday) (so _ _ weekday_erased refl d))
+      ] in
+      no_year given given.years r (day_unread given r unix (ordinal, day, week))
+
+  without_hours : has_hour given grammar ≡ false → moment_of given given.years r ≡ None
+  without_hours lacking =
+      let hour = so _ _ hour_erased refl (neither_left (stands is_hour grammar) (not (is_none given.time)) lacking) in
+      no_year given given.years r (hour_unread given r unix (ap (λ (x : Record). x.hour_24) hour) (ap (λ (x : Record). x.hour_12) hour) (not_some given.time (neither_right (stands is_hour grammar) (not (is_none given.time)) lacking)))
+
+  without_offsets : has_offset given grammar ≡ false → moment_of given given.years r ≡ None
+  without_offsets lacking =
+      let hour = ap (λ (x : Record). x.offset_hour) (so _ _ can_unplaced refl (neither_left (stands is_offset_hour grammar) (not (is_none given.offset)) lacking)) in
+      no_year given given.years r (unplaced_in given r (not_some given.offset (neither_right (stands is_offset_hour grammar) (not (is_none given.offset)) lacking)) hour unix)
 
 -- a source that lacks something names nothing
 pub finds_nothing : (given : Given) (grammar : Grammar) (what : Lack) → lack given grammar ≡ Some what → (text : List ℕ) → prefix_named given grammar text ≡ None
 unfolding prefix_named lack
 finds_nothing given grammar what e text =
-    let both = lacks_one (stands is_unix_time grammar) (has_year given grammar) (has_day grammar) (has_hour given grammar) (has_offset given grammar) (if stands is_last_two grammar then Century else Year) what e in
-    let none : ReadsUnnamed given grammar text =
-    elim both.1 [
-      | inl year ↦ without_years given grammar text both.0 year
+    let (plain, lacking) = lacks_one (stands is_unix_time grammar) (has_year given grammar) (has_day grammar) (has_hour given grammar) (has_offset given grammar) (if stands is_last_two grammar then Century else Year) what e in
+    let r = record_of (reading_of grammar empty text) in
+    let so : LacksUnread grammar r = λ u kind each is free. unread u kind each is grammar free text in
+    let none : moment_of given given.years r ≡ None =
+    elim lacking [
+      | inl year ↦ without_years given grammar r so plain year
       | inr later ↦ elim later [
-        | inl day ↦ without_days given grammar text both.0 day
-        | inr after ↦ elim after [
-          | inl hour ↦ without_hours given grammar text both.0 hour
-          | inr offset ↦ without_offsets given grammar text both.0 offset
-        ]
+        | inl day ↦ without_days given grammar r so plain day
+        | inr after ↦ elim after [ inl hour ↦ without_hours given grammar r so plain hour | inr offset ↦ without_offsets given grammar r so plain offset ]
       ]
     ] in
-    of_begun (may_begin grammar text) given grammar text none
+    where_so (may_begin grammar text) _ (λ _. read_none given (reading_of grammar empty text) none)

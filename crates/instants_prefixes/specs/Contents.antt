@@ -10,7 +10,6 @@ use Rattle.instants_prefixes.specs.declared.contents.Contents.{Contents}
 -- the kinds that stand in a source
 pub record AreContents (grammar : Grammar) (contents : Contents) : Type 0 where
   pub unix_time : stands_in (is_of kind.UnixTime) grammar ≡ contents.has_unix_time
-  pub placing : stands_in (is_of kind.Placing) grammar ≡ contents.is_placed
   pub offset_part : stands_in (is_of kind.OffsetPart) grammar ≡ contents.has_offset_part
 
 -- a component of a kind stands in a source; the well-known formats have all that a moment needs

@@ -1,10 +1,13 @@
 -- What is given once for dates that lack it, and the moment of what was read with it.
-use Rattle.std.specs.Prelude.{ℕ, Bool, ◌&&◌, ◌/◌, ◌%◌, Option, None, Some, option_map, nat_le, unsigned_abs, if◌then◌else◌, ℤ, pos, ◌+ℤ◌, ◌-ℤ◌, int_div, int_rem}
+use Rattle.std.specs.Prelude.{ℕ, Bool, ◌&&◌, ◌/◌, ◌%◌, Option, None, Some, nat_le, nat_lt, unsigned_abs, if◌then◌else◌, ℤ, pos, ◌+ℤ◌, ◌-ℤ◌, int_div, int_rem}
+use Rattle.std.specs.Int.{int_rem_euclid}
 use Rattle.std.specs.Option.{is_none}
 use Rattle.std.specs.Result.{result_ok}
 use Rattle.calendar_count.specs.Calendar.{day_at}
+use Rattle.calendar_count.specs.Range.{greatest_year}
 use Rattle.datetime_wall.specs.Wall.{Shown, instant, day_of}
 use Rattle.parsing_components.specs.declared.fields.Record.{Record}
+use Rattle.parsing_record.specs.Record.{is_up_to}
 use Rattle.parsing_record.specs.Whole.{moment_named}
 -- an offset from UTC in seconds, what is known of the year, and a time of day in minutes
 pub use Rattle.instants_prefixes.specs.declared.given.Given.{Given}
@@ -12,32 +15,59 @@ pub use Rattle.instants_prefixes.specs.declared.given.Given.{Given}
 pub use Rattle.instants_prefixes.specs.declared.given.Years.{Years}
 pub use Rattle.instants_prefixes.specs.declared.given.Years.TheVariants.{Unknown, In, Near}
 
--- ---- in place of what was not read
+-- ---- what was not read
 
--- the hour and the minute of an offset, where no hour of one was read
-abbrev pub with_offset : Option ℤ → Option ℤ → Record → Record
-with_offset (Some hour) given r = r
-with_offset None None r = r
-with_offset None (Some offset) r = record r { offset_hour = Some (int_div offset (pos 3600)); offset_minute = Some (int_rem (int_div offset (pos 60)) (pos 60)) }
+-- no hour of an offset was read
+abbrev pub lacks_offset : Record → Bool
+lacks_offset r = is_none r.offset_hour
 
--- no part of a year was read
-abbrev pub has_no_year : Record → Bool
-has_no_year r = (is_none r.year && is_none r.year_century && is_none r.year_last_two) && (is_none r.iso_year && is_none r.iso_year_century && is_none r.iso_year_last_two)
+-- no year was read: its last two digits alone are none
+abbrev pub lacks_year : Record → Bool
+lacks_year r = (is_none r.year && is_none r.year_century) && (is_none r.iso_year && is_none r.iso_year_century)
 
 -- no part of a time of day was read
-abbrev pub has_no_time : Record → Bool
-has_no_time r = (is_none r.hour_24 && is_none r.hour_12 && is_none r.hour_12_is_pm) && (is_none r.minute && is_none r.second && is_none r.subsecond)
+abbrev pub lacks_time : Record → Bool
+lacks_time r = (is_none r.hour_24 && is_none r.hour_12 && is_none r.hour_12_is_pm) && (is_none r.minute && is_none r.second && is_none r.subsecond)
 
-abbrev pub with_year : Option ℤ → Record → Record
-with_year given r = if has_no_year r then record r { year = given } else r
+-- ---- what is given in place of it
 
+-- the hour and the minute of an offset
+abbrev pub with_offset : Option ℤ → Record → Record
+with_offset None r = r
+with_offset (Some offset) r =
+    if lacks_offset r then record r { offset_hour = Some (int_div offset (pos 3600)); offset_minute = Some (int_rem (int_div offset (pos 60)) (pos 60)) } else r
+
+-- a minute of a day
 abbrev pub with_time : Option ℕ → Record → Record
-with_time given r =
-    if has_no_time r then record r { hour_24 = option_map (λ minutes. minutes / 60) given; minute = option_map (λ minutes. minutes % 60) given } else r
+with_time None r = r
+with_time (Some minutes) r = if lacks_time r && nat_lt minutes 1440 then record r { hour_24 = Some (minutes / 60); minute = Some (minutes % 60) } else r
+
+-- of the years with these last two digits the one that is nearest to a year, the earlier of two equally near ones
+abbrev pub year_near : ℤ → ℕ → ℤ
+year_near year last_two = let first = year -ℤ pos 50 in first +ℤ int_rem_euclid (pos last_two -ℤ first) (pos 100)
+
+-- a year that the calendar has, and such a year of the weeks of ISO 8601
+abbrev pub in_year : ℤ → Record → Record
+in_year year r = if is_up_to greatest_year year then record r { year = Some year } else r
+
+abbrev pub in_iso_year : ℤ → Record → Record
+in_iso_year year r = if is_up_to greatest_year year then record r { iso_year = Some year } else r
+
+-- the year that is given, and where the last two digits of one year were read, the year nearest to it that has them
+abbrev pub in_near_year : ℤ → Option ℕ → Option ℕ → Record → Record
+in_near_year year None None r = in_year year r
+in_near_year year (Some last_two) None r = in_year (year_near year last_two) r
+in_near_year year None (Some last_two) r = in_iso_year (year_near year last_two) r
+in_near_year year (Some one) (Some other) r = r
+
+-- a year of the calendar
+abbrev pub with_year : Option ℤ → Record → Record
+with_year None r = r
+with_year (Some year) r = if lacks_year r && is_up_to greatest_year year then in_near_year year r.year_last_two r.iso_year_last_two r else r
 
 -- the record with what is given in place of what was not read
 abbrev pub completed : Option ℤ → Option ℤ → Option ℕ → Record → Record
-completed offset year time r = with_offset r.offset_hour offset (with_year year (with_time time r))
+completed offset year time r = with_offset offset (with_year year (with_time time r))
 
 -- ---- the moment
 

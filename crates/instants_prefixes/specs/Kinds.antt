@@ -1,5 +1,5 @@
 -- Kinds of components.
-use Rattle.std.specs.Prelude.{◌||◌, Bool, true, false}
+use Rattle.std.specs.Prelude.{Bool, true, false}
 use Rattle.description_items.specs.declared.component.Component.{Component}
 use Rattle.description_items.specs.declared.component.Component.TheVariants as component
 use Rattle.description_items.specs.Modern.{modern}
@@ -81,17 +81,11 @@ is_offset_part (component.OffsetMinute m) = true
 is_offset_part (component.OffsetSecond m) = true
 is_offset_part _ = false
 
--- it places a moment: without one, a moment needs an offset that is given
-abbrev pub is_placing : Component → Bool
-is_placing c = is_offset_hour c || is_unix_time c
-
 -- a component is of this kind; an older form is of that of the newer one which says the same
 abbrev pub is_of : Kind → Component → Bool
 is_of kind.Saying c = is_saying c
-is_of kind.UnixTime c = is_unix_time c
-is_of kind.Placing c = is_placing (modern c)
+is_of kind.UnixTime c = is_unix_time (modern c)
 is_of kind.OffsetPart c = is_offset_part (modern c)
-is_of kind.Unix c = is_unix_time (modern c)
 is_of kind.OffsetHour c = is_offset_hour (modern c)
 is_of kind.Year c = is_year (modern c)
 is_of kind.Century c = is_century (modern c)

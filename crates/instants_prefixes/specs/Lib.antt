@@ -5,8 +5,6 @@ pub mod Reading
 pub mod Lengths
 pub mod Prefix
 pub mod Contents
-pub mod InRange
-pub mod Named
 pub mod Ends
 pub mod Answered
 pub mod DateSource

@@ -1,16 +1,16 @@
 -- What a source reads at the start of bytes, and the moment that it names.
-use Rattle.std.specs.Prelude.{ℕ, ◌^◌, ◌&&◌, ◌||◌, not, nat_le, nat_lt, Bool, true, false, List, take, get_or, Option, None, Some, Ok, Err, unsigned_abs, if◌then◌else◌}
+use Rattle.std.specs.Prelude.{ℕ, ℤ, ◌^◌, ◌&&◌, nat_le, nat_lt, Bool, true, false, List, take, get_or, Option, None, Some, Ok, Err, unsigned_abs, if◌then◌else◌}
 use Rattle.std.specs.Char.{is_ascii_alphanumeric}
-use Rattle.datetime_wall.specs.Wall.{Shown, instant}
+use Rattle.datetime_wall.specs.Wall.{Shown}
 use Rattle.description_items.specs.declared.component.Component.{Component}
 use Rattle.description_items.specs.Tree.{listed}
+use Rattle.parsing_components.specs.declared.fields.Record.{Record}
 use Rattle.parsing_record.specs.Meaning.{Answer}
 use Rattle.parsing_record.specs.Record.{empty}
 use Rattle.instants_sources.specs.Grammar.{Grammar, Described, Rfc2822, Iso8601, Written, Items, V3}
 use Rattle.instants_sources.specs.Reading.{reading_of}
 use Rattle.instants_edges.specs.Text.{iso_text, mail_text}
 use Rattle.instants_prefixes.specs.Given.{Given, moment_of}
-use Rattle.instants_prefixes.specs.Kinds.{is_unix_time}
 pub use Rattle.instants_prefixes.specs.Has.{has, any_has}
 
 -- a date lies within so many bytes
@@ -40,27 +40,36 @@ abbrev pub stands_in : (Component → Bool) → Grammar → Bool
 stands_in kind (Described written) = written_has kind written
 stands_in kind _ = false
 
--- a source reads numbers of Unix time
-abbrev pub has_unix_time : Grammar → Bool
-has_unix_time grammar = stands_in is_unix_time grammar
+-- ---- the record
+
+-- what was read, and nothing where it was refused
+abbrev pub record_of : Answer → Record
+record_of (Ok read) = read.0
+record_of (Err fault) = empty
+
+-- the record that a source reads at the start of bytes, and an empty one where it reads none
+unfoldable pub record_at : Grammar → List ℕ → Record
+record_at grammar bytes = record_of (reading_of grammar empty (text_for grammar bytes))
 
 -- ---- the moment
 
 -- a number of Unix time inside a line has nine or ten digits of seconds, which are 1973 to 2286 and the like before 1970: shorter and longer numbers count other things
-abbrev pub is_likely : Grammar → Shown → Bool
-is_likely grammar moment = not (has_unix_time grammar) || (nat_le (10 ^ 17) (unsigned_abs (instant moment)) && nat_lt (unsigned_abs (instant moment)) (10 ^ 19))
+abbrev pub is_likely : Option ℤ → Bool
+is_likely None = true
+is_likely (Some nanoseconds) = nat_le (10 ^ 17) (unsigned_abs nanoseconds) && nat_lt (unsigned_abs nanoseconds) (10 ^ 19)
 
--- a moment that is likely, and what stands after its prefix
-abbrev pub if_likely : Grammar → Option Shown → List ℕ → Option (Shown × List ℕ)
-if_likely grammar None rest = None
-if_likely grammar (Some moment) rest = if is_likely grammar moment then Some (moment, rest) else None
+-- a moment, and what stands after its prefix
+abbrev pub followed : List ℕ → Option Shown → Option (Shown × List ℕ)
+followed rest None = None
+followed rest (Some moment) = Some (moment, rest)
 
-abbrev pub prefix_of : Given → Grammar → Answer → Option (Shown × List ℕ)
-prefix_of given grammar (Ok read) = if_likely grammar (moment_of given given.years read.0) read.1
-prefix_of given grammar (Err fault) = None
+-- the moment of a record that was read, whose number of Unix time, if it has one, is likely
+abbrev pub prefix_of : Given → Answer → Option (Shown × List ℕ)
+prefix_of given (Ok read) = if is_likely read.0.unix_timestamp_nanos then followed read.1 (moment_of given given.years read.0) else None
+prefix_of given (Err fault) = None
 
 -- the moment that a prefix of a text names by a source, and what stands after that prefix: what is given takes the place of what the prefix lacks
 --
 -- There is at most one such prefix: each reading takes what it can, and tries no shorter prefix where the longer one names no moment.
 unfoldable pub prefix_named : Given → Grammar → List ℕ → Option (Shown × List ℕ)
-prefix_named given grammar text = if may_begin grammar text then prefix_of given grammar (reading_of grammar empty text) else None
+prefix_named given grammar text = if may_begin grammar text then prefix_of given (reading_of grammar empty text) else None

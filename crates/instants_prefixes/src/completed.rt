@@ -2,7 +2,6 @@
 ghost use Rattle.std.specs.Prelude.{◌≡◌, pos, ◌+ℤ◌, ◌-ℤ◌};
 ghost use Rattle.calendar_count.specs.Range.{IsYear};
 ghost use Rattle.instants_prefixes.specs.Given as Gift;
-ghost use Rattle.instants_prefixes.specs.InRange.{year_in_range, time_in_range};
 
 use crate::given::{Given, Years};
 use calendar::UtcOffset;
@@ -13,9 +12,25 @@ const MINUTES_OF_DAY: u16 = 1440;
 
 const GREATEST_YEAR: i32 = 999_999;
 
-// Whether no part of a time of day was read.
-fn has_no_time(parsed: &Parsed) -> bool
-    ensures { result ≡ Gift.has_no_time parsed.now }
+/// Whether no hour of an offset was read.
+pub fn lacks_offset(parsed: &Parsed) -> bool
+    ensures { result ≡ Gift.lacks_offset parsed.now }
+{
+    parsed.offset_hour().is_none()
+}
+
+/// Whether no year was read: its last two digits alone are none.
+pub fn lacks_year(parsed: &Parsed) -> bool
+    ensures { result ≡ Gift.lacks_year parsed.now }
+{
+    let has_none = parsed.year().is_none() && parsed.year_century().is_none();
+    let has_none_of_weeks = parsed.iso_year().is_none() && parsed.iso_year_century().is_none();
+    has_none && has_none_of_weeks
+}
+
+/// Whether no part of a time of day was read.
+pub fn lacks_time(parsed: &Parsed) -> bool
+    ensures { result ≡ Gift.lacks_time parsed.now }
 {
     let has_no_hour = parsed.hour_24().is_none()
         && parsed.hour_12().is_none()
@@ -26,52 +41,73 @@ fn has_no_time(parsed: &Parsed) -> bool
     has_no_hour && has_no_minute
 }
 
-// Whether no part of a year was read.
-fn has_no_year(parsed: &Parsed) -> bool
-    ensures { result ≡ Gift.has_no_year parsed.now }
-{
-    let has_none = parsed.year().is_none()
-        && parsed.year_century().is_none()
-        && parsed.year_last_two().is_none();
-    let has_none_of_weeks = parsed.iso_year().is_none()
-        && parsed.iso_year_century().is_none()
-        && parsed.iso_year_last_two().is_none();
-    has_none && has_none_of_weeks
-}
-
 // A time of day where none was read; one that no day has is none.
 fn give_time(parsed: &mut Parsed, time: Option<u16>)
-    ensures { parsed.new ≡ Gift.with_time (time_in_range time) parsed.old }
+    ensures { parsed.new ≡ Gift.with_time time parsed.old }
 {
     let Some(minutes) = time else {
         return;
     };
-    if minutes < MINUTES_OF_DAY && has_no_time(parsed) {
+    if lacks_time(parsed) && minutes < MINUTES_OF_DAY {
         parsed.set_hour_24((minutes / 60) as u8);
         parsed.set_minute((minutes % 60) as u8);
     }
 }
 
+// Of the years with these last two digits the one that is nearest to a year, the earlier of two equally near ones.
+fn year_near(year: i32, last_two: u8) -> i32
+    requires { IsYear year }
+    ensures { result ≡ Gift.year_near year last_two }
+{
+    let first = year - 50;
+    first + (i32::from(last_two) - first).rem_euclid(100)
+}
+
+// A year, or the one nearest to it that has the last two digits which were read.
+fn give_near_year(parsed: &mut Parsed, year: i32)
+    requires { IsYear year }
+    ensures { parsed.new
+        ≡ Gift.in_near_year year parsed.old.year_last_two parsed.old.iso_year_last_two parsed.old }
+{
+    let of_weeks = parsed.iso_year_last_two();
+    match parsed.year_last_two() {
+        Some(last_two) => {
+            if of_weeks.is_none() {
+                parsed.set_year(year_near(year, last_two));
+            }
+        }
+        None => match of_weeks {
+            Some(last_two) => {
+                parsed.set_iso_year(year_near(year, last_two));
+            }
+            None => {
+                parsed.set_year(year);
+            }
+        },
+    }
+}
+
 // A year where none was read; one that the calendar does not have is none.
 fn give_year(parsed: &mut Parsed, year: Option<i32>)
-    ensures { parsed.new ≡ Gift.with_year (year_in_range year) parsed.old }
+    ensures { parsed.new ≡ Gift.with_year year parsed.old }
 {
     let Some(year) = year else {
         return;
     };
-    if year >= -GREATEST_YEAR && year <= GREATEST_YEAR && has_no_year(parsed) {
-        parsed.set_year(year);
+    let is_year = year >= -GREATEST_YEAR && year <= GREATEST_YEAR;
+    if lacks_year(parsed) && is_year {
+        give_near_year(parsed, year);
     }
 }
 
 // An offset where no hour of one was read.
 fn give_offset(parsed: &mut Parsed, offset: Option<UtcOffset>)
-    ensures { parsed.new ≡ Gift.with_offset parsed.old.offset_hour offset parsed.old }
+    ensures { parsed.new ≡ Gift.with_offset offset parsed.old }
 {
     let Some(offset) = offset else {
         return;
     };
-    if parsed.offset_hour().is_none() {
+    if lacks_offset(parsed) {
         parsed.set_offset_hour(offset.whole_hours());
         parsed.set_offset_minute_signed(offset.minutes_past_hour());
     }

@@ -17,8 +17,6 @@ use parsing_record::{Node, NodeStep};
 pub(crate) struct Contents {
     /// Unix time.
     pub(crate) has_unix_time: bool,
-    /// An hour of an offset, or Unix time.
-    pub(crate) is_placed: bool,
     /// A part of an offset.
     pub(crate) has_offset_part: bool,
 }
@@ -80,7 +78,6 @@ impl Contents {
     {
         Contents {
             has_unix_time: stands_in_source(source, Kind::UnixTime),
-            is_placed: stands_in_source(source, Kind::Placing),
             has_offset_part: stands_in_source(source, Kind::OffsetPart),
         }
     }

@@ -10,11 +10,12 @@ use crate::ends::Ends;
 use crate::given::Given;
 use crate::lacks::{Lack, lack_of};
 use crate::lengths::{prefix_by_texts, prefix_of};
-use crate::named::{assumed, has_offset, prefix_named};
+use crate::named::{assumed, prefix_named, record_of};
 use crate::prefix::Prefix;
 use crate::ruled_out::rules_out;
 use crate::window::{near, text_for};
 use instants_sources::{Described, Named, Source};
+use parsing_record::Parsed;
 
 /// A source that reads dates inside lines, with what is found of it once.
 #[derive(Drop)]
@@ -39,12 +40,11 @@ fn described<'s, 'a>(source: &'s Source<'a>) -> Option<&'s Described<'a>>
 }
 
 impl<'a> DateSource<'a> {
-    ghost use Rattle.std.specs.Prelude.{◌≡◌, ◌≤◌, ℕ, List, None, Some, length, IfSome};
-    ghost use Rattle.std.specs.Option.{is_none};
+    ghost use Rattle.std.specs.Prelude.{◌≡◌, ◌≤◌, ℕ, List, None, Some, false, length, IfSome};
     ghost use Rattle.instants_prefixes.specs.DateSource.{grammar_in, IsWithin};
     ghost use Rattle.instants_prefixes.specs.Prefix.{prefix_at};
     ghost use Rattle.instants_prefixes.specs.Lacks.{lack};
-    ghost use Rattle.instants_prefixes.specs.Reading.{text_for, prefix_named, has_unix_time};
+    ghost use Rattle.instants_prefixes.specs.Reading.{record_at};
 
     /// The source, with what is found of it.
     pub fn new(source: Source<'a>) -> DateSource<'a>
@@ -65,12 +65,21 @@ impl<'a> DateSource<'a> {
         &self.source
     }
 
-    /// Whether it reads numbers of Unix time.
+    /// Whether it may read numbers of Unix time.
     #[inline(always)]
-    pub fn has_unix_time(&self) -> bool
-        ensures { result ≡ has_unix_time (grammar_in self.now) }
+    pub fn may_read_unix_time(&self) -> bool
+        ensures { result ≡ false → (bytes : List ℕ)
+            → (record_at (grammar_in self.now) bytes).unix_timestamp_nanos ≡ None }
     {
         self.contents.has_unix_time
+    }
+
+    /// The record that the source reads at the start of bytes: an empty one where it reads none.
+    #[tactic(auto, unfolding(crate::specs::Reading::record_at))]
+    pub fn record(&self, bytes: &[u8]) -> Parsed
+        ensures { result ≡ record_at (grammar_in self.now) bytes.now }
+    {
+        record_of(&self.source, text_for(&self.source, bytes))
     }
 
     // The prefix of bytes that the source reads as a date, with what is given where the date lacks it.
@@ -80,7 +89,7 @@ impl<'a> DateSource<'a> {
         ensures within { IfSome result (IsWithin bytes.now) }
     {
         let text = text_for(&self.source, bytes);
-        match prefix_named(&self.source, self.contents, text, given) {
+        match prefix_named(&self.source, text, given) {
             Some((moment, rest)) => Some(prefix_of(&self.source, &self.ends, text, moment, rest)),
             None => None,
         }
@@ -94,7 +103,7 @@ impl<'a> DateSource<'a> {
             (λ prefix. Some prefix ≡ prefix_at given.now (grammar_in self.now) bytes.now) }
         ensures within { IfSome result (IsWithin bytes.now) }
     {
-        if self.contents.has_unix_time || !has_offset(self.contents, given) {
+        if self.contents.has_unix_time {
             return None;
         }
         let described = described(&self.source)?;
@@ -144,16 +153,5 @@ impl<'a> DateSource<'a> {
             (λ _. (bytes : List ℕ) → prefix_at given.now (grammar_in self.now) bytes ≡ None) }
     {
         lack_of(&self.source, given)
-    }
-
-    /// Whether no prefix of bytes names a moment without a part of what is given, so that the date needs it.
-    pub fn needs(&self, bytes: &[u8], without: &Given) -> bool
-        ensures { result
-            ≡ is_none
-            (prefix_named without.now (grammar_in self.now)
-            (text_for (grammar_in self.now) bytes.now)) }
-    {
-        let text = text_for(&self.source, bytes);
-        prefix_named(&self.source, self.contents, text, without).is_none()
     }
 }

@@ -1,6 +1,6 @@
 //! Kinds of components.
 ghost use Rattle.std.specs.Prelude.{◌≡◌};
-ghost use Rattle.instants_prefixes.specs.Kinds.{is_of, is_placing, is_offset_part, is_offset_hour, is_year, is_century, is_last_two, is_month, is_day, is_ordinal, is_week, is_weekday, is_hour, is_saying, is_unix_time};
+ghost use Rattle.instants_prefixes.specs.Kinds.{is_of, is_offset_part, is_offset_hour, is_year, is_century, is_last_two, is_month, is_day, is_ordinal, is_week, is_weekday, is_hour, is_saying, is_unix_time};
 
 use description_items::Component;
 
@@ -11,12 +11,8 @@ pub(crate) enum Kind {
     Saying,
     /// It is Unix time.
     UnixTime,
-    /// It places a moment: it is an offset's hour, or Unix time.
-    Placing,
     /// It is a part of an offset.
     OffsetPart,
-    /// It is Unix time, also by its older form.
-    Unix,
     /// It is the hour of an offset.
     OffsetHour,
     Year,
@@ -36,10 +32,8 @@ pub(crate) fn is_of(kind: Kind, component: Component) -> bool
 {
     match kind {
         Kind::Saying => is_saying(component),
-        Kind::UnixTime => is_unix_time(component),
-        Kind::Placing => is_placing(component.modern()),
+        Kind::UnixTime => is_unix_time(component.modern()),
         Kind::OffsetPart => is_offset_part(component.modern()),
-        Kind::Unix => is_unix_time(component.modern()),
         Kind::OffsetHour => is_offset_hour(component.modern()),
         Kind::Year => is_year(component.modern()),
         Kind::Century => is_century(component.modern()),
@@ -69,12 +63,6 @@ fn is_unix_time(component: Component) -> bool
             | Component::UnixTimestampMicrosecond(_)
             | Component::UnixTimestampNanosecond(_)
     )
-}
-
-fn is_placing(component: Component) -> bool
-    ensures { result ≡ is_placing component }
-{
-    is_offset_hour(component) || is_unix_time(component)
 }
 
 fn is_offset_part(component: Component) -> bool

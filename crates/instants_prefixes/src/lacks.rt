@@ -77,7 +77,7 @@ fn has_offset(source: &Source<'_>, given: &Given) -> bool
 pub(crate) fn lack_of(source: &Source<'_>, given: &Given) -> Option<Lack>
     ensures { result ≡ Lacks.lack given.now (grammar_of source.now) }
 {
-    if stands(source, Kind::Unix) {
+    if stands(source, Kind::UnixTime) {
         return None;
     }
     if !has_year(source, given) {

@@ -17,6 +17,7 @@ mod prefix;
 mod ruled_out;
 mod window;
 
+pub use completed::{lacks_offset, lacks_time, lacks_year};
 pub use date_source::DateSource;
 pub use given::{Given, Years};
 pub use lacks::Lack;
