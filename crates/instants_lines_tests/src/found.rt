@@ -39,9 +39,12 @@ fn told_at_once(finder: &Finder, line: &[u8]) -> Told {
     as_told(Some(Finding::There(date)))
 }
 
-// Where a date of the second source goes on in the line.
+// Where a date of the second source goes on, at the place where the line's date is in doubt.
 fn going_on(finder: &Finder, line: &[u8]) -> Option<(usize, usize)> {
-    let doubted = finder.doubt_of(&NOTHING, line, 1)?;
+    let Some(Finding::Doubtful(place)) = finder.find(&NOTHING, line) else {
+        return None;
+    };
+    let doubted = finder.doubt_of(&NOTHING, line, place, 1)?;
     match doubted.doubt {
         Doubt::After => Some((doubted.start, doubted.end)),
         _ => None,
