@@ -1,34 +1,34 @@
 -- What a line says beside a date, and before it.
-use Rattle.std.specs.Prelude.{ℕ, zero, suc, ◌+◌, ◌-◌, ◌*◌, ◌/◌, ◌%◌, ◌==◌, ◌&&◌, ◌||◌, not, nat_lt, nat_le, min, Bool, false, List, [], ◌∷◌, ◌++◌, length, take, drop, map, filter, get_or, codes, Option, None, Some, if◌then◌else◌, unsigned_abs, ℤ, pos, neg_ℤ}
+use Rattle.std.specs.Prelude.{ℕ, ◌+◌, ◌-◌, ◌*◌, ◌/◌, ◌%◌, ◌==◌, ◌&&◌, ◌||◌, not, nat_lt, nat_le, min, max, Bool, false, List, [], ◌∷◌, ◌++◌, length, take, drop, filter, take_while, count_by, get_or, codes, Option, None, Some, if◌then◌else◌, ℤ, pos, neg_ℤ}
 use Rattle.std.specs.Char.{is_ascii_digit, is_ascii_alphabetic, is_ascii_alphanumeric, is_ascii_uppercase, is_ascii_hexdigit, to_ascii_lowercase}
-use Rattle.std.specs.List.{list_any, prefix_len, suffix_len}
+use Rattle.std.specs.List.{list_any, prefix_len, suffix_len, range_with_len}
 use Rattle.std.specs.Option.{option_or}
 use Rattle.std.specs.Ordering.{int_eq}
 use Rattle.std.specs.Str.Parse.{digits_value}
-use Rattle.base.specs.Bytes.{space, tab, colon, hyphen, left_bracket}
-use Rattle.instants_words.specs.Pieces.{number_said}
-use Rattle.instants_edges.specs.Edge.{is_edge, is_sign, is_parameter, escape, byte_before}
+use Rattle.base.specs.Bytes.{space, colon, hyphen, left_bracket}
+use Rattle.instants_edges.specs.Edge.{is_edge, is_sign, is_one_of, is_parameter, escape, byte_before}
 use Rattle.instants_edges.specs.Text.{comma}
 use Rattle.instants_edges.specs.Words.{begin_so, begun, word, signs, signed, hours, hours_and_minutes, names_of_utc, other_names, halves, clocks}
 
 -- at one of so many places from one on
-unfoldable pub is_any : (ℕ → Bool) → ℕ → ℕ → Bool
-is_any is place zero = false
-is_any is place (suc count) = is place || is_any is (place + 1) count
+abbrev pub is_any : (ℕ → Bool) → ℕ → ℕ → Bool
+is_any is place count = list_any is (range_with_len place count)
 
 -- ---- between a date and a word
 
+-- what stands after a place, as far as is looked
+abbrev pub after : List ℕ → ℕ → List ℕ
+after line place = take 48 (drop place line)
+
 -- a comma and digits at the start
 abbrev pub fraction_length : List ℕ → ℕ
-fraction_length (first ∷ others) = if first == comma && is_ascii_digit (get_or others 0 0) then 1 + prefix_len is_ascii_digit others else 0
-fraction_length [] = 0
+fraction_length bytes = if get_or bytes 0 0 == comma && is_ascii_digit (get_or bytes 1 0) then prefix_len is_ascii_digit (drop 1 bytes) + 1 else 0
 
 -- a control sequence at the start
 abbrev pub sequence_length : List ℕ → ℕ
-sequence_length (first ∷ second ∷ others) =
-    let long = prefix_len is_parameter others in
-    if (first == escape && second == left_bracket) && is_ascii_alphabetic (get_or others long 0) then long + 3 else 0
-sequence_length _ = 0
+sequence_length bytes =
+    let long = prefix_len is_parameter (drop 2 bytes) in
+    if get_or bytes 0 0 == escape && get_or bytes 1 0 == left_bracket && is_ascii_alphabetic (get_or (drop 2 bytes) long 0) then long + 3 else 0
 
 -- what stands after a colour and a fraction
 abbrev pub near : List ℕ → List ℕ
@@ -40,89 +40,88 @@ is_parting byte = nat_lt byte 128 && not (is_ascii_alphanumeric byte) && not (is
 
 -- up to three bytes that part
 abbrev pub gap : List ℕ → ℕ
-gap bytes = min 3 (prefix_len is_parting bytes)
-
--- what stands after them too
-abbrev pub apart : List ℕ → List ℕ
-apart bytes = drop (gap (near bytes)) (near bytes)
+gap bytes = prefix_len is_parting (take 3 bytes)
 
 -- ---- an offset
 
--- an offset lies within fifteen hours of UTC
-abbrev pub within_fifteen_hours : ℤ → Option ℤ
-within_fifteen_hours offset = if nat_lt (unsigned_abs offset) 54000 then Some offset else None
+-- the number that the digits among the first five bytes write
+abbrev pub number : List ℕ → ℕ
+number bytes = digits_value 10 (filter is_ascii_digit (take 5 bytes))
 
--- the seconds of one or two digits of hours, and of two of minutes or none
+-- the seconds of one or two digits of hours, and of two of minutes after them or none
 abbrev pub seconds_in : List ℕ → ℕ
-seconds_in number =
-    let digits = filter is_ascii_digit number in
-    let value = digits_value 10 digits in
-    (if nat_le (length digits) 2 then value * 60 else value / 100 * 60 + value % 100) * 60
+seconds_in bytes = if nat_le (length bytes) 2 then number bytes * 3600 else number bytes / 100 * 3600 + number bytes % 100 * 60
 
 -- a sign is a minus
 abbrev pub is_minus : List ℕ → Bool
 is_minus sign = list_any (λ byte. byte == hyphen || byte == 226 || to_ascii_lowercase byte == 100) sign
 
+-- an offset lies within fifteen hours of UTC
+abbrev pub within_fifteen_hours : Bool → ℕ → Option ℤ
+within_fifteen_hours minus seconds = if nat_lt seconds 54000 then Some (if minus then neg_ℤ (pos seconds) else pos seconds) else None
+
 -- the offset of a sign and a number in one of these forms
 abbrev pub said : List (List ℕ) → List ℕ → Option ℤ
 said numbers bytes =
     let sign = begun signs bytes in
-    let seconds = pos (seconds_in (take (signed numbers bytes - sign) (drop sign bytes))) in
-    if signed numbers bytes == 0 then None else within_fifteen_hours (if is_minus (take sign bytes) then neg_ℤ seconds else seconds)
+    let long = word numbers (drop sign bytes) in
+    if sign == 0 || long == 0 then None else within_fifteen_hours (is_minus (take sign bytes)) (seconds_in (take long (drop sign bytes)))
 
--- hours alone stand directly after a date, or with two digits over a space and a bracket
-abbrev pub said_by_hours : List ℕ → Option ℤ
-said_by_hours bytes =
-    option_or (said hours bytes) (let over = begun (codes " (" ∷ codes " [" ∷ codes " " ∷ []) bytes in if over == 0 then None else said (codes "19" ∷ []) (drop over bytes))
+-- a space and a bracket, or a space
+abbrev pub opening : List ℕ → ℕ
+opening bytes = if not (get_or bytes 0 0 == space) then 0 else if is_one_of (codes "([") (get_or bytes 1 0) then 2 else 1
 
--- the name of a zone with digits after it, or that of UTC alone
+-- an offset stands directly after a date, or two digits of hours over a space and a bracket
+abbrev pub said_directly : List ℕ → Option ℤ
+said_directly bytes = option_or (said (hours_and_minutes ++ hours) bytes) (said (codes "19" ∷ []) (drop (opening bytes) bytes))
+
+-- the letters at the start name a zone, with an offset after them, or UTC alone
 abbrev pub said_by_name : List ℕ → Option ℤ
 said_by_name bytes =
-    let name = begun (names_of_utc ++ other_names) bytes in
-    let after = drop name bytes in
-    if name == 0 then None
-    else option_or (said (hours_and_minutes ++ hours) (drop (begun (codes " " ∷ []) after) after)) (if word names_of_utc bytes == 0 then None else Some (pos 0))
-
--- how far is looked after a date
-abbrev pub reach : ℕ
-reach = 48
+    let long = prefix_len is_ascii_alphabetic bytes in
+    let others = drop long bytes in
+    let offset = if nat_lt 0 long && begun (names_of_utc ++ other_names) bytes == long then said (hours_and_minutes ++ hours) (drop (if get_or others 0 0 == space then 1 else 0) others) else None in
+    option_or offset (if not (word names_of_utc bytes == 0) then Some (pos 0) else None)
 
 -- the offset that stands after a date
 unfoldable pub offset_after : List ℕ → Option ℤ
 offset_after bytes =
-    option_or (said_by_hours (near bytes)) (option_or (said hours_and_minutes (apart bytes)) (said_by_name (apart bytes)))
+    let apart = drop (gap (near bytes)) (near bytes) in
+    option_or (said_directly (near bytes)) (option_or (said hours_and_minutes apart) (said_by_name apart))
 
 -- an offset is said, and another one than the one given
 abbrev pub is_another : Option ℤ → ℤ → Bool
 is_another None given = false
 is_another (Some said) given = not (int_eq said given)
 
--- the name of UTC stands inside of what is read
-abbrev pub has_name_of_utc : List ℕ → ℕ → ℕ → Bool
-has_name_of_utc line start ends =
-    is_any (λ place. is_edge line place && not (word (codes "utc" ∷ codes "gmt" ∷ codes "z" ∷ []) (drop place line) == 0)) start (ends - start)
+-- the names of UTC that are looked for inside of what is read
+abbrev pub inside : List (List ℕ)
+inside = codes "utc" ∷ codes "gmt" ∷ codes "z" ∷ []
 
--- so does a sign with four digits after no word, which is an offset that was read as a year, or a year with a sign
-abbrev pub has_signed_year : List ℕ → ℕ → ℕ → Bool
-has_signed_year line start ends =
-    is_any (λ place. not (is_ascii_alphanumeric (byte_before line place 1)) && begin_so (codes "+9999") (drop place line)) start (ends - start)
+-- a sign and four digits stand here after no word, which is an offset that was read as a year, or a year with a sign, or UTC is named while another offset is given
+abbrev pub is_another_at : List ℕ → ℤ → ℕ → Bool
+is_another_at line given place =
+    let bytes = drop place line in
+    (is_sign (get_or line place 0) && begin_so (codes "9999") (drop 1 bytes) && not (is_ascii_alphanumeric (byte_before line place 1))) ||
+    (not (int_eq given (pos 0)) && not (word inside bytes == 0) && is_edge line place)
 
 -- the line says another offset after a date that is read from a place up to another, or inside of what is read
 unfoldable pub has_another_offset : List ℕ → ℕ → ℕ → ℤ → Bool
 has_another_offset line start ends given =
-    is_another (offset_after (take reach (drop ends line))) given || (has_name_of_utc line start ends && not (int_eq given (pos 0))) || has_signed_year line start ends
+    is_another (offset_after (after line ends)) given || is_any (is_another_at line given) start (ends - start)
 
 -- ---- a time of day
 
+-- one byte or space that may stand before a half of the day, U+00A0 and U+202F among them
+abbrev pub pause : List ℕ → ℕ
+pause bytes = if is_one_of (codes " \t,;") (get_or bytes 0 0) then 1 else begun ((194 ∷ 160 ∷ []) ∷ (226 ∷ 128 ∷ 175 ∷ []) ∷ []) bytes
+
 -- it says a half of the day after a date, directly or over one of these
 unfoldable pub has_half_after : List ℕ → ℕ → Bool
-has_half_after line ends =
-    let after = near (take reach (drop ends line)) in
-    let over = begun (codes " " ∷ (tab ∷ []) ∷ codes "," ∷ codes ";" ∷ (194 ∷ 160 ∷ []) ∷ (226 ∷ 128 ∷ 175 ∷ []) ∷ []) after in
-    not (word halves (drop over after) == 0)
+has_half_after line ends = let bytes = near (after line ends) in not (word halves (drop (pause bytes) bytes) == 0)
 
 abbrev pub is_clock : List ℕ → ℕ → Bool
-is_clock line place = is_edge line place && not (begun clocks (drop place line) == 0)
+is_clock line place = not (begun clocks (drop place line) == 0) && is_edge line place
 
 -- it says a clock within sixteen bytes before a date or after it
 unfoldable pub has_clock_beside : List ℕ → ℕ → ℕ → Bool
@@ -130,41 +129,39 @@ has_clock_beside line begins ends = is_any (is_clock line) (begins - 16) (min be
 
 -- ---- a year
 
--- the year at the start of bytes
-abbrev pub year_here : List ℕ → Option ℕ
-year_here bytes = if is_edge bytes 4 then number_said 1000 2999 4 (take 4 bytes) else None
+-- another year from 1000 to 2999 begins bytes
+abbrev pub is_other_year : ℤ → List ℕ → Bool
+is_other_year year bytes =
+    is_one_of (codes "12") (get_or bytes 0 0) && not (word (codes "9999" ∷ []) bytes == 0) && not (int_eq (pos (number bytes)) year)
 
--- the name of a zone, in capital letters, or an offset between spaces
-abbrev pub zone_word : List ℕ → ℕ
-zone_word bytes =
-    let after = drop 1 bytes in
-    let long = prefix_len is_ascii_uppercase after + signed (hours_and_minutes ++ hours) after in
-    if get_or bytes 0 0 == space && not (long == 0) && get_or after long 0 == space then 1 + long else 0
+-- what stands over one byte, or over the name of a zone in capital letters or an offset, and the spaces round it
+abbrev pub past_zone : List ℕ → List ℕ
+past_zone bytes =
+    let others = drop 1 bytes in
+    let long = max (prefix_len is_ascii_uppercase others) (signed (hours_and_minutes ++ hours) others) in
+    if get_or bytes 0 0 == space && nat_lt 0 long && get_or others long 0 == space then drop (long + 1) others else others
 
--- the years over one byte, over a comma and a space, and over the word of a zone and a byte
-abbrev pub years_after : List ℕ → List (Option ℕ)
-years_after bytes = map (λ far. year_here (drop far bytes)) (1 ∷ begun (codes ", " ∷ []) bytes ∷ (zone_word bytes + 1) ∷ [])
+-- one stands at the start, over one byte, over a zone, or over a comma and a space
+abbrev pub is_year_after : ℤ → List ℕ → Bool
+is_year_after year bytes =
+    list_any (is_other_year year) (bytes ∷ drop 1 bytes ∷ past_zone bytes ∷ []) || (begin_so (codes ", ") bytes && is_other_year year (drop 2 bytes))
 
 -- one byte, or parts, or parts round the word of a weekday
 abbrev pub is_joint : List ℕ → Bool
 is_joint bytes =
-    let after = drop (gap bytes) bytes in
-    let rest = drop (prefix_len is_ascii_alphabetic after) after in
+    let others = drop (gap bytes) bytes in
+    let rest = drop (prefix_len is_ascii_alphabetic others) others in
     length bytes == 1 || (nat_lt 0 (gap bytes) && length rest == gap rest)
 
--- the year so far before a date, over a joint
-abbrev pub year_before : List ℕ → ℕ → ℕ → Option ℕ
-year_before line begins far =
-    if nat_le far begins && is_edge line (begins - far) && is_joint (take (far - 4) (drop (begins - far + 4) line)) then year_here (drop (begins - far) line) else None
-
-abbrev pub differs : ℤ → Option ℕ → Bool
-differs year None = false
-differs year (Some said) = not (int_eq (pos said) year)
+-- one stands so far before a date, over a joint
+abbrev pub is_year_before : List ℕ → ℕ → ℤ → ℕ → Bool
+is_year_before line begins year far =
+    let place = begins - far in
+    nat_le far begins && is_other_year year (drop place line) && is_joint (drop (place + 4) (take begins line)) && is_edge line place
 
 -- it says another year
 unfoldable pub has_another_year : List ℕ → ℕ → ℕ → ℤ → Bool
-has_another_year line begins ends year =
-    list_any (differs year) (years_after (take reach (drop ends line)) ++ map (year_before line begins) (5 ∷ 6 ∷ 7 ∷ 8 ∷ 9 ∷ 10 ∷ 11 ∷ []))
+has_another_year line begins ends year = is_year_after year (after line ends) || is_any (is_year_before line begins year) 5 7
 
 -- ---- a clock before a date
 
@@ -176,19 +173,15 @@ is_of_address byte = is_ascii_hexdigit byte || byte == colon
 abbrev pub is_in_address : List ℕ → ℕ → Bool
 is_in_address line place =
     let before = take place line in
-    nat_lt 1 (length (filter (λ byte. byte == colon) (drop (place - suffix_len is_of_address before) before)))
+    nat_lt 1 (count_by (λ byte. byte == colon) (drop (length before - suffix_len is_of_address before) before))
 
 -- hours, minutes and seconds begin here, and no more of a clock or an address
 abbrev pub begins_seconds : List ℕ → ℕ → Bool
 begins_seconds line place =
-    let after = get_or line (place + 8) 0 in
-    (not (is_ascii_digit (byte_before line place 1)) && begin_so (codes "99:99:99") (drop place line)) &&
-    not (is_ascii_alphanumeric after || after == colon) && not (is_in_address line place)
+    let bytes = drop place line in
+    (begin_so (codes "99:99:99") bytes && not (is_ascii_digit (byte_before line place 1))) &&
+    not (is_ascii_alphanumeric (get_or bytes 8 0) || get_or bytes 8 0 == colon) && not (is_in_address line place)
 
--- the place of the first quotation mark, after which a message stands
-abbrev pub quote_place : List ℕ → ℕ
-quote_place line = prefix_len (λ byte. not (byte == 34)) line
-
--- they do before a place and all quotation marks
+-- they do before a place and all quotation marks, after which a message stands
 unfoldable pub has_clock_before : List ℕ → ℕ → Bool
-has_clock_before line place = let before = min place (quote_place line) in is_any (begins_seconds (take before line)) 0 before
+has_clock_before line place = let before = take_while (λ byte. not (byte == 34)) (take place line) in is_any (begins_seconds before) 0 (length before)

@@ -2,4 +2,5 @@ pub mod Edge
 pub mod Text
 pub mod Words
 pub mod Beside
+pub mod Colons
 pub mod Pieces
