@@ -1,9 +1,8 @@
 pub mod Prefixes
 pub mod Edges
 pub mod Texts
-pub mod Clocks
+pub mod FirstBytes
 pub mod Numbers
+pub mod NoClocks
 pub mod Zones
-pub mod Offsets
-pub mod Near
 pub mod TextPrefixes

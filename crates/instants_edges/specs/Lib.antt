@@ -1,6 +1,6 @@
 pub mod Edge
 pub mod Text
-pub mod Clock
-pub mod Offset
-pub mod Year
+pub mod Words
+pub mod Beside
+pub mod Colons
 pub mod Pieces

@@ -1,6 +1,6 @@
 //! Bytes of a line by their places.
 ghost use Rattle.std.specs.Prelude.{◌≡◌, ◌≤◌, ◌+◌, length, take, drop, get_or};
-ghost use Rattle.std.specs.Char.{is_ascii_digit};
+ghost use Rattle.std.specs.Char.{is_ascii_alphabetic, is_ascii_digit};
 ghost use Rattle.std.specs.List.{prefix_len};
 ghost use Rattle.instants_edges.specs.Edge as Edge;
 
@@ -53,14 +53,26 @@ pub(crate) fn digits_length(bytes: &[u8]) -> usize
         .count()
 }
 
-/// The bytes from a place on.
+/// How many letters stand at the start.
 #[inline(always)]
-#[tactic(auto, using(std::proofs::lemmas::List::take_rest))]
+#[tactic(auto, using(crate::proofs::Prefixes::prefix_count))]
+pub(crate) fn letters_length(bytes: &[u8]) -> usize
+    ensures value { result ≡ prefix_len is_ascii_alphabetic bytes.now }
+    ensures within { result ≤ length bytes.now }
+{
+    bytes
+        .iter()
+        .take_while(|byte| byte.is_ascii_alphabetic())
+        .count()
+}
+
+/// The bytes from a place on, and none past the end.
+#[inline(always)]
+#[tactic(auto, using(std::proofs::lemmas::List::take_rest, std::proofs::lemmas::List::drop_min))]
 pub(crate) fn rest_from(bytes: &[u8], place: usize) -> &[u8]
-    requires { place ≤ length bytes.now }
     ensures { result.now ≡ drop place bytes.now }
 {
-    &bytes[place..]
+    &bytes[place.min(bytes.len())..]
 }
 
 /// So many bytes, or all where there are fewer.

@@ -2,7 +2,7 @@
 ghost use Rattle.std.specs.Prelude.{◌≡◌, ◌<◌, ◌≤◌, ◌==◌, ◌+◌, ℕ, true, false, length, slice_index, get_or};
 ghost use Rattle.std.specs.Int.{bit_at};
 ghost use Rattle.base.specs.Bytes.{colon};
-ghost use Rattle.instants_edges.specs.Clock.{HasNoColon};
+ghost use Rattle.instants_edges.specs.Colons.{HasNoColon};
 
 use std::simd::prelude::*;
 

@@ -1,18 +1,21 @@
 //! What stands beside a date in a line: words, clocks, offsets and years, by the bytes alone.
 #![tactic(auto)]
 
+mod apart;
 mod bytes;
 mod clock;
 mod colons;
 mod digits;
 mod edge;
+mod forms;
 mod offset;
 mod pieces;
 mod text;
+mod words;
 mod year;
 
 pub use bytes::byte_at;
-pub use clock::{has_clock_before, has_clock_beside};
+pub use clock::{has_clock_before, has_clock_beside, has_half_after};
 pub use edge::{is_edge, may_say};
 pub use offset::has_another_offset;
 pub use pieces::{blanks, reach, trimmed_length, zone_length};

@@ -1,229 +1,174 @@
-//! The offset that a line says after a date.
-ghost use Rattle.std.specs.Prelude.{◌≡◌, ◌≤◌, ◌<◌, ◌+◌, ◌*◌, ◌==◌, false, [], ◌∷◌, length, take, drop, get_or, Some, IfSome};
-ghost use Rattle.base.specs.Bytes.{upper_z};
-ghost use Rattle.std.specs.List.{prefix_len};
-ghost use Rattle.std.specs.Option.{option_or};
-ghost use Rattle.instants_words.specs.Pieces.{number_said, clock_seconds, with_sign};
-ghost use Rattle.instants_edges.specs.Edge as Edge;
-ghost use Rattle.instants_edges.specs.Offset as Offset;
+//! The offset that a line says after a date, or inside of it.
+ghost use Rattle.std.specs.Prelude.{◌≡◌, ◌≤◌, ◌<◌, ◌==◌, ◌&&◌, not, IsTrue, codes, length, map, drop, get_or};
+ghost use Rattle.std.specs.Char.{is_ascii_alphanumeric};
+ghost use Rattle.instants_edges.specs.Edge.{byte_before, is_sign};
+ghost use Rattle.instants_edges.specs.Words as Words;
+ghost use Rattle.instants_edges.specs.Beside as Beside;
 
-use crate::bytes::{byte_at, digits_length, first_bytes, rest_from};
-use crate::digits::pair;
-use crate::edge::{ESCAPE, is_edge, is_parameter, is_sign};
+use crate::apart::{after, gap, near};
+use crate::bytes::{byte_at, byte_before, first_bytes, letters_length, rest_from};
+use crate::digits::number;
+use crate::edge::{is_edge, is_sign};
+use crate::forms::{HOURS_AND_MINUTES, NAMES, NAMES_INSIDE, NAMES_OF_UTC, NUMBERS, TWO_DIGITS};
+use crate::words::{begin_so, begun, sign_length, word};
 use calendar::UtcOffset;
 
 // Fifteen hours, which no offset reaches, in seconds.
-const FIFTEEN_HOURS: i32 = 54_000;
+const FIFTEEN_HOURS: u32 = 54_000;
 
-// How far an offset is looked for.
-const OFFSET_REACH: usize = 48;
-
-// The number up to a greatest one that two digits write.
-#[tactic(auto, using(crate::proofs::Numbers::pair_up_to))]
-fn pair_up_to(tens: u8, ones: u8, greatest: u32) -> Option<u32>
-    requires { greatest ≤ 99 }
-    ensures value { result ≡ number_said 0 greatest 2 (tens ∷ ones ∷ []) }
-    ensures bound { IfSome result (λ number. number ≤ greatest) }
+// The seconds of hours, or of hours and minutes.
+fn seconds_in(bytes: &[u8]) -> u32
+    ensures { result ≡ Beside.seconds_in bytes.now }
 {
-    let number = pair(tens, ones)?;
-    if number > greatest {
-        return None;
+    let number = number(bytes);
+    if bytes.len() <= 2 {
+        return number * 3600;
     }
-    Some(number)
+    number / 100 * 3600 + number % 100 * 60
 }
 
-// The offset of hours and minutes after a sign.
-fn with_sign(sign: u8, hours: u32, minutes: u32) -> Option<i32>
-    requires hours { hours ≤ 23 }
-    requires minutes { minutes ≤ 59 }
-    ensures { result
-        ≡ Offset.within_fifteen_hours (with_sign sign (Some (hours * 3600 + minutes * 60))) }
+// Whether a sign is a minus.
+fn is_minus(sign: &[u8]) -> bool
+    ensures { result ≡ Beside.is_minus sign.now }
 {
-    let seconds = (hours * 3600 + minutes * 60) as i32;
+    sign.iter().any(|byte| *byte == b'-' || *byte == 226 || byte.to_ascii_lowercase() == b'd')
+}
+
+// So many seconds as an offset, which lies within fifteen hours of UTC.
+fn within_fifteen_hours(minus: bool, seconds: u32) -> Option<i32>
+    ensures { result ≡ Beside.within_fifteen_hours minus seconds }
+{
     if seconds >= FIFTEEN_HOURS {
         return None;
     }
-    match sign {
-        b'+' => Some(seconds),
-        b'-' => Some(-seconds),
-        _ => None,
-    }
+    let offset = seconds as i32;
+    if minus { Some(-offset) } else { Some(offset) }
 }
 
-// The offset that a sign, two digits of hours and two of minutes write.
-fn clock_offset(sign: u8, h: u8, i: u8, m: u8, n: u8) -> Option<i32>
-    ensures { result
-        ≡ Offset.within_fifteen_hours
-        (with_sign sign
-        (clock_seconds (number_said 0 23 2 (h ∷ i ∷ [])) (number_said 0 59 2 (m ∷ n ∷ [])))) }
+// The offset of a sign and a number in one of these forms.
+fn said(numbers: &[&[u8]], bytes: &[u8]) -> Option<i32>
+    ensures { result ≡ Beside.said (map (λ form. form.now) numbers.now) bytes.now }
 {
-    let Some(hours) = pair_up_to(h, i, 23) else {
+    let sign = sign_length(bytes);
+    if sign == 0 {
         return None;
-    };
-    let Some(minutes) = pair_up_to(m, n, 59) else {
+    }
+    let others = rest_from(bytes, sign);
+    let long = word(numbers, others);
+    if long == 0 {
         return None;
-    };
-    with_sign(sign, hours, minutes)
+    }
+    let seconds = seconds_in(first_bytes(others, long));
+    within_fifteen_hours(is_minus(first_bytes(bytes, sign)), seconds)
 }
 
-// The offset at the start as `+02:00`, where a word ends after it.
-fn by_colon(bytes: &[u8]) -> Option<i32>
-    ensures { result ≡ Offset.by_word 6 bytes.now Offset.with_colon }
-{
-    if bytes.len() < 6 || bytes[3] != b':' {
-        return None;
-    }
-    if !is_edge(bytes, 6) {
-        return None;
-    }
-    clock_offset(bytes[0], bytes[1], bytes[2], bytes[4], bytes[5])
-}
-
-// The offset at the start as `+0200`.
-fn by_digits(bytes: &[u8]) -> Option<i32>
-    ensures { result ≡ Offset.by_word 5 bytes.now Offset.without_colon }
-{
-    if bytes.len() < 5 {
-        return None;
-    }
-    if !is_edge(bytes, 5) {
-        return None;
-    }
-    clock_offset(bytes[0], bytes[1], bytes[2], bytes[3], bytes[4])
-}
-
-// The offset at the start as `+02`.
-fn by_hours(bytes: &[u8]) -> Option<i32>
-    ensures { result ≡ Offset.by_word 3 bytes.now Offset.of_hours }
-{
-    if bytes.len() < 3 {
-        return None;
-    }
-    if !is_edge(bytes, 3) {
-        return None;
-    }
-    clock_offset(bytes[0], bytes[1], bytes[2], b'0', b'0')
-}
-
-// The offset at the start as `UTC` or `GMT`.
-fn by_letters(bytes: &[u8]) -> Option<i32>
-    requires { (get_or bytes.now 0 0 == upper_z) ≡ false }
-    ensures { result ≡ Offset.by_word 3 bytes.now Offset.of_name }
-{
-    if bytes.len() < 3 {
-        return None;
-    }
-    if !is_edge(bytes, 3) {
-        return None;
-    }
-    let word = &bytes[..3];
-    if word == b"UTC".as_slice() || word == b"GMT".as_slice() {
-        Some(0)
-    } else {
-        None
-    }
-}
-
-// The offset at the start as `Z`.
-fn by_z(bytes: &[u8]) -> Option<i32>
-    requires { get_or bytes.now 0 0 ≡ upper_z }
-    ensures { result
-        ≡ option_or (Offset.by_word 3 bytes.now Offset.of_name)
-        (Offset.by_word 1 bytes.now Offset.of_name) }
-{
-    if is_edge(bytes, 1) { Some(0) } else { None }
-}
-
-// The offset at the start.
-fn offset_here(bytes: &[u8]) -> Option<i32>
-    ensures { result ≡ Offset.offset_here bytes.now }
-{
-    match byte_at(bytes, 0) {
-        b'+' | b'-' => match by_colon(bytes) {
-            Some(offset) => Some(offset),
-            None => by_digits(bytes),
-        },
-        b'U' | b'G' => by_letters(bytes),
-        b'Z' => by_z(bytes),
-        _ => None,
-    }
-}
-
-// The length of a comma and digits at the start.
+// The length of a space and a bracket at the start, or of a space.
 #[inline(always)]
-fn fraction_length(bytes: &[u8]) -> usize
-    ensures value { result ≡ Offset.fraction_length bytes.now }
-    ensures within { result ≤ length bytes.now }
+fn opening(bytes: &[u8]) -> usize
+    ensures { result ≡ Beside.opening bytes.now }
 {
-    if byte_at(bytes, 0) != b',' || !byte_at(bytes, 1).is_ascii_digit() {
+    if byte_at(bytes, 0) != b' ' {
         return 0;
     }
-    digits_length(&bytes[1..]) + 1
+    match byte_at(bytes, 1) {
+        b'(' | b'[' => 2,
+        _ => 1,
+    }
 }
 
-// How many parameters of a control sequence stand at the start.
-#[tactic(auto, using(crate::proofs::Prefixes::prefix_count))]
-fn parameters_length(bytes: &[u8]) -> usize
-    ensures value { result ≡ prefix_len Edge.is_parameter bytes.now }
-    ensures within { result ≤ length bytes.now }
+// The offset directly at the start, or two digits of hours over a space and a bracket.
+fn said_directly(bytes: &[u8]) -> Option<i32>
+    ensures { result ≡ Beside.said_directly bytes.now }
 {
-    bytes.iter().take_while(|byte| is_parameter(**byte)).count()
+    said(&NUMBERS, bytes).or_else(|| said(&TWO_DIGITS, rest_from(bytes, opening(bytes))))
 }
 
-// The length of a control sequence at the start.
+// Whether UTC is named at the start. Few bytes begin a name of it, so the names are tried after those alone.
 #[inline(always)]
-fn sequence_length(bytes: &[u8]) -> usize
-    ensures value { result ≡ Offset.sequence_length bytes.now }
-    ensures within { result ≤ length bytes.now }
+#[tactic(auto, using(crate::proofs::FirstBytes::no_utc))]
+fn is_utc(bytes: &[u8]) -> bool
+    ensures { result ≡ not (Words.word Words.names_of_utc bytes.now == 0) }
 {
-    if byte_at(bytes, 0) != ESCAPE || byte_at(bytes, 1) != b'[' {
-        return 0;
-    }
-    let others = &bytes[2..];
-    let long = parameters_length(others);
-    if byte_at(others, long).is_ascii_alphabetic() {
-        long + 3
-    } else {
-        0
-    }
+    matches!(byte_at(bytes, 0).to_ascii_lowercase(), b'u' | b'g' | b'z')
+        && word(&NAMES_OF_UTC, bytes) != 0
 }
 
-// The offset at the start, after a colour and a fraction: directly, or over one space.
+// The offset after the name of a zone, or that of UTC. Few words have an offset after them, so it is looked for first.
+fn said_by_name(bytes: &[u8]) -> Option<i32>
+    ensures { result ≡ Beside.said_by_name bytes.now }
+{
+    let long = letters_length(bytes);
+    let others = rest_from(bytes, long);
+    let past_space = rest_from(others, usize::from(byte_at(others, 0) == b' '));
+    let said = said(&NUMBERS, past_space);
+    if said.is_some() && long > 0 && begun(&NAMES, bytes) == long {
+        return said;
+    }
+    is_utc(bytes).then_some(0)
+}
+
+// The offset after a date.
+#[tactic(auto, unfolding(crate::specs::Beside::offset_after))]
 fn offset_after(bytes: &[u8]) -> Option<i32>
-    ensures { result ≡ Offset.offset_after bytes.now }
+    ensures { result ≡ Beside.offset_after bytes.now }
 {
-    let plain = rest_from(bytes, sequence_length(bytes));
-    let near = rest_from(plain, fraction_length(plain));
-    let first = byte_at(near, 0);
-    if first == b' ' {
-        return offset_here(rest_from(near, 1));
-    }
-    let here = offset_here(near);
-    if here.is_none() && is_sign(first) {
-        by_hours(near)
-    } else {
-        here
-    }
+    let near = near(bytes);
+    let apart = rest_from(near, gap(near));
+    said_directly(near).or_else(|| said(&HOURS_AND_MINUTES, apart).or_else(|| said_by_name(apart)))
 }
 
 // Whether an offset is said, and another one than the one given.
-fn is_another(said: Option<i32>, given: Option<UtcOffset>) -> bool
-    ensures { result ≡ Offset.is_another said given }
+fn is_another(said: Option<i32>, given: UtcOffset) -> bool
+    ensures { result ≡ Beside.is_another said given }
 {
-    match (said, given) {
-        (Some(said), Some(given)) => said != given.whole_seconds(),
-        (Some(_), None) => true,
-        (None, _) => false,
+    match said {
+        Some(said) => said != given.whole_seconds(),
+        None => false,
     }
 }
 
-/// Whether the line says an offset after a date that ends at a place, and another one than the one given. Where none is
-/// given, each is another one.
-#[tactic(auto, unfolding(crate::specs::Offset::has_another_offset))]
-pub fn has_another_offset(line: &[u8], ends: usize, given: Option<UtcOffset>) -> bool
-    requires { ends ≤ length line.now }
-    ensures { result ≡ Offset.has_another_offset line.now ends given }
+// Whether UTC is named at the start, as it is looked for inside of what is read.
+#[inline(always)]
+#[tactic(auto, using(std::proofs::lemmas::Bool::Decides::nat_tests, crate::proofs::FirstBytes::no_utc_inside))]
+fn is_utc_inside(bytes: &[u8]) -> bool
+    ensures value { result ≡ not (Words.word Beside.inside bytes.now == 0) }
+    ensures within { IsTrue result → 0 < length bytes.now }
 {
-    let after = first_bytes(rest_from(line, ends), OFFSET_REACH);
-    is_another(offset_after(after), given)
+    matches!(byte_at(bytes, 0).to_ascii_lowercase(), b'u' | b'g' | b'z')
+        && word(&NAMES_INSIDE, bytes) != 0
+}
+
+// Whether a sign and four digits stand at a place after no word.
+#[inline(always)]
+fn is_signed_year(line: &[u8], place: usize) -> bool
+    ensures { result
+        ≡ (is_sign (get_or line.now place 0)
+        && Words.begin_so (codes "9999") (drop 1 (drop place line.now))
+        && not (is_ascii_alphanumeric (byte_before line.now place 1))) }
+{
+    is_sign(byte_at(line, place))
+        && begin_so(b"9999", rest_from(rest_from(line, place), 1))
+        && !byte_before(line, place, 1).is_ascii_alphanumeric()
+}
+
+// Whether they do, or UTC is named there while another offset is given.
+#[inline(always)]
+fn is_another_at(line: &[u8], given: UtcOffset, place: usize) -> bool
+    ensures { result ≡ Beside.is_another_at line.now given place }
+{
+    is_signed_year(line, place)
+        || (given.whole_seconds() != 0
+            && is_utc_inside(rest_from(line, place))
+            && is_edge(line, place))
+}
+
+/// Whether a line says another offset than the one given, after a date that is read from a place up to another, or inside
+/// of what is read.
+#[tactic(auto, unfolding(crate::specs::Beside::has_another_offset))]
+pub fn has_another_offset(line: &[u8], start: usize, ends: usize, given: UtcOffset) -> bool
+    requires ends { ends ≤ length line.now }
+    ensures { result ≡ Beside.has_another_offset line.now start ends given }
+{
+    is_another(offset_after(after(line, ends)), given)
+        || (start..ends).any(|place| is_another_at(line, given, place))
 }

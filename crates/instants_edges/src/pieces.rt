@@ -1,10 +1,10 @@
 //! Bytes at the start and at the end of a date.
 ghost use Rattle.std.specs.Prelude.{◌≡◌, ◌≤◌, ◌-◌, length, take, drop};
-ghost use Rattle.std.specs.Char.{is_ascii_alphabetic, is_ascii_digit};
-ghost use Rattle.std.specs.List.{prefix_len, suffix_len};
+ghost use Rattle.std.specs.Char.{is_ascii_digit};
+ghost use Rattle.std.specs.List.{suffix_len};
 ghost use Rattle.instants_edges.specs.Pieces as Pieces;
 
-use crate::bytes::{byte_at, byte_before};
+use crate::bytes::{byte_at, byte_before, letters_length};
 use crate::text::is_fraction;
 
 /// The length of the white space at the start.
@@ -25,18 +25,6 @@ pub fn trimmed_length(bytes: &[u8]) -> usize
     ensures within { result ≤ length bytes.now }
 {
     bytes.trim_ascii_end().len()
-}
-
-// How many letters stand at the start.
-#[tactic(auto, using(crate::proofs::Prefixes::prefix_count))]
-fn letters_length(bytes: &[u8]) -> usize
-    ensures value { result ≡ prefix_len is_ascii_alphabetic bytes.now }
-    ensures within { result ≤ length bytes.now }
-{
-    bytes
-        .iter()
-        .take_while(|byte| byte.is_ascii_alphabetic())
-        .count()
 }
 
 /// The length of the word of letters at the start, with the space before it if there is one; 0 where no such word is.

@@ -1,91 +1,98 @@
 //! Years beside a date.
-ghost use Rattle.std.specs.Prelude.{◌≡◌, ◌≤◌, ◌+◌, [], ◌∷◌, length, take, drop, IfSome};
-ghost use Rattle.instants_edges.specs.Year as Year;
+ghost use Rattle.std.specs.Prelude.{◌≡◌, ◌≤◌, length};
+ghost use Rattle.std.specs.Char.{is_ascii_uppercase};
+ghost use Rattle.std.specs.List.{prefix_len};
+ghost use Rattle.instants_edges.specs.Beside as Beside;
 
-use crate::digits::pair;
+use crate::apart::{after, gap};
+use crate::bytes::{byte_at, first_bytes, letters_length, rest_from};
+use crate::digits::number;
 use crate::edge::is_edge;
+use crate::forms::{FOUR_DIGITS, NUMBERS};
+use crate::words::{begin_so, signed, word};
 
-// The year that four digits write.
-#[tactic(auto, using(crate::proofs::Numbers::year_by_pairs))]
-fn year_of(first: u8, second: u8, third: u8, fourth: u8) -> Option<u32>
-    ensures value { result ≡ Year.year_said (first ∷ second ∷ third ∷ fourth ∷ []) }
-    ensures bound { IfSome result (λ year. year ≤ 2999) }
+// Whether another year from 1000 to 2999 begins bytes.
+#[inline(always)]
+fn is_other_year(year: i32, bytes: &[u8]) -> bool
+    ensures { result ≡ Beside.is_other_year year bytes.now }
 {
-    let year = pair(first, second)? * 100 + pair(third, fourth)?;
-    if year < 1000 || year > 2999 {
-        return None;
-    }
-    Some(year)
+    matches!(byte_at(bytes, 0), b'1' | b'2')
+        && word(&FOUR_DIGITS, bytes) != 0
+        && number(bytes) as i32 != year
 }
 
-// The year that four digits from a place on write.
-#[tactic(auto, using(crate::proofs::Numbers::short_year_at))]
-fn year_at(line: &[u8], place: usize) -> Option<u32>
-    requires { place ≤ length line.now + 1 }
-    ensures value { result ≡ Year.year_said (take 4 (drop place line.now)) }
-    ensures bound { IfSome result (λ year. year ≤ 2999) }
-    ensures within { IfSome result (λ year. place + 4 ≤ length line.now) }
+// How many capital letters stand at the start.
+#[tactic(auto, using(crate::proofs::Prefixes::prefix_count))]
+fn capitals_length(bytes: &[u8]) -> usize
+    ensures value { result ≡ prefix_len is_ascii_uppercase bytes.now }
+    ensures within { result ≤ length bytes.now }
 {
-    if place + 4 > line.len() {
-        return None;
-    }
-    year_of(
-        line[place],
-        line[place + 1],
-        line[place + 2],
-        line[place + 3],
-    )
+    bytes
+        .iter()
+        .take_while(|byte| byte.is_ascii_uppercase())
+        .count()
 }
 
-// The year over one byte before a date that begins at a place.
-fn year_before(line: &[u8], begins: usize) -> Option<u32>
+// What stands over one byte, or over a zone and the spaces round it.
+#[tactic(auto, using(std::proofs::lemmas::Bool::Decides::nat_tests))]
+fn past_zone(bytes: &[u8]) -> &[u8]
+    ensures { result.now ≡ Beside.past_zone bytes.now }
+{
+    let others = rest_from(bytes, 1);
+    if byte_at(bytes, 0) != b' ' {
+        return others;
+    }
+    let long = capitals_length(others).max(signed(&NUMBERS, others));
+    if long > 0 && byte_at(others, long) == b' ' {
+        rest_from(others, long + 1)
+    } else {
+        others
+    }
+}
+
+// Whether another year stands after a date.
+#[tactic(auto, using(crate::proofs::Prefixes::passed))]
+fn is_year_after(year: i32, bytes: &[u8]) -> bool
+    ensures { result ≡ Beside.is_year_after year bytes.now }
+{
+    is_other_year(year, bytes)
+        || is_other_year(year, rest_from(bytes, 1))
+        || is_other_year(year, past_zone(bytes))
+        || (begin_so(b", ", bytes) && is_other_year(year, rest_from(bytes, 2)))
+}
+
+// Whether bytes may stand between a year and a date.
+fn is_joint(bytes: &[u8]) -> bool
+    ensures { result ≡ Beside.is_joint bytes.now }
+{
+    let parts = gap(bytes);
+    let others = rest_from(bytes, parts);
+    let rest = rest_from(others, letters_length(others));
+    bytes.len() == 1 || (parts > 0 && rest.len() == gap(rest))
+}
+
+// Whether another year stands so far before a date.
+#[inline(always)]
+#[tactic(auto, using(std::proofs::lemmas::Bool::Decides::nat_tests, crate::proofs::Prefixes::passed))]
+fn is_year_before(line: &[u8], begins: usize, year: i32, far: usize) -> bool
     requires { begins ≤ length line.now }
-    ensures value { result ≡ Year.year_before line.now begins }
-    ensures bound { IfSome result (λ year. year ≤ 2999) }
+    ensures { result ≡ Beside.is_year_before line.now begins year far }
 {
-    if begins < 5 {
-        return None;
+    if far > begins {
+        return false;
     }
-    let year = year_at(line, begins - 5)?;
-    if is_edge(line, begins - 5) && is_edge(line, begins - 1) {
-        Some(year)
-    } else {
-        None
-    }
+    let place = begins - far;
+    is_other_year(year, rest_from(line, place))
+        && is_joint(rest_from(first_bytes(line, begins), place + 4))
+        && is_edge(line, place)
 }
 
-// The year over one byte after a date that ends at a place.
-fn year_after(line: &[u8], ends: usize) -> Option<u32>
-    requires { ends ≤ length line.now }
-    ensures value { result ≡ Year.year_after line.now ends }
-    ensures bound { IfSome result (λ year. year ≤ 2999) }
-{
-    let year = year_at(line, ends + 1)?;
-    if is_edge(line, ends + 1) && is_edge(line, ends + 5) {
-        Some(year)
-    } else {
-        None
-    }
-}
-
-// Whether a year is said, and another one than this.
-fn differs(said: Option<u32>, year: i32) -> bool
-    requires { IfSome said (λ other. other ≤ 2999) }
-    ensures { result ≡ Year.differs said year }
-{
-    match said {
-        Some(said) => said as i32 != year,
-        None => false,
-    }
-}
-
-/// Whether another year, as a word of four digits, stands over one byte before a date or after it, which begins and
-/// ends at these places.
-#[tactic(auto, unfolding(crate::specs::Year::has_another_year))]
+/// Whether a line says another year beside a date that begins and ends at these places.
 pub fn has_another_year(line: &[u8], begins: usize, ends: usize, year: i32) -> bool
     requires begins { begins ≤ length line.now }
     requires ends { ends ≤ length line.now }
-    ensures { result ≡ Year.has_another_year line.now begins ends year }
+    ensures { result ≡ Beside.has_another_year line.now begins ends year }
 {
-    differs(year_before(line, begins), year) || differs(year_after(line, ends), year)
+    is_year_after(year, after(line, ends))
+        || (5..12).any(|far| is_year_before(line, begins, year, far))
 }

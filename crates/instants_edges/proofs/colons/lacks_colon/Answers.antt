@@ -1,6 +1,6 @@
 use Rattle.std.proofs.Common.{◌+◌, refl, arith}
 use Rattle.std.proofs.lemmas.Bool.{not-true}
-use Rattle.instants_edges.proofs.Clocks.{none_among}
+use Rattle.instants_edges.proofs.NoClocks.{none_among}
 use Rattle.instants_edges.proofs.colons.lacks_colon.Goals as goal
 
 pub loop-at-preserved : goal.loop-at-preserved

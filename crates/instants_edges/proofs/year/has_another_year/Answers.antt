@@ -1,18 +1,19 @@
-use Rattle.std.proofs.Common.{◌≡◌, ◌∙◌, true, false, sym, refl, w32}
+use Rattle.std.proofs.Common.{◌≡◌, true, false, rules, tests, refl, w32, to_z, of_z}
 use Rattle.std.proofs.Math.Facts.{to_z-of_z}
-use Rattle.instants_edges.specs.Year.{year_after, differs}
-use Rattle.instants_edges.proofs.Numbers.{other_years}
+use Rattle.std.proofs.lemmas.Iterator.{YieldsList-from_range}
+use Rattle.std.proofs.lemmas.Iterator.Search.{any_from_yields_List}
+use Rattle.instants_edges.specs.Beside.{after, is_year_after, is_year_before, has_another_year}
 use Rattle.instants_edges.proofs.year.has_another_year.Goals as goal
 
-pub returns-then-differs : goal.returns-then-differs
-returns-then-differs c =
-    let says = rw (to_z-of_z {w = w32} c.ranges.year) at c.differs.ensures in
-    let here : differs c.year_before.result c.args.year ≡ true = sym says ∙ c.if-differs.true in
-    rw (other_years c.args.line.now c.args.begins c.args.ends c.args.year c.year_before.result (year_after c.args.line.now c.args.ends) c.year_before.ensures.value refl, here) c.if-differs.true
+pub returns-then-is_year_after : goal.returns-then-is_year_after
+unfolding has_another_year
+returns-then-is_year_after c =
+    let some : is_year_after (to_z w32 (of_z w32 c.args.year)) (after c.args.line.now c.args.ends) ≡ true = cc in
+    rw (rw (to_z-of_z {w = w32} c.ranges.year) at some) c.if-is_year_after.true
 
-pub returns-else-differs : goal.returns-else-differs
-returns-else-differs c =
-    let says = rw (to_z-of_z {w = w32} c.ranges.year) at c.differs.ensures in
-    let here : differs c.year_before.result c.args.year ≡ false = sym says ∙ c.if-differs.false in
-    rw (other_years c.args.line.now c.args.begins c.args.ends c.args.year c.year_before.result c.year_after.result c.year_before.ensures.value c.year_after.ensures.value, here)
-    (rw (to_z-of_z {w = w32} c.ranges.year) at c.differs-else-differs.ensures)
+pub returns-else-is_year_after : goal.returns-else-is_year_after
+unfolding has_another_year
+returns-else-is_year_after c =
+    let none : is_year_after (to_z w32 (of_z w32 c.args.year)) (after c.args.line.now c.args.ends) ≡ false = cc in
+    rw (rw (to_z-of_z {w = w32} c.ranges.year) at none)
+    (rw (to_z-of_z {w = w32} c.ranges.year) at (any_from_yields_List (is_year_before c.args.line.now c.args.begins (to_z w32 (of_z w32 c.args.year))) _ _ c.any.result c.any.ensures.ran (YieldsList-from_range 5 12 7 (cc) refl) (λ x b q k. search (rules, tests))))

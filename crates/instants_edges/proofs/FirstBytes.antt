@@ -1,0 +1,46 @@
+-- Bytes that begin in no form of a list, by their first byte.
+use Rattle.std.proofs.Common.{◌≡◌, ℕ, zero, suc, ◌<◌, ◌==◌, Bool, true, false, ◌&&◌, List, [], ◌∷◌, length, get_or, refl, arith}
+use Rattle.std.specs.Char.{is_ascii_digit, is_ascii_lowercase, to_ascii_lowercase}
+use Rattle.std.proofs.Math.Bool.{and-false}
+use Rattle.std.proofs.lemmas.Bool.Decides.{nat_tests}
+use Rattle.instants_edges.specs.Edge.{is_sign}
+use Rattle.instants_edges.specs.Words.{fits, begin_so, begun, word, signs, names_of_utc, halves, clocks}
+use Rattle.instants_edges.specs.Beside.{inside}
+
+-- a form is no longer than what begins in it
+pub too_short : (form bytes : List ℕ) → length bytes < length form → begin_so form bytes ≡ false
+unfolding begin_so
+too_short [] bytes h = absurd (omega (arith, h))
+too_short (mark ∷ form) [] h = refl
+too_short (mark ∷ form) (byte ∷ bytes) h = rw (too_short form bytes (omega (arith, h))) (and-false (fits mark byte))
+
+-- a byte that is no letter is no other one in small
+pub no_other : (mark byte : ℕ) → is_ascii_lowercase mark ≡ false → (byte == mark) ≡ false → (to_ascii_lowercase byte == mark) ≡ false
+no_other mark byte small other = grind (arith, nat_tests)
+
+pub no_sign : (bytes : List ℕ) → is_sign (get_or bytes 0 0) ≡ false → (get_or bytes 0 0 == 226) ≡ false → (get_or bytes 0 0 == 92) ≡ false → begun signs bytes ≡ 0
+unfolding begun begin_so
+no_sign [] sign minus escape = refl
+no_sign (byte ∷ bytes) sign minus escape = rw (sign, no_other 226 byte refl minus, no_other 92 byte refl escape) refl
+
+pub no_utc : (bytes : List ℕ) → (to_ascii_lowercase (get_or bytes 0 0) == 117) ≡ false → (to_ascii_lowercase (get_or bytes 0 0) == 103) ≡ false → (to_ascii_lowercase (get_or bytes 0 0) == 122) ≡ false
+    → word names_of_utc bytes ≡ 0
+unfolding word begin_so
+no_utc [] u g z = refl
+no_utc (byte ∷ bytes) u g z = rw (u, g, z) refl
+
+pub no_utc_inside : (bytes : List ℕ) → (to_ascii_lowercase (get_or bytes 0 0) == 117) ≡ false → (to_ascii_lowercase (get_or bytes 0 0) == 103) ≡ false → (to_ascii_lowercase (get_or bytes 0 0) == 122) ≡ false
+    → word inside bytes ≡ 0
+unfolding word begin_so
+no_utc_inside [] u g z = refl
+no_utc_inside (byte ∷ bytes) u g z = rw (u, g, z) refl
+
+pub no_half : (bytes : List ℕ) → (to_ascii_lowercase (get_or bytes 0 0) == 97) ≡ false → (to_ascii_lowercase (get_or bytes 0 0) == 112) ≡ false → word halves bytes ≡ 0
+unfolding word begin_so
+no_half [] a p = refl
+no_half (byte ∷ bytes) a p = rw (a, p) refl
+
+pub no_clock : (bytes : List ℕ) → is_ascii_digit (get_or bytes 0 0) ≡ false → begun clocks bytes ≡ 0
+unfolding begun begin_so
+no_clock [] digit = refl
+no_clock (byte ∷ bytes) digit = rw digit refl
