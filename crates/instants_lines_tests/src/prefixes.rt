@@ -50,6 +50,19 @@ static ROWS: [(SourceText, &[u8], Told, Known); 5] = [
     ),
 ];
 
+// Descriptions of strftime, and what each lacks where nothing is given.
+static LACKS: [(&str, Option<Lack>); 9] = [
+    ("%T %z", Some(Lack::Year)),
+    ("%m/%d/%y %T %z", Some(Lack::Year)),
+    ("%Y-%m %T %z", Some(Lack::Day)),
+    ("%Y-W%V-%u %T %z", Some(Lack::Day)),
+    ("%G-%m-%d %T %z", Some(Lack::Day)),
+    ("%F %I:%M:%S %z", Some(Lack::Time)),
+    ("%F %H:%S %z", Some(Lack::Time)),
+    ("%F %T", Some(Lack::Offset)),
+    ("%G-W%V-%u %I:%M %p %z", None),
+];
+
 fn given(offset: Option<UtcOffset>) -> Given {
     Given {
         offset,
@@ -100,6 +113,18 @@ fn prefixes(rt: HostRuntime) {
     for row in &ROWS {
         let (text, bytes, prefix, known) = *row;
         assert!(rt; tell(rt.alloc(), text, bytes) == Some((prefix, known)));
+    }
+}
+
+#[test]
+fn lacks(rt: HostRuntime) {
+    for row in &LACKS {
+        let (text, lack) = *row;
+        let source = Source::new(rt.alloc(), SourceText::Strftime(text));
+        assert!(rt; source.is_ok());
+        if let Ok(source) = source {
+            assert!(rt; DateSource::new(source).lack(&given(None)) == lack);
+        }
     }
 }
 

@@ -1,4 +1,5 @@
-pub mod Commutes
+pub mod Preserves
+pub mod Always
 pub mod Says
 pub mod Spared
 pub mod NamedAlone
@@ -16,5 +17,5 @@ pub mod Planned
 pub mod NoneNamed
 pub mod Windows
 pub mod RuledOut
-pub mod Erased
+pub mod Unread
 pub mod Unnamed

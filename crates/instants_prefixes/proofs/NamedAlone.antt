@@ -9,7 +9,7 @@ use Rattle.parsing_combinator.specs.Fault.{Fault, insufficient}
 use Rattle.parsing_values.specs.declared.date_parts.DateParts.{DateParts}
 use Rattle.parsing_values.specs.declared.date_parts.YearParts.{YearParts}
 use Rattle.parsing_values.specs.NamedDate.{named_date, by_ordinal, by_day, by_iso_week, by_sunday_week, by_monday_week, year_of, split_year}
-use Rattle.parsing_values.specs.NamedTime.{named_time, named_offset, hour_of, half_day_hour}
+use Rattle.parsing_values.specs.NamedTime.{named_time, named_offset, hour_of, half_day_hour, finer_parts}
 use Rattle.parsing_values.specs.NamedMoment.{named_moment, dated_moment, named_wall}
 use Rattle.parsing_components.specs.declared.fields.Record.{Record}
 use Rattle.parsing_record.specs.Parts.{date_parts, time_parts}
@@ -53,6 +53,11 @@ unfolding named_time hour_of half_day_hour
 no_hour r whole (inl hour) leap = rw (whole, hour) refl
 no_hour r whole (inr half) leap =
     elim r.hour_12 as (λ o. r.hour_12 ≡ o → named_time leap (time_parts r) ≡ Err insufficient) [ None ↦ λ e. rw (whole, e) refl | Some hour ↦ λ e. rw (whole, e, half) refl ] refl
+
+-- none of its parts may be absent where a finer one is there
+pub no_finer : (r : Record) → finer_parts r.minute r.second r.subsecond ≡ None → (leap : Bool) → named_time leap (time_parts r) ≡ Err insufficient
+unfolding named_time
+no_finer r none leap = elim (hour_of (time_parts r)) as (λ o. hour_of (time_parts r) ≡ o → named_time leap (time_parts r) ≡ Err insufficient) [ None ↦ λ e. rw e refl | Some hour ↦ λ e. rw (e, none) refl ] refl
 
 no_time : (r : Record) → lacks_time r ≡ true → (leap : Bool) → named_time leap (time_parts r) ≡ Err insufficient
 no_time r e leap =
@@ -112,11 +117,11 @@ has_parts r m unix e =
 
 -- ---- what is given changes nothing that was read
 
-timed : (given : Option ℕ) (r : Record) → lacks_time r ≡ false → with_time given r ≡ r
+pub timed : (given : Option ℕ) (r : Record) → lacks_time r ≡ false → with_time given r ≡ r
 timed None r e = refl
 timed (Some minutes) r e = rw e refl
 
-dated : (given : Option ℤ) (r : Record) → lacks_year r ≡ false → with_year given r ≡ r
+pub dated : (given : Option ℤ) (r : Record) → lacks_year r ≡ false → with_year given r ≡ r
 dated None r e = refl
 dated (Some year) r e = rw e refl
 
@@ -147,9 +152,18 @@ near_kept part year (Some n) None r h = if_same part (is_up_to greatest_year (ye
 near_kept part year None (Some n) r h = if_same part (is_up_to greatest_year (year_near year n)) _ r (h r.year (Some (year_near year n)))
 near_kept part year (Some n) (Some m) r h = refl
 
+near_iso_year : (year : ℤ) (civil : Option ℕ) (r : Record) → (in_near_year year civil None r).iso_year ≡ r.iso_year
+near_iso_year year None r = if_same (λ x. x.iso_year) (is_up_to greatest_year year) _ r refl
+near_iso_year year (Some n) r = if_same (λ x. x.iso_year) (is_up_to greatest_year (year_near year n)) _ r refl
+
 pub kept_year : {A : Type 0} (part : Record → A) (given : Option ℤ) (r : Record) → ((one other : Option ℤ) → part (record r { year = one; iso_year = other }) ≡ part r) → part (with_year given r) ≡ part r
 kept_year part None r h = refl
 kept_year part (Some year) r h = if_same part _ _ r (near_kept part year r.year_last_two r.iso_year_last_two r h)
+
+-- a year of ISO 8601 is given where its last two digits were read
+pub kept_iso_year : (given : Option ℤ) (r : Record) → r.iso_year_last_two ≡ None → (with_year given r).iso_year ≡ r.iso_year
+kept_iso_year None r none = refl
+kept_iso_year (Some year) r none = if_same (λ x. x.iso_year) _ _ r (ap (λ (o : Option ℕ). (in_near_year year r.year_last_two o r).iso_year) none ∙ near_iso_year year r.year_last_two r)
 
 -- what no part that is given touches
 abbrev pub Aside : {A : Type 0} → (Record → A) → Type 0
@@ -198,11 +212,13 @@ each_year given (Near above) r m h = nearest above m _ _ (nearest above m _ _ (h
 none_nearer : (above : Shown) (a b : Option Shown) → a ≡ None → b ≡ None → nearer above a b ≡ None
 none_nearer above a b one other = rw (one, other) refl
 
-pub no_year : (given : Given) (years : Years) (r : Record) → ((year : Option ℤ) → moment_in given year r ≡ None) → moment_of given years r ≡ None
+-- what is named with no year is not named
+pub no_year : (given : Given) (years : Years) (r : Record) → ((year : Option ℤ) → (years ≡ Unknown → year ≡ None) → moment_in given year r ≡ None) → moment_of given years r ≡ None
 unfolding moment_of
-no_year given Unknown r h = h None
-no_year given (In year) r h = h (Some year)
-no_year given (Near above) r h = none_nearer above _ _ (none_nearer above _ _ (h (Some (year_above above -ℤ pos 1))) (h (Some (year_above above)))) (h (Some (year_above above +ℤ pos 1)))
+no_year given Unknown r h = h None (λ e. refl)
+no_year given (In year) r h = h (Some year) (λ e. absurd cc)
+no_year given (Near above) r h =
+    none_nearer above _ _ (none_nearer above _ _ (h (Some (year_above above -ℤ pos 1)) (λ e. absurd cc)) (h (Some (year_above above)) (λ e. absurd cc))) (h (Some (year_above above +ℤ pos 1)) (λ e. absurd cc))
 
 -- what a record names of itself it names with anything given
 pub named_given : (given : Given) (years : Years) (r : Record) (m : Shown) → moment_named r ≡ Ok m → moment_of given years r ≡ Some m

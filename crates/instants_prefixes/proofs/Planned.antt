@@ -4,7 +4,6 @@ use Rattle.std.specs.Prelude.{if◌then◌else◌}
 use Rattle.std.proofs.lemmas.List.{length-take}
 use Rattle.datetime_wall.specs.Wall.{Shown}
 use Rattle.description_items.specs.Modern.{modern}
-use Rattle.parsing_components.specs.declared.fields.Record.{Record}
 use Rattle.parsing_record.specs.Prefix.{NamesPrefix, beginning}
 use Rattle.parsing_record.specs.Record.{empty}
 use Rattle.instants_sources.specs.Grammar.{Described, Written}
@@ -15,26 +14,27 @@ use Rattle.instants_prefixes.specs.DateSource.{IsWithin}
 use Rattle.instants_prefixes.specs.Ends.{LeavesRest}
 use Rattle.instants_prefixes.specs.Prefix.{prefix_at, with_lengths}
 use Rattle.instants_prefixes.specs.Given.{Given}
-use Rattle.instants_prefixes.specs.Kinds.{is_offset_part, is_unix_time}
+use Rattle.instants_prefixes.specs.Kinds.{is_newer}
 use Rattle.instants_prefixes.specs.Lengths.{lengths}
+use Rattle.instants_prefixes.specs.declared.kind.Kind.TheVariants as kind
 use Rattle.instants_prefixes.specs.Reading.{stands_in, prefix_of, prefix_named, text_for}
-use Rattle.instants_prefixes.proofs.Erased.{described_commutes, erased, timeless}
+use Rattle.instants_prefixes.proofs.Unread.{unread, timeless}
 use Rattle.instants_prefixes.proofs.PrefixesAt.{prefix_at_is, named_leaves, within_bytes, prefix_within}
 use Rattle.instants_prefixes.proofs.ReadPrefixes.{named_whatever, named_assumed}
-use Rattle.instants_prefixes.proofs.Spared.{unplaced, placed, can_unplaced_part, can_placed}
+use Rattle.instants_prefixes.proofs.Spared.{Placed, placed_respects, described_preserves}
 
 module _ (given : Given) (written : Written) (bytes text : List ℕ) (near : text ≡ take 256 bytes) where
   text_is : text ≡ text_for (Described written) bytes
   unfolding text_for
   text_is = near
 
-  planned_by : (part : Bool) (assumed : Option ℤ) (rest : List ℕ) (moment : Shown) → stands_in (λ c. is_offset_part (modern c)) (Described written) ≡ part → stands_in (λ c. is_unix_time (modern c)) (Described written) ≡ false → assumed ≡ (if part then None else given.offset) → NamesPrefix (reads_written written) (beginning assumed) text rest moment
+  planned_by : (part : Bool) (assumed : Option ℤ) (rest : List ℕ) (moment : Shown) → stands_in (λ c. is_newer kind.OffsetPart (modern c)) (Described written) ≡ part → stands_in (λ c. is_newer kind.UnixTime (modern c)) (Described written) ≡ false → assumed ≡ (if part then None else given.offset) → NamesPrefix (reads_written written) (beginning assumed) text rest moment
       → prefix_of given (reads_written written empty text) ≡ Some (moment, rest)
   planned_by part None rest moment stands plain is names = named_whatever given (reads_written written) text rest moment (timeless (Described written) plain text) names
   planned_by true (Some offset) rest moment stands plain is names = absurd cc
   planned_by false (Some offset) rest moment stands plain is names =
-      named_assumed given offset (reads_written written) text rest moment (sym is) (λ hour minute. described_commutes (placed hour minute) is_offset_part (can_placed hour minute) written stands)
-      (ap (λ (r : Record). r.offset_hour) (erased unplaced is_offset_part can_unplaced_part refl written stands text)) (timeless (Described written) plain text) names
+      named_assumed given offset (reads_written written) text rest moment (sym is) (λ hour minute. described_preserves (Placed hour minute) (is_newer kind.OffsetPart) (placed_respects hour minute) written stands)
+      (unread kind.OffsetPart refl written stands text) (timeless (Described written) plain text) names
 
   -- what is read where no number of Unix time stands
   pub planned_named : (contents : Contents) (assumed : Option ℤ) (rest : List ℕ) (moment : Shown) → AreContents (Described written) contents → contents.has_unix_time ≡ false → assumed ≡ (if contents.has_offset_part then None else given.offset)

@@ -1,5 +1,5 @@
 -- What sources read from a record without any field, and what it names with what is given.
-use Rattle.std.proofs.Common.{◌≡◌, ℕ, ℤ, pos, false, List, [], ◌∷◌, get_or, Option, Some, None, Ok, Err, refl, sym, ap, ◌∙◌}
+use Rattle.std.proofs.Common.{◌≡◌, ℕ, ℤ, pos, false, List, [], ◌∷◌, get_or, Option, Some, None, Ok, Err, refl, sym, ap, ◌∙◌, subst}
 use Rattle.std.specs.Prelude.{int_div, int_rem, if◌then◌else◌}
 use Rattle.std.specs.Option.{is_none}
 use Rattle.std.specs.Result.{result_ok}
@@ -17,9 +17,9 @@ use Rattle.parsing_record.specs.Whole.{moment_named}
 use Rattle.instants_sources.specs.Grammar.{Rfc3339}
 use Rattle.instants_prefixes.specs.Given.{Given, moment_of, moment_in, with_offset, with_year, with_time}
 use Rattle.instants_prefixes.specs.Reading.{record_of, prefix_of, prefix_named}
-use Rattle.instants_prefixes.proofs.Commutes.{Commutes, changed}
-use Rattle.instants_prefixes.proofs.Erased.{timeless}
-use Rattle.instants_prefixes.proofs.Spared.{placed}
+use Rattle.instants_prefixes.proofs.Preserves.{Related, Preserves}
+use Rattle.instants_prefixes.proofs.Unread.{timeless}
+use Rattle.instants_prefixes.proofs.Spared.{Placed, placed}
 use Rattle.instants_prefixes.proofs.NamedAlone.{names, named_given, each_year, has_parts, complete, kept, kept_year, kept_time, no_offset, without_offset}
 
 -- ---- what a plan finds
@@ -50,19 +50,19 @@ placed_named given offset r moment is none unix e year =
     ∙ ap (λ (x : Record). names (with_offset (Some offset) x)) (complete year given.time r has.date has.time)
     ∙ ap (λ (hour : Option ℤ). names (if is_none hour then there else r)) none ∙ ap result_ok e
 
-assumed_read : (given : Given) (offset : ℤ) (a : Answer) (set : Record) (rest : List ℕ) (moment : Shown) → given.offset ≡ Some offset → (record_of a).offset_hour ≡ None → (record_of a).unix_timestamp_nanos ≡ None → changed (placed (hour_of offset) (minute_of offset)) a ≡ Ok (set, rest) → moment_named set ≡ Ok moment
+assumed_read : (given : Given) (offset : ℤ) (a : Answer) (set : Record) (rest : List ℕ) (moment : Shown) → given.offset ≡ Some offset → (record_of a).offset_hour ≡ None → (record_of a).unix_timestamp_nanos ≡ None → Related (Placed (hour_of offset) (minute_of offset)) (Ok (set, rest)) a → moment_named set ≡ Ok moment
     → prefix_of given a ≡ Some (moment, rest)
-assumed_read given offset (Ok read) set rest moment is none unix e named =
-    let pair : ◌≡◌ {A = Record × List ℕ} (placed (hour_of offset) (minute_of offset) read.0, read.1) (set, rest) = cc in
-    let there : moment_named (placed (hour_of offset) (minute_of offset) read.0) ≡ Ok moment = ap (λ (x : Record × List ℕ). moment_named x.0) pair ∙ named in
-    by_record given (Ok read) read.0 rest moment (ap (λ (x : Record × List ℕ). Ok (read.0, x.1)) pair) unix (each_year given given.years read.0 moment (placed_named given offset read.0 moment is none unix there))
-assumed_read given offset (Err f) set rest moment is none unix e named = absurd cc
+assumed_read given offset (Ok read) set rest moment is none unix both named =
+    by_record given (Ok read) read.0 rest moment (ap (λ left. Ok (read.0, left)) (sym both.1)) unix
+    (each_year given given.years read.0 moment (placed_named given offset read.0 moment is none unix (ap moment_named (sym both.0) ∙ named)))
+assumed_read given offset (Err f) set rest moment is none unix both named = absurd both
 
 -- a prefix that names a moment from a record with an offset names it with that offset given
-pub named_assumed : (given : Given) (offset : ℤ) (m : Meaning) (text rest : List ℕ) (moment : Shown) → given.offset ≡ Some offset → ((hour minute : ℤ) → Commutes (placed hour minute) m) → (record_of (m empty text)).offset_hour ≡ None → (record_of (m empty text)).unix_timestamp_nanos ≡ None
+pub named_assumed : (given : Given) (offset : ℤ) (m : Meaning) (text rest : List ℕ) (moment : Shown) → given.offset ≡ Some offset → ((hour minute : ℤ) → Preserves (Placed hour minute) m) → (record_of (m empty text)).offset_hour ≡ None → (record_of (m empty text)).unix_timestamp_nanos ≡ None
     → NamesPrefix m (beginning (Some offset)) text rest moment → prefix_of given (m empty text) ≡ Some (moment, rest)
 named_assumed given offset m text rest moment is spares none unix prefix =
-    assumed_read given offset (m empty text) prefix.set rest moment is none unix (sym (spares (hour_of offset) (minute_of offset) empty text) ∙ prefix.reads) prefix.names
+    let P : Answer → Type 0 = λ a. Related (Placed (hour_of offset) (minute_of offset)) a (m empty text) in
+    assumed_read given offset (m empty text) prefix.set rest moment is none unix (subst P prefix.reads (spares (hour_of offset) (minute_of offset) (beginning (Some offset)) empty text refl)) prefix.names
 
 -- ---- without an offset
 

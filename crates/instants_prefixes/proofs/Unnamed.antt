@@ -1,186 +1,293 @@
 -- A source that lacks a part names nothing.
 use Rattle.std.proofs.Common.{◌≡◌, ◌&&◌, ◌||◌, ◌⊎◌, inl, inr, ℕ, ℤ, Bool, true, false, not, List, Option, Some, None, Ok, Err, refl, sym, ap, ◌∙◌, subst}
-use Rattle.std.specs.Prelude.{if◌then◌else◌}
-use Rattle.std.specs.Option.{is_none}
+use Rattle.std.specs.Prelude.{is_some, if◌then◌else◌}
 use Rattle.description_items.specs.declared.component.Component.{Component}
+use Rattle.description_items.specs.Modern.{modern}
 use Rattle.parsing_combinator.specs.Fault.{insufficient}
 use Rattle.parsing_values.specs.declared.date_parts.DateParts.{DateParts}
 use Rattle.parsing_values.specs.NamedDate.{named_date, by_ordinal, by_day, by_iso_week, by_sunday_week, by_monday_week, year_of}
-use Rattle.parsing_values.specs.NamedTime.{named_time}
+use Rattle.parsing_values.specs.NamedTime.{named_time, finer_parts}
 use Rattle.parsing_record.specs.Meaning.{Answer}
 use Rattle.parsing_record.specs.Parts.{date_parts, time_parts}
 use Rattle.parsing_components.specs.declared.fields.Record.{Record}
 use Rattle.parsing_record.specs.Record.{empty}
-use Rattle.instants_sources.specs.Grammar.{Grammar}
-use Rattle.instants_sources.specs.Reading.{reading_of}
-use Rattle.instants_prefixes.specs.Given.{Given, Years, Unknown, In, Near, moment_of, moment_in, with_time, with_year, completed}
-use Rattle.instants_prefixes.specs.Lacks.{Lack, Century, Year, Day, Hour, Offset, stands, is_known, has_year, has_day, has_hour, has_offset, lack}
-use Rattle.instants_prefixes.specs.Kinds.{is_year, is_century, is_last_two, is_month, is_day, is_ordinal, is_week, is_weekday, is_hour, is_offset_hour, is_unix_time}
-use Rattle.instants_prefixes.specs.Reading.{may_begin, prefix_named, prefix_of, followed, is_likely, record_of}
-use Rattle.instants_prefixes.proofs.Commutes.{neither_left, neither_right}
-use Rattle.instants_prefixes.proofs.Erased.{unread, year_erased, century_erased, last_two_erased, month_erased, day_erased, ordinal_erased, week_erased, weekday_erased, hour_erased}
-use Rattle.instants_prefixes.proofs.Spared.{Erases, can_untimed, can_unplaced}
-use Rattle.instants_prefixes.proofs.NamedAlone.{names, no_year, yearless, no_years, no_hour, without_date, without_time, kept, kept_offset, kept_year, kept_time}
+use Rattle.instants_sources.specs.Grammar.{Grammar, Described, Rfc2822, Rfc3339, Iso8601, Written}
+use Rattle.instants_sources.specs.Written.{reads_written}
+use Rattle.instants_prefixes.specs.Given.{Given, Years, Unknown, In, Near, lacks_year, moment_of, with_time, with_year, completed}
+use Rattle.instants_prefixes.specs.Lacks.{Lack, Year, Day, Time, Offset, may, always, is_known, takes_year, has_year, has_iso_year, has_day, has_date, has_hour, has_gap, has_time, has_offset, lack}
+use Rattle.instants_prefixes.specs.Kinds.{is_newer}
+use Rattle.instants_prefixes.specs.Reading.{written_has, prefix_named, prefix_of, followed, is_likely, record_of}
+use Rattle.instants_prefixes.specs.declared.kind.Kind.{Kind}
+use Rattle.instants_prefixes.specs.declared.kind.Kind.TheVariants as kind
+use Rattle.instants_prefixes.proofs.Always.{Makes, Sets, always_makes, year_sets, time_sets, second_sets, subsecond_sets}
+use Rattle.instants_prefixes.proofs.Preserves.{neither_left, neither_right}
+use Rattle.instants_prefixes.proofs.Unread.{IsUnread, unread}
+use Rattle.instants_prefixes.proofs.NamedAlone.{no_year, yearless, no_hour, no_finer, without_date, without_time, kept, kept_offset, kept_year, kept_time, kept_iso_year, dated, timed}
 use Rattle.instants_prefixes.proofs.NoneNamed.{where_so}
 use Rattle.instants_prefixes.proofs.ReadPrefixes.{unplaced_in}
 
--- ---- dates
+-- ---- tests
 
 lost_both : (a b : Bool) → (a && b) ≡ false → (a ≡ false) ⊎ (b ≡ false)
 lost_both true b e = inr e
 lost_both false b e = inl refl
+
+either : (a b : Bool) → (a || b) ≡ true → (a ≡ true) ⊎ (b ≡ true)
+either true b e = inl refl
+either false b e = inr e
+
+both : (a b : Bool) → (a && b) ≡ true → (a ≡ true) × (b ≡ true)
+both true b e = (refl, e)
+both false b e = absurd cc
+
+turned : (b : Bool) → not b ≡ false → b ≡ true
+turned true e = refl
+turned false e = absurd cc
+
+turned_back : (b : Bool) → not b ≡ true → b ≡ false
+turned_back true e = absurd cc
+turned_back false e = refl
+
+none_of : {A : Type 0} (o : Option A) → is_some o ≡ false → o ≡ None
+none_of None e = refl
+none_of (Some x) e = absurd cc
+
+-- ---- dates
 
 -- what holds where nothing is there and where something is
 either_way : {A : Type 0} {P : Type 0} (o : Option A) → (o ≡ None → P) → ((x : A) → o ≡ Some x → P) → P
 either_way None none some = none refl
 either_way (Some x) none some = some x refl
 
-by_no_ordinal : (p : DateParts) → p.ordinal ≡ None → by_ordinal p ≡ None
-unfolding by_ordinal
-by_no_ordinal p e = either_way (year_of p.year) (λ y. rw y refl) (λ year y. rw (y, e) refl)
-
-by_no_day : (p : DateParts) → (p.month ≡ None) ⊎ (p.day ≡ None) → by_day p ≡ None
-unfolding by_day
-by_no_day p (inl month) = either_way (year_of p.year) (λ y. rw y refl) (λ year y. rw (y, month) refl)
-by_no_day p (inr day) = either_way (year_of p.year) (λ y. rw y refl) (λ year y. either_way p.month (λ m. rw (y, m) refl) (λ month m. rw (y, m, day) refl))
-
--- no week, or no weekday
-abbrev HasNoWeek : DateParts → Type 0
-HasNoWeek p = ((p.iso_week ≡ None) × (p.sunday_week ≡ None) × (p.monday_week ≡ None)) ⊎ (p.weekday ≡ None)
-
-by_no_iso : (p : DateParts) → HasNoWeek p → by_iso_week p ≡ None
-unfolding by_iso_week
-by_no_iso p (inl week) = either_way (year_of p.iso_year) (λ y. rw y refl) (λ year y. rw (y, week.0) refl)
-by_no_iso p (inr day) = either_way (year_of p.iso_year) (λ y. rw y refl) (λ year y. either_way p.iso_week (λ w. rw (y, w) refl) (λ week w. rw (y, w, day) refl))
-
-by_no_sunday : (p : DateParts) → HasNoWeek p → by_sunday_week p ≡ None
-unfolding by_sunday_week
-by_no_sunday p (inl week) = either_way (year_of p.year) (λ y. rw y refl) (λ year y. rw (y, week.1) refl)
-by_no_sunday p (inr day) = either_way (year_of p.year) (λ y. rw y refl) (λ year y. either_way p.sunday_week (λ w. rw (y, w) refl) (λ week w. rw (y, w, day) refl))
-
-by_no_monday : (p : DateParts) → HasNoWeek p → by_monday_week p ≡ None
-unfolding by_monday_week
-by_no_monday p (inl week) = either_way (year_of p.year) (λ y. rw y refl) (λ year y. rw (y, week.2) refl)
-by_no_monday p (inr day) = either_way (year_of p.year) (λ y. rw y refl) (λ year y. either_way p.monday_week (λ w. rw (y, w) refl) (λ week w. rw (y, w, day) refl))
-
 -- no day of a year
 abbrev HasNoDay : DateParts → Type 0
-HasNoDay p = (p.ordinal ≡ None) × ((p.month ≡ None) ⊎ (p.day ≡ None)) × HasNoWeek p
+HasNoDay p = (p.ordinal ≡ None) × ((p.month ≡ None) ⊎ (p.day ≡ None)) × (((p.sunday_week ≡ None) × (p.monday_week ≡ None)) ⊎ (p.weekday ≡ None))
 
-no_days : (p : DateParts) → HasNoDay p → named_date p ≡ Err insufficient
+-- no day of a year of ISO 8601's weeks
+abbrev HasNoWeek : DateParts → Type 0
+HasNoWeek p = (p.iso_week ≡ None) ⊎ (p.weekday ≡ None)
+
+by_no_ordinal : (p : DateParts) → (year_of p.year ≡ None) ⊎ HasNoDay p → by_ordinal p ≡ None
+unfolding by_ordinal
+by_no_ordinal p (inl none) = rw none refl
+by_no_ordinal p (inr (ordinal, day, week)) = either_way (year_of p.year) (λ y. rw y refl) (λ year y. rw (y, ordinal) refl)
+
+by_no_day : (p : DateParts) → (year_of p.year ≡ None) ⊎ HasNoDay p → by_day p ≡ None
+unfolding by_day
+by_no_day p (inl none) = rw none refl
+by_no_day p (inr (ordinal, inl month, week)) = either_way (year_of p.year) (λ y. rw y refl) (λ year y. rw (y, month) refl)
+by_no_day p (inr (ordinal, inr day, week)) = either_way (year_of p.year) (λ y. rw y refl) (λ year y. either_way p.month (λ m. rw (y, m) refl) (λ month m. rw (y, m, day) refl))
+
+by_no_sunday : (p : DateParts) → (year_of p.year ≡ None) ⊎ HasNoDay p → by_sunday_week p ≡ None
+unfolding by_sunday_week
+by_no_sunday p (inl none) = rw none refl
+by_no_sunday p (inr (ordinal, day, inl week)) = either_way (year_of p.year) (λ y. rw y refl) (λ year y. rw (y, week.0) refl)
+by_no_sunday p (inr (ordinal, day, inr weekday)) = either_way (year_of p.year) (λ y. rw y refl) (λ year y. either_way p.sunday_week (λ w. rw (y, w) refl) (λ week w. rw (y, w, weekday) refl))
+
+by_no_monday : (p : DateParts) → (year_of p.year ≡ None) ⊎ HasNoDay p → by_monday_week p ≡ None
+unfolding by_monday_week
+by_no_monday p (inl none) = rw none refl
+by_no_monday p (inr (ordinal, day, inl week)) = either_way (year_of p.year) (λ y. rw y refl) (λ year y. rw (y, week.1) refl)
+by_no_monday p (inr (ordinal, day, inr weekday)) = either_way (year_of p.year) (λ y. rw y refl) (λ year y. either_way p.monday_week (λ w. rw (y, w) refl) (λ week w. rw (y, w, weekday) refl))
+
+by_no_iso : (p : DateParts) → (year_of p.iso_year ≡ None) ⊎ HasNoWeek p → by_iso_week p ≡ None
+unfolding by_iso_week
+by_no_iso p (inl none) = rw none refl
+by_no_iso p (inr (inl week)) = either_way (year_of p.iso_year) (λ y. rw y refl) (λ year y. rw (y, week) refl)
+by_no_iso p (inr (inr weekday)) = either_way (year_of p.iso_year) (λ y. rw y refl) (λ year y. either_way p.iso_week (λ w. rw (y, w) refl) (λ week w. rw (y, w, weekday) refl))
+
+no_date : (p : DateParts) → (year_of p.year ≡ None) ⊎ HasNoDay p → (year_of p.iso_year ≡ None) ⊎ HasNoWeek p → named_date p ≡ Err insufficient
 unfolding named_date
-no_days p (ordinal, day, week) = rw (by_no_ordinal p ordinal, by_no_day p day, by_no_iso p week, by_no_sunday p week, by_no_monday p week) refl
-
--- ---- what a record without Unix time lacks
-
-timeless : (offset year : Option ℤ) (time : Option ℕ) (r : Record) → r.unix_timestamp_nanos ≡ None → (completed offset year time r).unix_timestamp_nanos ≡ None
-timeless offset year time r unix = kept (λ x. x.unix_timestamp_nanos) (λ _ _ _ _ _ _ _. refl) offset year time r ∙ unix
+no_date p day week = rw (by_no_ordinal p day, by_no_day p day, by_no_iso p week, by_no_sunday p day, by_no_monday p day) refl
 
 -- the parts of a date but its year
 abbrev days : Record → DateParts
 days r = date_parts (record r { year = None; iso_year = None })
 
-day_unread : (given : Given) (r : Record) → r.unix_timestamp_nanos ≡ None → HasNoDay (days r) → (year : Option ℤ) → moment_in given year r ≡ None
-day_unread given r unix none year =
-    let whole = completed given.offset year given.time r in
-    let P : DateParts → Type 0 = λ p. HasNoDay p in
-    without_date whole insufficient (timeless given.offset year given.time r unix) (no_days (date_parts whole) (subst P (sym (kept days (λ _ _ _ _ _ _ _. refl) given.offset year given.time r)) none))
+-- ---- times of day
 
-year_unread : (given : Given) (r : Record) → r.unix_timestamp_nanos ≡ None → year_of (date_parts r).year ≡ None → year_of (date_parts r).iso_year ≡ None → moment_in given None r ≡ None
-year_unread given r unix year iso =
-    let same = kept_offset date_parts given.offset (with_time given.time r) (λ a b. refl) ∙ kept_time date_parts given.time r (λ a b. refl) in
-    without_date (completed given.offset None given.time r) insufficient (timeless given.offset None given.time r unix) (ap named_date same ∙ no_years (date_parts r) year iso)
+-- seconds without minutes, and a fraction without seconds
+no_minute : (second fraction : Option ℕ) → is_some second ≡ true → finer_parts None second fraction ≡ None
+unfolding finer_parts
+no_minute None fraction e = absurd cc
+no_minute (Some n) fraction e = refl
 
-hour_unread : (given : Given) (r : Record) → r.unix_timestamp_nanos ≡ None → r.hour_24 ≡ None → r.hour_12 ≡ None → given.time ≡ None → (year : Option ℤ) → moment_in given year r ≡ None
-hour_unread given r unix whole half none year =
-    let same = kept_offset time_parts given.offset (with_year year r) (λ a b. refl) ∙ kept_year time_parts year r (λ a b. refl) in
-    ap (λ (time : Option ℕ). names (completed given.offset year time r)) none
-    ∙ without_time (completed given.offset year None r) insufficient (timeless given.offset year None r unix) (λ leap. ap (named_time leap) same ∙ no_hour r whole (inl half) leap)
+no_second : (minute fraction : Option ℕ) → is_some fraction ≡ true → finer_parts minute None fraction ≡ None
+unfolding finer_parts
+no_second minute None e = absurd cc
+no_second None (Some n) e = refl
+no_second (Some m) (Some n) e = refl
 
--- ---- what a source lacks
+-- ---- what a description lacks
 
-lacks_one : (unix year day hour offset : Bool) (which what : Lack) → (if◌then◌else◌ {A = Option Lack} unix None (if not year then Some which else if not day then Some Day else if not hour then Some Hour else if not offset then Some Offset else None)) ≡ Some what
-    → (unix ≡ false) × ((year ≡ false) ⊎ ((day ≡ false) ⊎ ((hour ≡ false) ⊎ (offset ≡ false))))
-lacks_one true year day hour offset which what e = absurd cc
-lacks_one false false day hour offset which what e = (refl, inl refl)
-lacks_one false true false hour offset which what e = (refl, inr (inl refl))
-lacks_one false true true false offset which what e = (refl, inr (inr (inl refl)))
-lacks_one false true true true false which what e = (refl, inr (inr (inr refl)))
-lacks_one false true true true true which what e = absurd cc
-
--- what a source reads names nothing
-read_none : (given : Given) (a : Answer) → moment_of given given.years (record_of a) ≡ None → prefix_of given a ≡ None
-read_none given (Ok read) none = where_so (is_likely read.0.unix_timestamp_nanos) _ (λ _. ap (followed read.1) none)
-read_none given (Err f) none = refl
+-- what a description says of each record that it reads
+record Reads (written : Written) (r : Record) : Type 1 where
+  lacks : (k : Kind) → IsUnread k empty → written_has true (λ c. is_newer k (modern c)) written ≡ false → IsUnread k r
+  makes : (S : Record → Type 0) (kind : Component → Bool) → Sets S kind → written_has false (λ c. kind (modern c)) written ≡ true → S r
 
 unknown : (years : Years) → is_known years ≡ false → years ≡ Unknown
 unknown Unknown e = refl
 unknown (In year) e = absurd cc
 unknown (Near above) e = absurd cc
 
-not_some : {A : Type 0} (o : Option A) → not (is_none o) ≡ false → o ≡ None
-not_some None e = refl
-not_some (Some x) e = absurd cc
-
--- the parts that none of a kind touches are as if taken away
-abbrev LacksUnread : Grammar → Record → Type 0
-LacksUnread grammar r = (u : Record → Record) (kind : Component → Bool) → Erases u kind → u empty ≡ empty → stands kind grammar ≡ false → r ≡ u r
-
-module _ (given : Given) (grammar : Grammar) (r : Record) (so : LacksUnread grammar r) (plain : stands is_unix_time grammar ≡ false) where
+module _ (given : Given) (written : Written) (r : Record) (reads : Reads written r) (plain : may kind.UnixTime written ≡ false) where
   unix : r.unix_timestamp_nanos ≡ None
-  unix = ap (λ (x : Record). x.unix_timestamp_nanos) (so _ _ can_untimed refl plain)
+  unix = reads.lacks kind.UnixTime refl plain
 
-  without_years : has_year given grammar ≡ false → moment_of given given.years r ≡ None
-  unfolding moment_of
-  without_years lacking =
-      let parts = neither_left (stands is_year grammar || (stands is_century grammar && stands is_last_two grammar)) (is_known given.years) lacking in
-      let none_known = unknown given.years (neither_right (stands is_year grammar || (stands is_century grammar && stands is_last_two grammar)) (is_known given.years) lacking) in
-      let year = so _ _ year_erased refl (neither_left (stands is_year grammar) (stands is_century grammar && stands is_last_two grammar) parts) in
-      let split = lost_both (stands is_century grammar) (stands is_last_two grammar) (neither_right (stands is_year grammar) (stands is_century grammar && stands is_last_two grammar) parts) in
-      let civil : (r.year_century ≡ None) ⊎ (r.year_last_two ≡ None) =
-      elim split [ inl c ↦ inl (ap (λ (x : Record). x.year_century) (so _ _ century_erased refl c)) | inr l ↦ inr (ap (λ (x : Record). x.year_last_two) (so _ _ last_two_erased refl l)) ] in
-      let week : (r.iso_year_century ≡ None) ⊎ (r.iso_year_last_two ≡ None) =
-      elim split [ inl c ↦ inl (ap (λ (x : Record). x.iso_year_century) (so _ _ century_erased refl c)) | inr l ↦ inr (ap (λ (x : Record). x.iso_year_last_two) (so _ _ last_two_erased refl l)) ] in
-      ap (λ years. moment_of given years r) none_known
-      ∙ year_unread given r unix (yearless (date_parts r).year (ap (λ (x : Record). x.year) year) civil) (yearless (date_parts r).iso_year (ap (λ (x : Record). x.iso_year) year) week)
+  still : (year : Option ℤ) → (completed given.offset year given.time r).unix_timestamp_nanos ≡ None
+  still year = kept (λ x. x.unix_timestamp_nanos) (λ _ _ _ _ _ _ _. refl) given.offset year given.time r ∙ unix
 
-  without_days : has_day grammar ≡ false → moment_of given given.years r ≡ None
-  without_days lacking =
-      let prefix = neither_left ((stands is_month grammar && stands is_day grammar) || stands is_ordinal grammar) (stands is_week grammar && stands is_weekday grammar) lacking in
-      let weeks = lost_both (stands is_week grammar) (stands is_weekday grammar) (neither_right ((stands is_month grammar && stands is_day grammar) || stands is_ordinal grammar) (stands is_week grammar && stands is_weekday grammar) lacking) in
-      let dates = lost_both (stands is_month grammar) (stands is_day grammar) (neither_left (stands is_month grammar && stands is_day grammar) (stands is_ordinal grammar) prefix) in
-      let ordinal = ap (λ (x : Record). x.ordinal) (so _ _ ordinal_erased refl (neither_right (stands is_month grammar && stands is_day grammar) (stands is_ordinal grammar) prefix)) in
-      let day : (r.month ≡ None) ⊎ (r.day ≡ None) = elim dates [ inl m ↦ inl (ap (λ (x : Record). x.month) (so _ _ month_erased refl m)) | inr d ↦ inr (ap (λ (x : Record). x.day) (so _ _ day_erased refl d)) ] in
-      let week : HasNoWeek (date_parts r) =
-      elim weeks [
-        | inl w ↦ let same = so _ _ week_erased refl w in inl (ap (λ (x : Record). x.iso_week_number) same, ap (λ (x : Record). x.sunday_week_number) same, ap (λ (x : Record). x.monday_week_number) same)
-        | inr d ↦ inr (ap (λ (x : Record). x.weekday) (so _ _ weekday_erased refl d))
+  -- no year is given where nobody gives one, or where one was read
+  year_same : takes_year given written ≡ false → (year : Option ℤ) → (given.years ≡ Unknown → year ≡ None) → date_parts (completed given.offset year given.time r) ≡ date_parts r
+  year_same e year known =
+      let whole = with_time given.time r in
+      let same : with_year year whole ≡ whole =
+      elim (lost_both (is_known given.years) (not (always kind.YearPart written)) e) [
+        | inl none ↦ ap (λ (y : Option ℤ). with_year y whole) (known (unknown given.years none))
+        | inr part ↦ dated year whole (kept_time lacks_year given.time r (λ a b. refl) ∙ reads.makes _ _ year_sets (turned (always kind.YearPart written) part))
       ] in
-      no_year given given.years r (day_unread given r unix (ordinal, day, week))
+      kept_offset date_parts given.offset (with_year year whole) (λ a b. refl) ∙ ap date_parts same ∙ kept_time date_parts given.time r (λ a b. refl)
 
-  without_hours : has_hour given grammar ≡ false → moment_of given given.years r ≡ None
-  without_hours lacking =
-      let hour = so _ _ hour_erased refl (neither_left (stands is_hour grammar) (not (is_none given.time)) lacking) in
-      no_year given given.years r (hour_unread given r unix (ap (λ (x : Record). x.hour_24) hour) (ap (λ (x : Record). x.hour_12) hour) (not_some given.time (neither_right (stands is_hour grammar) (not (is_none given.time)) lacking)))
+  yearless_in : has_year given written ≡ false → (year : Option ℤ) → (given.years ≡ Unknown → year ≡ None) → year_of (date_parts (completed given.offset year given.time r)).year ≡ None
+  yearless_in e year known =
+      let none = neither_left (may kind.Year written || (may kind.Century written && may kind.LastTwo written)) (takes_year given written) e in
+      let part : (r.year_century ≡ None) ⊎ (r.year_last_two ≡ None) =
+      elim (lost_both (may kind.Century written) (may kind.LastTwo written) (neither_right (may kind.Year written) (may kind.Century written && may kind.LastTwo written) none)) [
+        | inl c ↦ inl (reads.lacks kind.Century (refl, refl) c).0
+        | inr l ↦ inr (reads.lacks kind.LastTwo (refl, refl) l).0
+      ] in
+      let first : r.year ≡ None = reads.lacks kind.Year refl (neither_left (may kind.Year written) (may kind.Century written && may kind.LastTwo written) none) in
+      ap (λ (p : DateParts). year_of p.year) (year_same (neither_right (may kind.Year written || (may kind.Century written && may kind.LastTwo written)) (takes_year given written) e) year known) ∙ yearless (date_parts r).year first part
 
-  without_offsets : has_offset given grammar ≡ false → moment_of given given.years r ≡ None
-  without_offsets lacking =
-      let hour = ap (λ (x : Record). x.offset_hour) (so _ _ can_unplaced refl (neither_left (stands is_offset_hour grammar) (not (is_none given.offset)) lacking)) in
-      no_year given given.years r (unplaced_in given r (not_some given.offset (neither_right (stands is_offset_hour grammar) (not (is_none given.offset)) lacking)) hour unix)
+  iso_yearless_in : has_iso_year given written ≡ false → (year : Option ℤ) → (given.years ≡ Unknown → year ≡ None) → year_of (date_parts (completed given.offset year given.time r)).iso_year ≡ None
+  iso_yearless_in e year known =
+      let whole = completed given.offset year given.time r in
+      let timed = with_time given.time r in
+      let first : r.iso_year ≡ None = reads.lacks kind.IsoYear refl (neither_left (may kind.IsoYear written) (may kind.LastTwo written && (may kind.Century written || takes_year given written)) e) in
+      elim (lost_both (may kind.LastTwo written) (may kind.Century written || takes_year given written) (neither_right (may kind.IsoYear written) (may kind.LastTwo written && (may kind.Century written || takes_year given written)) e)) [
+        | inl l ↦
+            let digits : r.iso_year_last_two ≡ None = (reads.lacks kind.LastTwo (refl, refl) l).1 in
+            let before : timed.iso_year_last_two ≡ None = kept_time (λ x. x.iso_year_last_two) given.time r (λ a b. refl) ∙ digits in
+            let year_none : whole.iso_year ≡ None =
+            kept_offset (λ x. x.iso_year) given.offset (with_year year timed) (λ a b. refl) ∙ kept_iso_year year timed before ∙ kept_time (λ x. x.iso_year) given.time r (λ a b. refl) ∙ first in
+            yearless (date_parts whole).iso_year year_none (inr (kept (λ x. x.iso_year_last_two) (λ _ _ _ _ _ _ _. refl) given.offset year given.time r ∙ digits))
+        | inr neither ↦
+            let century : r.iso_year_century ≡ None = (reads.lacks kind.Century (refl, refl) (neither_left (may kind.Century written) (takes_year given written) neither)).1 in
+            ap (λ (p : DateParts). year_of p.iso_year) (year_same (neither_right (may kind.Century written) (takes_year given written) neither) year known) ∙ yearless (date_parts r).iso_year first (inl century)
+      ]
+
+  dayless : has_day written ≡ false → HasNoDay (days r)
+  dayless e =
+      let first = neither_left (may kind.Ordinal written || (may kind.Month written && may kind.Day written)) (may kind.Week written && may kind.Weekday written) e in (
+        reads.lacks kind.Ordinal refl (neither_left (may kind.Ordinal written) (may kind.Month written && may kind.Day written) first),
+        elim (lost_both (may kind.Month written) (may kind.Day written) (neither_right (may kind.Ordinal written) (may kind.Month written && may kind.Day written) first)) [
+          | inl m ↦ inl (reads.lacks kind.Month refl m)
+          | inr d ↦ inr (reads.lacks kind.Day refl d)
+        ],
+        elim (lost_both (may kind.Week written) (may kind.Weekday written) (neither_right (may kind.Ordinal written || (may kind.Month written && may kind.Day written)) (may kind.Week written && may kind.Weekday written) e)) [
+          | inl w ↦ inl (reads.lacks kind.Week (refl, refl) w)
+          | inr d ↦ inr (reads.lacks kind.Weekday refl d)
+        ],
+      )
+
+  weekless : (may kind.IsoWeek written && may kind.Weekday written) ≡ false → HasNoWeek (days r)
+  weekless e = elim (lost_both (may kind.IsoWeek written) (may kind.Weekday written) e) [ inl w ↦ inl (reads.lacks kind.IsoWeek refl w) | inr d ↦ inr (reads.lacks kind.Weekday refl d) ]
+
+  without_dates : has_date given written ≡ false → moment_of given given.years r ≡ None
+  without_dates e = no_year given given.years r (λ year known.
+      let whole = completed given.offset year given.time r in
+      let same : days whole ≡ days r = kept days (λ _ _ _ _ _ _ _. refl) given.offset year given.time r in
+      let P : DateParts → Type 0 = λ p. HasNoDay p in
+      let Q : DateParts → Type 0 = λ p. HasNoWeek p in
+      let civil : (year_of (date_parts whole).year ≡ None) ⊎ HasNoDay (date_parts whole) =
+      elim (lost_both (has_year given written) (has_day written) (neither_left (has_year given written && has_day written) (has_iso_year given written && (may kind.IsoWeek written && may kind.Weekday written)) e)) [
+        | inl y ↦ inl (yearless_in y year known)
+        | inr d ↦ inr (subst P (sym same) (dayless d))
+      ] in
+      let week : (year_of (date_parts whole).iso_year ≡ None) ⊎ HasNoWeek (date_parts whole) =
+      elim (lost_both (has_iso_year given written) (may kind.IsoWeek written && may kind.Weekday written) (neither_right (has_year given written && has_day written) (has_iso_year given written && (may kind.IsoWeek written && may kind.Weekday written)) e)) [
+        | inl y ↦ inl (iso_yearless_in y year known)
+        | inr w ↦ inr (subst Q (sym same) (weekless w))
+      ] in
+      without_date whole insufficient (still year) (no_date (date_parts whole) civil week))
+
+  hourless : (has_hour written && not (has_gap written)) ≡ false → (leap : Bool) → named_time leap (time_parts r) ≡ Err insufficient
+  hourless e leap =
+      elim (lost_both (has_hour written) (not (has_gap written)) e) [
+        | inl none ↦
+            let half : (r.hour_12 ≡ None) ⊎ (r.hour_12_is_pm ≡ None) =
+            elim (lost_both (may kind.Hour12 written) (may kind.Half written) (neither_right (may kind.Hour24 written) (may kind.Hour12 written && may kind.Half written) none)) [
+              | inl hour ↦ inl (reads.lacks kind.Hour12 refl hour)
+              | inr pm ↦ inr (reads.lacks kind.Half refl pm)
+            ] in
+            no_hour r (reads.lacks kind.Hour24 refl (neither_left (may kind.Hour24 written) (may kind.Hour12 written && may kind.Half written) none)) half leap
+        | inr gap ↦ elim (either (always kind.Second written && not (may kind.Minute written)) (always kind.Subsecond written && not (may kind.Second written)) (turned (has_gap written) gap)) [
+          | inl minute ↦
+              let facts = both (always kind.Second written) (not (may kind.Minute written)) minute in
+              let none : r.minute ≡ None = reads.lacks kind.Minute refl (turned_back (may kind.Minute written) facts.1) in
+              no_finer r (ap (λ (m : Option ℕ). finer_parts m r.second r.subsecond) none ∙ no_minute r.second r.subsecond (reads.makes _ _ second_sets facts.0)) leap
+          | inr second ↦
+              let facts = both (always kind.Subsecond written) (not (may kind.Second written)) second in
+              let none : r.second ≡ None = reads.lacks kind.Second refl (turned_back (may kind.Second written) facts.1) in
+              no_finer r (ap (λ (n : Option ℕ). finer_parts r.minute n r.subsecond) none ∙ no_second r.minute r.subsecond (reads.makes _ _ subsecond_sets facts.0)) leap
+        ]
+      ]
+
+  without_times : has_time given written ≡ false → moment_of given given.years r ≡ None
+  without_times e =
+      let same : with_time given.time r ≡ r =
+      elim (lost_both (is_some given.time) (not (always kind.TimePart written)) (neither_right (has_hour written && not (has_gap written)) (is_some given.time && not (always kind.TimePart written)) e)) [
+        | inl none ↦ ap (λ (t : Option ℕ). with_time t r) (none_of given.time none)
+        | inr part ↦ timed given.time r (reads.makes _ _ time_sets (turned (always kind.TimePart written) part))
+      ] in
+      no_year given given.years r (λ year known.
+      let whole = completed given.offset year given.time r in
+      let parts : time_parts whole ≡ time_parts r =
+      kept_offset time_parts given.offset (with_year year (with_time given.time r)) (λ a b. refl) ∙ kept_year time_parts year (with_time given.time r) (λ a b. refl) ∙ ap time_parts same in
+      without_time whole insufficient (still year)
+      (λ leap. ap (named_time leap) parts ∙ hourless (neither_left (has_hour written && not (has_gap written)) (is_some given.time && not (always kind.TimePart written)) e) leap))
+
+  without_offsets : has_offset given written ≡ false → moment_of given given.years r ≡ None
+  without_offsets e =
+      let hour : r.offset_hour ≡ None = reads.lacks kind.OffsetHour refl (neither_left (may kind.OffsetHour written) (is_some given.offset) e) in
+      no_year given given.years r (λ year known. unplaced_in given r (none_of given.offset (neither_right (may kind.OffsetHour written) (is_some given.offset) e)) hour unix year)
+
+-- ---- the first of them
+
+lacks_one : (unix year date time offset : Bool) (what : Lack) → (year ≡ false → date ≡ false) → (if◌then◌else◌ {A = Option Lack} unix None (if not year then Some Year else if not date then Some Day else if not time then Some Time else if not offset then Some Offset else None)) ≡ Some what
+    → (unix ≡ false) × ((date ≡ false) ⊎ ((time ≡ false) ⊎ (offset ≡ false)))
+lacks_one true year date time offset what h e = absurd cc
+lacks_one false false date time offset what h e = (refl, inl (h refl))
+lacks_one false true false time offset what h e = (refl, inl refl)
+lacks_one false true true false offset what h e = (refl, inr (inl refl))
+lacks_one false true true true false what h e = (refl, inr (inr refl))
+lacks_one false true true true true what h e = absurd cc
+
+neither_year : (year day iso week : Bool) → (year || iso) ≡ false → ((year && day) || (iso && week)) ≡ false
+neither_year true day iso week e = absurd cc
+neither_year false day true week e = absurd cc
+neither_year false day false week e = refl
+
+-- what a description reads names nothing
+read_none : (given : Given) (written : Written) (text : List ℕ) (a : Answer) → reads_written written empty text ≡ a → ((r : Record) → Reads written r → moment_of given given.years r ≡ None) → prefix_of given a ≡ None
+read_none given written text (Ok read) is none =
+    where_so (is_likely read.0.unix_timestamp_nanos) _ (λ _. ap (followed read.1) (none read.0 (record {
+      lacks = λ k none free. (let P : Answer → Type 0 = λ a. IsUnread k (record_of a) in subst P is (unread k none written free text));
+      makes = λ S kind sets stands. (let P : Answer → Type 0 = λ a. Makes S a in subst P is (always_makes S kind sets written stands empty text));
+    })))
+read_none given written text (Err f) is none = refl
 
 -- a source that lacks something names nothing
 pub finds_nothing : (given : Given) (grammar : Grammar) (what : Lack) → lack given grammar ≡ Some what → (text : List ℕ) → prefix_named given grammar text ≡ None
 unfolding prefix_named lack
-finds_nothing given grammar what e text =
-    let (plain, lacking) = lacks_one (stands is_unix_time grammar) (has_year given grammar) (has_day grammar) (has_hour given grammar) (has_offset given grammar) (if stands is_last_two grammar then Century else Year) what e in
-    let r = record_of (reading_of grammar empty text) in
-    let so : LacksUnread grammar r = λ u kind each is free. unread u kind each is grammar free text in
-    let none : moment_of given given.years r ≡ None =
-    elim lacking [
-      | inl year ↦ without_years given grammar r so plain year
-      | inr later ↦ elim later [
-        | inl day ↦ without_days given grammar r so plain day
-        | inr after ↦ elim after [ inl hour ↦ without_hours given grammar r so plain hour | inr offset ↦ without_offsets given grammar r so plain offset ]
-      ]
-    ] in
-    where_so (may_begin grammar text) _ (λ _. read_none given (reading_of grammar empty text) none)
+finds_nothing given (Described written) what e text =
+    let one = lacks_one (may kind.UnixTime written) (has_year given written || has_iso_year given written) (has_date given written) (has_time given written) (has_offset given written) what
+    (neither_year (has_year given written) (has_day written) (has_iso_year given written) (may kind.IsoWeek written && may kind.Weekday written)) e in
+    read_none given written text (reads_written written empty text) refl (λ r reads.
+    elim one.1 [
+      | inl date ↦ without_dates given written r reads one.0 date
+      | inr later ↦ elim later [ inl time ↦ without_times given written r reads one.0 time | inr offset ↦ without_offsets given written r reads one.0 offset ]
+    ])
+finds_nothing given Rfc2822 what e text = absurd cc
+finds_nothing given Rfc3339 what e text = absurd cc
+finds_nothing given Iso8601 what e text = absurd cc

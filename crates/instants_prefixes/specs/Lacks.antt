@@ -1,45 +1,77 @@
 -- What a source never names, and nobody gives: such a source finds no date in any line.
-use Rattle.std.specs.Prelude.{Bool, ◌&&◌, ◌||◌, not, true, false, Option, None, Some, if◌then◌else◌}
-use Rattle.std.specs.Option.{is_none}
-use Rattle.description_items.specs.declared.component.Component.{Component}
-use Rattle.description_items.specs.Modern.{modern}
-use Rattle.instants_sources.specs.Grammar.{Grammar, Described}
+use Rattle.std.specs.Prelude.{Bool, ◌&&◌, ◌||◌, not, true, false, Option, None, Some, is_some, if◌then◌else◌}
+use Rattle.instants_sources.specs.Grammar.{Grammar, Described, Written}
 use Rattle.instants_prefixes.specs.Given.{Given, Years, Unknown, In, Near}
-use Rattle.instants_prefixes.specs.Kinds.{is_year, is_century, is_last_two, is_month, is_day, is_ordinal, is_week, is_weekday, is_hour, is_offset_hour, is_unix_time}
+use Rattle.instants_prefixes.specs.Kinds.{is_of}
 use Rattle.instants_prefixes.specs.Reading.{written_has}
+use Rattle.instants_prefixes.specs.declared.kind.Kind.{Kind}
+use Rattle.instants_prefixes.specs.declared.kind.Kind.TheVariants as kind
 pub use Rattle.instants_prefixes.specs.declared.lacks.Lack.{Lack}
-pub use Rattle.instants_prefixes.specs.declared.lacks.Lack.TheVariants.{Century, Year, Day, Hour, Offset}
+pub use Rattle.instants_prefixes.specs.declared.lacks.Lack.TheVariants.{Year, Day, Time, Offset}
 
--- such a component stands in a source, or an older form that says the same; the well-known formats have all that a moment needs
-abbrev pub stands : (Component → Bool) → Grammar → Bool
-stands kind (Described written) = written_has (λ c. kind (modern c)) written
-stands kind _ = true
+-- a component of a kind may stand in a description
+abbrev pub may : Kind → Written → Bool
+may kind written = written_has true (is_of kind) written
+
+-- one always stands there, outside of all choices
+abbrev pub always : Kind → Written → Bool
+always kind written = written_has false (is_of kind) written
 
 abbrev pub is_known : Years → Bool
 is_known Unknown = false
 is_known (In year) = true
 is_known (Near above) = true
 
+-- ---- dates
+
+-- the year that is given takes the place of one that need not stand there
+abbrev pub takes_year : Given → Written → Bool
+takes_year given written = is_known given.years && not (always kind.YearPart written)
+
 -- a year by all of its digits, by its century and its last two, or given
-abbrev pub has_year : Given → Grammar → Bool
-has_year given grammar = stands is_year grammar || (stands is_century grammar && stands is_last_two grammar) || is_known given.years
+abbrev pub has_year : Given → Written → Bool
+has_year given written = may kind.Year written || (may kind.Century written && may kind.LastTwo written) || takes_year given written
 
-abbrev pub has_day : Grammar → Bool
-has_day grammar = (stands is_month grammar && stands is_day grammar) || stands is_ordinal grammar || (stands is_week grammar && stands is_weekday grammar)
+-- a year of the weeks of ISO 8601, likewise: one is given by its last two digits alone
+abbrev pub has_iso_year : Given → Written → Bool
+has_iso_year given written = may kind.IsoYear written || (may kind.LastTwo written && (may kind.Century written || takes_year given written))
 
--- an hour, or a time of day that is given
-abbrev pub has_hour : Given → Grammar → Bool
-has_hour given grammar = stands is_hour grammar || not (is_none given.time)
+abbrev pub has_day : Written → Bool
+has_day written = may kind.Ordinal written || (may kind.Month written && may kind.Day written) || (may kind.Week written && may kind.Weekday written)
 
-abbrev pub has_offset : Given → Grammar → Bool
-has_offset given grammar = stands is_offset_hour grammar || not (is_none given.offset)
+abbrev pub has_date : Given → Written → Bool
+has_date given written = (has_year given written && has_day written) || (has_iso_year given written && (may kind.IsoWeek written && may kind.Weekday written))
 
--- what a source lacks to name a moment, the first of these
-unfoldable pub lack : Given → Grammar → Option Lack
-lack given grammar =
-    if stands is_unix_time grammar then None
-    else if not (has_year given grammar) then Some (if stands is_last_two grammar then Century else Year)
-    else if not (has_day grammar) then Some Day
-    else if not (has_hour given grammar) then Some Hour
-    else if not (has_offset given grammar) then Some Offset
+-- ---- times of day
+
+-- an hour of the whole day, or one of a half day and which half
+abbrev pub has_hour : Written → Bool
+has_hour written = may kind.Hour24 written || (may kind.Hour12 written && may kind.Half written)
+
+-- seconds without minutes, or a fraction without seconds, name no time
+abbrev pub has_gap : Written → Bool
+has_gap written = (always kind.Second written && not (may kind.Minute written)) || (always kind.Subsecond written && not (may kind.Second written))
+
+-- a time of day, or one that is given in place of one of which no part need stand there
+abbrev pub has_time : Given → Written → Bool
+has_time given written = (has_hour written && not (has_gap written)) || (is_some given.time && not (always kind.TimePart written))
+
+-- ---- what is lacking
+
+abbrev pub has_offset : Given → Written → Bool
+has_offset given written = may kind.OffsetHour written || is_some given.offset
+
+-- what a description lacks to name a moment, the first of these
+abbrev pub lack_in : Given → Written → Option Lack
+lack_in given written =
+    if may kind.UnixTime written then None
+    else if not (has_year given written || has_iso_year given written) then Some Year
+    else if not (has_date given written) then Some Day
+    else if not (has_time given written) then Some Time
+    else if not (has_offset given written) then Some Offset
     else None
+
+-- the well-known formats have all that a moment needs
+unfoldable pub lack : Given → Grammar → Option Lack
+lack given (Described written) = lack_in given written
+lack given _ = None

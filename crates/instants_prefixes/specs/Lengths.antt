@@ -12,7 +12,7 @@ use Rattle.instants_prefixes.specs.Kinds.{is_saying}
 use Rattle.instants_prefixes.specs.Reading.{has}
 
 abbrev pub is_silent : Tree → Bool
-is_silent t = not (has is_saying t)
+is_silent t = not (has true is_saying t)
 
 abbrev pub is_text : Tree → Bool
 is_text (Literal text) = true

@@ -30,14 +30,14 @@ may_begin _ text = true
 
 -- ---- which components stand in a source
 
--- one stands in a description
-abbrev pub written_has : (Component → Bool) → Written → Bool
-written_has kind (Items items) = any_has kind (listed items)
-written_has kind (V3 tree) = has kind tree
+-- one stands in a description: inside its choices too, or outside of all of them
+abbrev pub written_has : Bool → (Component → Bool) → Written → Bool
+written_has in_choices kind (Items items) = any_has in_choices kind (listed items)
+written_has in_choices kind (V3 tree) = has in_choices kind tree
 
--- one stands in a source; the well-known formats have none
+-- one may stand in a source; the well-known formats have none
 abbrev pub stands_in : (Component → Bool) → Grammar → Bool
-stands_in kind (Described written) = written_has kind written
+stands_in kind (Described written) = written_has true kind written
 stands_in kind _ = false
 
 -- ---- the record

@@ -21,27 +21,27 @@ pub(crate) struct Contents {
     pub(crate) has_offset_part: bool,
 }
 
-/// Whether a component of a kind stands in a node.
+/// Whether a component of a kind stands in a node: inside its choices too, or outside of all of them.
 #[cycle(stands)]
-pub(crate) fn stands_in_node<N: Node>(node: &N, kind: Kind) -> bool
-    ensures stands { result ≡ has (is_of kind) (N.tree node.now) }
+pub(crate) fn stands_in_node<N: Node>(node: &N, kind: Kind, in_choices: bool) -> bool
+    ensures stands { result ≡ has in_choices (is_of kind) (N.tree node.now) }
 {
     match node.step() {
         NodeStep::Literal(_) => false,
         NodeStep::Component(component) => is_of(kind, component),
-        NodeStep::Compound(nodes) => stands_in_any(nodes, kind),
-        NodeStep::Optional(_, node) => stands_in_node(node, kind),
-        NodeStep::First(nodes) => stands_in_any(nodes, kind),
+        NodeStep::Compound(nodes) => stands_in_any(nodes, kind, in_choices),
+        NodeStep::Optional(_, node) => in_choices && stands_in_node(node, kind, in_choices),
+        NodeStep::First(nodes) => in_choices && stands_in_any(nodes, kind, in_choices),
     }
 }
 
 // Whether one stands in one of the nodes.
 #[cycle(stands)]
-fn stands_in_any<N: Node>(nodes: &[N], kind: Kind) -> bool
-    ensures stands { result ≡ any_has (is_of kind) (listed (map N.tree nodes.now)) }
+fn stands_in_any<N: Node>(nodes: &[N], kind: Kind, in_choices: bool) -> bool
+    ensures stands { result ≡ any_has in_choices (is_of kind) (listed (map N.tree nodes.now)) }
 {
     for node in nodes {
-        if stands_in_node(node, kind) {
+        if stands_in_node(node, kind, in_choices) {
             return true;
         }
     }
@@ -49,24 +49,27 @@ fn stands_in_any<N: Node>(nodes: &[N], kind: Kind) -> bool
 }
 
 /// Whether one stands in a description.
-pub(crate) fn stands_in_description(description: &Description<'_>, kind: Kind) -> bool
-    ensures { result ≡ written_has (is_of kind) (written description.now) }
+pub(crate) fn stands_in_description(
+    description: &Description<'_>,
+    kind: Kind,
+    in_choices: bool,
+) -> bool
+    ensures { result ≡ written_has in_choices (is_of kind) (written description.now) }
 {
     match description {
-        Description::Items(items) => stands_in_any(items.as_slice(), kind),
-        Description::V3(tree) => stands_in_node(tree.inner(), kind),
+        Description::Items(items) => stands_in_any(items.as_slice(), kind, in_choices),
+        Description::V3(tree) => stands_in_node(tree.inner(), kind, in_choices),
     }
 }
 
-// Whether one stands in a source.
-fn stands_in_source(source: &Source<'_>, kind: Kind) -> bool
+// Whether one may stand in a source.
+fn may_stand(source: &Source<'_>, kind: Kind) -> bool
     ensures { result ≡ stands_in (is_of kind) (grammar_of source.now) }
 {
     match source {
-        Source::Items(described) | Source::V3(described) => stands_in_description(
-            described.description(),
-            kind,
-        ),
+        Source::Items(described) | Source::V3(described) => {
+            stands_in_description(described.description(), kind, true)
+        }
         _ => false,
     }
 }
@@ -77,8 +80,8 @@ impl Contents {
         ensures { AreContents (grammar_of source.now) result }
     {
         Contents {
-            has_unix_time: stands_in_source(source, Kind::UnixTime),
-            has_offset_part: stands_in_source(source, Kind::OffsetPart),
+            has_unix_time: may_stand(source, Kind::UnixTime),
+            has_offset_part: may_stand(source, Kind::OffsetPart),
         }
     }
 }

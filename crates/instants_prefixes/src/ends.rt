@@ -41,7 +41,7 @@ fn silent_at_start<N: Node>(nodes: &[N]) -> usize
     ensures within { result ≤ length nodes.now }
 {
     for (i, node) in nodes.iter().enumerate() {
-        if stands_in_node(node, Kind::Saying) {
+        if stands_in_node(node, Kind::Saying, true) {
             return i;
         }
     }
@@ -54,7 +54,7 @@ fn up_to_last<N: Node>(nodes: &[N]) -> usize
     ensures within { result ≤ length nodes.now }
 {
     let mut end = nodes.len();
-    while end > 0 && !stands_in_node(&nodes[end - 1], Kind::Saying) {
+    while end > 0 && !stands_in_node(&nodes[end - 1], Kind::Saying, true) {
         end -= 1;
     }
     end

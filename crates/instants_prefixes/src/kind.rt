@@ -1,6 +1,6 @@
 //! Kinds of components.
 ghost use Rattle.std.specs.Prelude.{◌≡◌};
-ghost use Rattle.instants_prefixes.specs.Kinds.{is_of, is_offset_part, is_offset_hour, is_year, is_century, is_last_two, is_month, is_day, is_ordinal, is_week, is_weekday, is_hour, is_saying, is_unix_time};
+ghost use Rattle.instants_prefixes.specs.Kinds.{is_of, is_newer, is_saying, is_year_part, is_time_part};
 
 use description_items::Component;
 
@@ -9,41 +9,66 @@ use description_items::Component;
 pub(crate) enum Kind {
     /// It says something of a date.
     Saying,
-    /// It is Unix time.
     UnixTime,
+    OffsetHour,
     /// It is a part of an offset.
     OffsetPart,
-    /// It is the hour of an offset.
-    OffsetHour,
+    /// It is a year by all of its digits.
     Year,
+    /// It is such a year of the weeks of ISO 8601.
+    IsoYear,
+    /// It is the century of a year of either kind.
     Century,
+    /// It is the last two digits of one.
     LastTwo,
+    /// It is a year of either kind or its century.
+    YearPart,
     Month,
     Day,
     Ordinal,
+    /// It is a week from Sunday or from Monday.
     Week,
+    IsoWeek,
     Weekday,
-    Hour,
+    Hour24,
+    Hour12,
+    /// It is the half of the day.
+    Half,
+    Minute,
+    Second,
+    Subsecond,
+    /// It is a part of a time of day.
+    TimePart,
 }
 
 /// Whether a component is of a kind.
 pub(crate) fn is_of(kind: Kind, component: Component) -> bool
     ensures { result ≡ is_of kind component }
 {
+    let newer = component.modern();
     match kind {
         Kind::Saying => is_saying(component),
-        Kind::UnixTime => is_unix_time(component.modern()),
-        Kind::OffsetPart => is_offset_part(component.modern()),
-        Kind::OffsetHour => is_offset_hour(component.modern()),
-        Kind::Year => is_year(component.modern()),
-        Kind::Century => is_century(component.modern()),
-        Kind::LastTwo => is_last_two(component.modern()),
-        Kind::Month => is_month(component.modern()),
-        Kind::Day => is_day(component.modern()),
-        Kind::Ordinal => is_ordinal(component.modern()),
-        Kind::Week => is_week(component.modern()),
-        Kind::Weekday => is_weekday(component.modern()),
-        Kind::Hour => is_hour(component.modern()),
+        Kind::UnixTime => is_unix_time(newer),
+        Kind::OffsetHour => matches!(newer, Component::OffsetHour(_)),
+        Kind::OffsetPart => is_offset_part(newer),
+        Kind::Year => is_year(newer),
+        Kind::IsoYear => is_iso_year(newer),
+        Kind::Century => is_century(newer),
+        Kind::LastTwo => is_last_two(newer),
+        Kind::YearPart => is_year_part(newer),
+        Kind::Month => is_month(newer),
+        Kind::Day => matches!(newer, Component::Day(_)),
+        Kind::Ordinal => matches!(newer, Component::Ordinal(_)),
+        Kind::Week => is_week(newer),
+        Kind::IsoWeek => matches!(newer, Component::WeekNumberIso(_)),
+        Kind::Weekday => is_weekday(newer),
+        Kind::Hour24 => matches!(newer, Component::Hour24(_)),
+        Kind::Hour12 => matches!(newer, Component::Hour12(_)),
+        Kind::Half => matches!(newer, Component::Period(_)),
+        Kind::Minute => matches!(newer, Component::Minute(_)),
+        Kind::Second => matches!(newer, Component::Second(_)),
+        Kind::Subsecond => matches!(newer, Component::Subsecond(_)),
+        Kind::TimePart => is_time_part(newer),
     }
 }
 
@@ -54,7 +79,7 @@ fn is_saying(component: Component) -> bool
 }
 
 fn is_unix_time(component: Component) -> bool
-    ensures { result ≡ is_unix_time component }
+    ensures { result ≡ is_newer Kind.UnixTime component }
 {
     matches!(
         component,
@@ -66,7 +91,7 @@ fn is_unix_time(component: Component) -> bool
 }
 
 fn is_offset_part(component: Component) -> bool
-    ensures { result ≡ is_offset_part component }
+    ensures { result ≡ is_newer Kind.OffsetPart component }
 {
     matches!(
         component,
@@ -74,26 +99,26 @@ fn is_offset_part(component: Component) -> bool
     )
 }
 
-fn is_offset_hour(component: Component) -> bool
-    ensures { result ≡ is_offset_hour component }
-{
-    matches!(component, Component::OffsetHour(_))
-}
-
 fn is_year(component: Component) -> bool
-    ensures { result ≡ is_year component }
+    ensures { result ≡ is_newer Kind.Year component }
 {
     matches!(
         component,
-        Component::CalendarYearFullExtendedRange(_)
-            | Component::CalendarYearFullStandardRange(_)
-            | Component::IsoYearFullExtendedRange(_)
-            | Component::IsoYearFullStandardRange(_)
+        Component::CalendarYearFullExtendedRange(_) | Component::CalendarYearFullStandardRange(_)
+    )
+}
+
+fn is_iso_year(component: Component) -> bool
+    ensures { result ≡ is_newer Kind.IsoYear component }
+{
+    matches!(
+        component,
+        Component::IsoYearFullExtendedRange(_) | Component::IsoYearFullStandardRange(_)
     )
 }
 
 fn is_century(component: Component) -> bool
-    ensures { result ≡ is_century component }
+    ensures { result ≡ is_newer Kind.Century component }
 {
     matches!(
         component,
@@ -105,7 +130,7 @@ fn is_century(component: Component) -> bool
 }
 
 fn is_last_two(component: Component) -> bool
-    ensures { result ≡ is_last_two component }
+    ensures { result ≡ is_newer Kind.LastTwo component }
 {
     matches!(
         component,
@@ -113,8 +138,14 @@ fn is_last_two(component: Component) -> bool
     )
 }
 
+fn is_year_part(component: Component) -> bool
+    ensures { result ≡ is_year_part component }
+{
+    is_year(component) || is_iso_year(component) || is_century(component)
+}
+
 fn is_month(component: Component) -> bool
-    ensures { result ≡ is_month component }
+    ensures { result ≡ is_newer Kind.Month component }
 {
     matches!(
         component,
@@ -122,31 +153,17 @@ fn is_month(component: Component) -> bool
     )
 }
 
-fn is_day(component: Component) -> bool
-    ensures { result ≡ is_day component }
-{
-    matches!(component, Component::Day(_))
-}
-
-fn is_ordinal(component: Component) -> bool
-    ensures { result ≡ is_ordinal component }
-{
-    matches!(component, Component::Ordinal(_))
-}
-
 fn is_week(component: Component) -> bool
-    ensures { result ≡ is_week component }
+    ensures { result ≡ is_newer Kind.Week component }
 {
     matches!(
         component,
-        Component::WeekNumberIso(_)
-            | Component::WeekNumberSunday(_)
-            | Component::WeekNumberMonday(_)
+        Component::WeekNumberSunday(_) | Component::WeekNumberMonday(_)
     )
 }
 
 fn is_weekday(component: Component) -> bool
-    ensures { result ≡ is_weekday component }
+    ensures { result ≡ is_newer Kind.Weekday component }
 {
     matches!(
         component,
@@ -157,8 +174,16 @@ fn is_weekday(component: Component) -> bool
     )
 }
 
-fn is_hour(component: Component) -> bool
-    ensures { result ≡ is_hour component }
+fn is_time_part(component: Component) -> bool
+    ensures { result ≡ is_time_part component }
 {
-    matches!(component, Component::Hour12(_) | Component::Hour24(_))
+    matches!(
+        component,
+        Component::Hour24(_)
+            | Component::Hour12(_)
+            | Component::Period(_)
+            | Component::Minute(_)
+            | Component::Second(_)
+            | Component::Subsecond(_)
+    )
 }

@@ -1,100 +1,149 @@
 //! What a source never names, and nobody gives.
 ghost use Rattle.std.specs.Prelude.{◌≡◌};
-ghost use Rattle.instants_sources.specs.Grammar.{grammar_of};
-ghost use Rattle.instants_prefixes.specs.Contents.{stands_of};
+ghost use Rattle.instants_sources.specs.Grammar.{grammar_of, written};
 ghost use Rattle.instants_prefixes.specs.Lacks as Lacks;
 
 use crate::contents::stands_in_description;
 use crate::given::{Given, Years};
 use crate::kind::Kind;
+use description::Description;
 use instants_sources::Source;
 
 /// What a source lacks, so that it finds no date in any line.
 #[derive(Clone, Copy, Debug, PartialEq, Eq)]
 pub enum Lack {
-    /// A year by two digits has no century.
-    Century,
     /// No year.
     Year,
-    /// No day.
+    /// No day of a year.
     Day,
-    /// No hour.
-    Hour,
+    /// No time of day.
+    Time,
     /// No hour of an offset.
     Offset,
 }
 
-// Whether a component of a kind stands in a source; the well-known formats have all that a moment needs.
-fn stands(source: &Source<'_>, kind: Kind) -> bool
-    ensures { result ≡ stands_of kind (grammar_of source.now) }
+// Whether a component of a kind may stand in a description.
+fn may(kind: Kind, description: &Description<'_>) -> bool
+    ensures { result ≡ Lacks.may kind (written description.now) }
 {
-    match source {
-        Source::Items(described) | Source::V3(described) => stands_in_description(
-            described.description(),
-            kind,
-        ),
-        _ => true,
-    }
+    stands_in_description(description, kind, true)
 }
 
-// Whether a source has a year, or one is given.
-fn has_year(source: &Source<'_>, given: &Given) -> bool
-    ensures { result ≡ Lacks.has_year given.now (grammar_of source.now) }
+// Whether one always stands there.
+fn always(kind: Kind, description: &Description<'_>) -> bool
+    ensures { result ≡ Lacks.always kind (written description.now) }
 {
-    let is_given = match given.years {
+    stands_in_description(description, kind, false)
+}
+
+// Whether a year that is given takes the place of one that need not stand there.
+fn takes_year(given: &Given, description: &Description<'_>) -> bool
+    ensures { result ≡ Lacks.takes_year given.now (written description.now) }
+{
+    let is_known = match given.years {
         Years::Unknown => false,
         Years::In(_) | Years::Near(_) => true,
     };
-    let has_parts = stands(source, Kind::Century) && stands(source, Kind::LastTwo);
-    stands(source, Kind::Year) || has_parts || is_given
+    is_known && !always(Kind::YearPart, description)
 }
 
-// Whether it has a day.
-fn has_day(source: &Source<'_>) -> bool
-    ensures { result ≡ Lacks.has_day (grammar_of source.now) }
+// Whether a description has a year, or one is given.
+fn has_year(given: &Given, description: &Description<'_>) -> bool
+    ensures { result ≡ Lacks.has_year given.now (written description.now) }
 {
-    let has_date = stands(source, Kind::Month) && stands(source, Kind::Day);
-    let has_week = stands(source, Kind::Week) && stands(source, Kind::Weekday);
-    has_date || stands(source, Kind::Ordinal) || has_week
+    let has_parts = may(Kind::Century, description) && may(Kind::LastTwo, description);
+    may(Kind::Year, description) || has_parts || takes_year(given, description)
 }
 
-// Whether it has an hour, or a time of day is given.
-fn has_hour(source: &Source<'_>, given: &Given) -> bool
-    ensures { result ≡ Lacks.has_hour given.now (grammar_of source.now) }
+// Whether it has a year of the weeks of ISO 8601, or one is given by its last two digits.
+fn has_iso_year(given: &Given, description: &Description<'_>) -> bool
+    ensures { result ≡ Lacks.has_iso_year given.now (written description.now) }
 {
-    stands(source, Kind::Hour) || given.time.is_some()
+    let has_century = may(Kind::Century, description) || takes_year(given, description);
+    may(Kind::IsoYear, description) || (may(Kind::LastTwo, description) && has_century)
+}
+
+// Whether it has a day of a year.
+fn has_day(description: &Description<'_>) -> bool
+    ensures { result ≡ Lacks.has_day (written description.now) }
+{
+    let has_date = may(Kind::Month, description) && may(Kind::Day, description);
+    let has_week = may(Kind::Week, description) && may(Kind::Weekday, description);
+    may(Kind::Ordinal, description) || has_date || has_week
+}
+
+// Whether it has a date.
+fn has_date(given: &Given, description: &Description<'_>) -> bool
+    ensures { result ≡ Lacks.has_date given.now (written description.now) }
+{
+    let has_week = may(Kind::IsoWeek, description) && may(Kind::Weekday, description);
+    let has_day = has_year(given, description) && has_day(description);
+    has_day || (has_iso_year(given, description) && has_week)
+}
+
+// Whether it has an hour.
+fn has_hour(description: &Description<'_>) -> bool
+    ensures { result ≡ Lacks.has_hour (written description.now) }
+{
+    let has_half = may(Kind::Hour12, description) && may(Kind::Half, description);
+    may(Kind::Hour24, description) || has_half
+}
+
+// Whether it has seconds without minutes, or a fraction without seconds.
+fn has_gap(description: &Description<'_>) -> bool
+    ensures { result ≡ Lacks.has_gap (written description.now) }
+{
+    let no_minute = always(Kind::Second, description) && !may(Kind::Minute, description);
+    let no_second = always(Kind::Subsecond, description) && !may(Kind::Second, description);
+    no_minute || no_second
+}
+
+// Whether it has a time of day, or one is given.
+fn has_time(given: &Given, description: &Description<'_>) -> bool
+    ensures { result ≡ Lacks.has_time given.now (written description.now) }
+{
+    let takes_time = given.time.is_some() && !always(Kind::TimePart, description);
+    (has_hour(description) && !has_gap(description)) || takes_time
 }
 
 // Whether it has an hour of an offset, or an offset is given.
-fn has_offset(source: &Source<'_>, given: &Given) -> bool
-    ensures { result ≡ Lacks.has_offset given.now (grammar_of source.now) }
+fn has_offset(given: &Given, description: &Description<'_>) -> bool
+    ensures { result ≡ Lacks.has_offset given.now (written description.now) }
 {
-    stands(source, Kind::OffsetHour) || given.offset.is_some()
+    may(Kind::OffsetHour, description) || given.offset.is_some()
 }
 
-/// What a source lacks to name a moment with what is given, the first of these.
+// What a description lacks to name a moment with what is given, the first of these.
+fn lack_in(given: &Given, description: &Description<'_>) -> Option<Lack>
+    ensures { result ≡ Lacks.lack_in given.now (written description.now) }
+{
+    if may(Kind::UnixTime, description) {
+        return None;
+    }
+    if !(has_year(given, description) || has_iso_year(given, description)) {
+        return Some(Lack::Year);
+    }
+    if !has_date(given, description) {
+        return Some(Lack::Day);
+    }
+    if !has_time(given, description) {
+        return Some(Lack::Time);
+    }
+    if !has_offset(given, description) {
+        return Some(Lack::Offset);
+    }
+    None
+}
+
+/// What a source lacks to name a moment with what is given.
 #[tactic(auto, unfolding(crate::specs::Lacks::lack))]
 pub(crate) fn lack_of(source: &Source<'_>, given: &Given) -> Option<Lack>
     ensures { result ≡ Lacks.lack given.now (grammar_of source.now) }
 {
-    if stands(source, Kind::UnixTime) {
-        return None;
+    match source {
+        Source::Items(described) | Source::V3(described) => {
+            lack_in(given, described.description())
+        }
+        Source::Rfc2822 | Source::Rfc3339 | Source::Iso8601 => None,
     }
-    if !has_year(source, given) {
-        return Some(if stands(source, Kind::LastTwo) {
-            Lack::Century
-        } else {
-            Lack::Year
-        });
-    }
-    if !has_day(source) {
-        return Some(Lack::Day);
-    }
-    if !has_hour(source, given) {
-        return Some(Lack::Hour);
-    }
-    if !has_offset(source, given) {
-        return Some(Lack::Offset);
-    }
-    None
 }

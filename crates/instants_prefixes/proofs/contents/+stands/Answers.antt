@@ -12,9 +12,9 @@ pub stands_in_node-stands_in_node-requires : goal.stands_in_node-stands_in_node-
 unfolding size
 stands_in_node-stands_in_node-requires g t c κs within = let inside = ap size c.in-Optional.ensures in (omega (arith, inside, c.decreases), within)
 
-pub stands_in_node-stands_in_any-requires-in-First : goal.stands_in_node-stands_in_any-requires-in-First
+pub stands_in_node-stands_in_any-requires-then-in_choices-2 : goal.stands_in_node-stands_in_any-requires-then-in_choices-2
 unfolding size
-stands_in_node-stands_in_any-requires-in-First g t c κs within = let inside = ap size c.in-First.ensures in (omega (arith, inside, c.decreases), within)
+stands_in_node-stands_in_any-requires-then-in_choices-2 g t c κs within = let inside = ap size c.in-First.ensures in (omega (arith, inside, c.decreases), within)
 
 pub stands_in_any-stands_in_node-requires : goal.stands_in_any-stands_in_node-requires
 stands_in_any-stands_in_node-requires g t c κs within =

@@ -12,4 +12,4 @@ abbrev pub decreases-stands_in_any : goal.decreases-stands_in_any
 decreases-stands_in_any g l = 2 * size_all (listed (map g.N.Node.tree l.nodes.now)) + 1
 
 abbrev pub invariant-stands_in_any-loop-node : goal.invariant-stands_in_any-loop-node
-invariant-stands_in_any-loop-node g l = stands_from (is_of l.kind) g.N.Node.tree l.nodes 0 ≡ stands_from (is_of l.kind) g.N.Node.tree l.nodes l.node-index
+invariant-stands_in_any-loop-node g l = stands_from l.in_choices (is_of l.kind) g.N.Node.tree l.nodes 0 ≡ stands_from l.in_choices (is_of l.kind) g.N.Node.tree l.nodes l.node-index

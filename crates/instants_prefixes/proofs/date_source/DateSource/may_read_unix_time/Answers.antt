@@ -1,6 +1,6 @@
 use Rattle.std.proofs.Common.{◌∙◌}
 use Rattle.instants_prefixes.specs.DateSource.{grammar_in}
-use Rattle.instants_prefixes.proofs.Erased.{timeless_at}
+use Rattle.instants_prefixes.proofs.Unread.{timeless_at}
 use Rattle.instants_prefixes.proofs.date_source.DateSource.may_read_unix_time.Goals as goal
 
 pub returns : goal.returns
