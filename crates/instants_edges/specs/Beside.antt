@@ -34,9 +34,9 @@ sequence_length bytes =
 abbrev pub near : List ℕ → List ℕ
 near bytes = let plain = drop (sequence_length bytes) bytes in drop (fraction_length plain) plain
 
--- a byte of ASCII that is no letter, no digit and no sign
+-- a byte of ASCII that is no letter, no digit, no sign and no backslash, with which JSON begins a sign
 abbrev pub is_parting : ℕ → Bool
-is_parting byte = nat_lt byte 128 && not (is_ascii_alphanumeric byte) && not (is_sign byte)
+is_parting byte = nat_lt byte 128 && not (is_ascii_alphanumeric byte) && not (is_one_of (codes "+-\\") byte)
 
 -- up to three bytes that part
 abbrev pub gap : List ℕ → ℕ

@@ -5,7 +5,7 @@ ghost use Rattle.instants_edges.specs.Edge as Edge;
 ghost use Rattle.instants_edges.specs.Beside as Beside;
 
 use crate::bytes::{byte_at, digits_length, first_bytes, rest_from};
-use crate::edge::{ESCAPE, is_parameter, is_sign};
+use crate::edge::{ESCAPE, is_parameter};
 
 // How far is looked after a date.
 const REACH: usize = 48;
@@ -69,7 +69,7 @@ pub(crate) fn near(bytes: &[u8]) -> &[u8]
 fn is_parting(byte: u8) -> bool
     ensures { result ≡ Beside.is_parting byte }
 {
-    byte.is_ascii() && !byte.is_ascii_alphanumeric() && !is_sign(byte)
+    byte.is_ascii() && !byte.is_ascii_alphanumeric() && !matches!(byte, b'+' | b'-' | b'\\')
 }
 
 /// How many bytes that part stand at the start, up to three.

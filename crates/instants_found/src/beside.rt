@@ -1,5 +1,5 @@
 //! Whether a date stands whole in its line, and nothing beside it says otherwise.
-ghost use Rattle.std.specs.Prelude.{◌≡◌, ◌<◌, ◌≤◌, ◌+◌, ◌&&◌, not, true, false, drop, length, is_some};
+ghost use Rattle.std.specs.Prelude.{◌≡◌, ◌<◌, ◌≤◌, ◌+◌, ◌&&◌, ◌||◌, not, true, false, drop, length, is_some};
 ghost use Rattle.instants_edges.specs.Beside.{has_clock_before};
 ghost use Rattle.instants_edges.specs.Edge.{is_edge};
 ghost use Rattle.instants_prefixes.specs.DateSource.{grammar_in};
@@ -49,7 +49,10 @@ pub(crate) fn is_read(source: &DateSource<'_>, line: &[u8], start: usize, prefix
     if !may_say(line, start + prefix.begins) {
         return false;
     }
-    if !source.may_read_unix_time() || is_edge(line, start + prefix.all) {
+    if !source.may_read_unix_time() {
+        return true;
+    }
+    if is_edge(line, start + prefix.all) {
         return true;
     }
     is_no_unix_time(source, after(line, start))
