@@ -1,6 +1,6 @@
 -- Without a colon before a place no clock is there.
 use Rattle.std.proofs.Common.{◌≡◌, ℕ, ◌+◌, ◌-◌, ◌<◌, ◌≤◌, ◌==◌, false, not, List, [], ◌∷◌, length, take, drop, get_or, refl, subst, inl, inr, arith}
-use Rattle.std.specs.Prelude.{codes, take_while}
+use Rattle.std.specs.Prelude.{codes}
 use Rattle.std.specs.List.{prefix_len, range_with_len}
 use Rattle.std.proofs.Math.Bool.{and-false}
 use Rattle.std.proofs.lemmas.Bool.{cases_lt}
