@@ -52,11 +52,11 @@ number bytes = digits_value 10 (filter is_ascii_digit (take 5 bytes))
 abbrev pub seconds_in : List ℕ → ℕ
 seconds_in bytes = if nat_le (length bytes) 2 then number bytes * 3600 else number bytes / 100 * 3600 + number bytes % 100 * 60
 
--- a sign is a minus
+-- a sign is a minus: a hyphen, U+2212, or a hyphen as JSON may escape it
 abbrev pub is_minus : List ℕ → Bool
 is_minus sign = list_any (λ byte. byte == hyphen || byte == 226 || to_ascii_lowercase byte == 100) sign
 
--- an offset lies within fifteen hours of UTC
+-- so many seconds are an offset, which lies within fifteen hours of UTC
 abbrev pub within_fifteen_hours : Bool → ℕ → Option ℤ
 within_fifteen_hours minus seconds = if nat_lt seconds 54000 then Some (if minus then neg_ℤ (pos seconds) else pos seconds) else None
 
@@ -75,13 +75,14 @@ opening bytes = if not (get_or bytes 0 0 == space) then 0 else if is_one_of (cod
 abbrev pub said_directly : List ℕ → Option ℤ
 said_directly bytes = option_or (said (hours_and_minutes ++ hours) bytes) (said (codes "19" ∷ []) (drop (opening bytes) bytes))
 
--- the letters at the start name a zone, with an offset after them, or UTC alone
+-- the letters at the start name a zone, and an offset stands after them, directly or over a space, or UTC is named alone
 abbrev pub said_by_name : List ℕ → Option ℤ
 said_by_name bytes =
     let long = prefix_len is_ascii_alphabetic bytes in
     let others = drop long bytes in
-    let offset = if nat_lt 0 long && begun (names_of_utc ++ other_names) bytes == long then said (hours_and_minutes ++ hours) (drop (if get_or others 0 0 == space then 1 else 0) others) else None in
-    option_or offset (if not (word names_of_utc bytes == 0) then Some (pos 0) else None)
+    let number = drop (if get_or others 0 0 == space then 1 else 0) others in
+    let is_name = nat_lt 0 long && begun (names_of_utc ++ other_names) bytes == long in
+    option_or (if is_name then said (hours_and_minutes ++ hours) number else None) (if not (word names_of_utc bytes == 0) then Some (pos 0) else None)
 
 -- the offset that stands after a date
 unfoldable pub offset_after : List ℕ → Option ℤ
@@ -98,7 +99,7 @@ is_another (Some said) given = not (int_eq said given)
 abbrev pub inside : List (List ℕ)
 inside = codes "utc" ∷ codes "gmt" ∷ codes "z" ∷ []
 
--- a sign and four digits stand here after no word, which is an offset that was read as a year, or a year with a sign, or UTC is named while another offset is given
+-- here stand a sign and four digits after no word, an offset that was read as a year or a year with a sign, or the name of UTC while another offset is given
 abbrev pub is_another_at : List ℕ → ℤ → ℕ → Bool
 is_another_at line given place =
     let bytes = drop place line in

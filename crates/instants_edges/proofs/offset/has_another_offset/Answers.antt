@@ -8,4 +8,5 @@ pub returns-else-is_another : goal.returns-else-is_another
 unfolding has_another_offset
 returns-else-is_another c =
     let none : is_another (offset_after (after c.args.line.now c.args.ends)) c.args.given ≡ false = cc in
-    rw none (any_from_yields_List (is_another_at c.args.line.now c.args.given) _ _ c.any.result c.any.ensures.ran (YieldsList-from_range c.args.start c.args.ends (c.args.ends - c.args.start) (cc) refl) (λ x b q k. search (rules, tests)))
+    rw none (any_from_yields_List (is_another_at c.args.line.now c.args.given) _ _ c.any.result c.any.ensures.ran
+    (YieldsList-from_range c.args.start c.args.ends (c.args.ends - c.args.start) (cc) refl) (λ x b q k. search (rules, tests)))

@@ -16,4 +16,6 @@ unfolding has_another_year
 returns-else-is_year_after c =
     let none : is_year_after (to_z w32 (of_z w32 c.args.year)) (after c.args.line.now c.args.ends) ≡ false = cc in
     rw (rw (to_z-of_z {w = w32} c.ranges.year) at none)
-    (rw (to_z-of_z {w = w32} c.ranges.year) at (any_from_yields_List (is_year_before c.args.line.now c.args.begins (to_z w32 (of_z w32 c.args.year))) _ _ c.any.result c.any.ensures.ran (YieldsList-from_range 5 12 7 (cc) refl) (λ x b q k. search (rules, tests))))
+    (rw (to_z-of_z {w = w32} c.ranges.year) at
+    (any_from_yields_List (is_year_before c.args.line.now c.args.begins (to_z w32 (of_z w32 c.args.year))) _ _ c.any.result c.any.ensures.ran
+    (YieldsList-from_range 5 12 7 (cc) refl) (λ x b q k. search (rules, tests))))
