@@ -60,12 +60,15 @@ is_minus sign = list_any (λ byte. byte == hyphen || byte == 226 || to_ascii_low
 abbrev pub within_fifteen_hours : Bool → ℕ → Option ℤ
 within_fifteen_hours minus seconds = if nat_lt seconds 54000 then Some (if minus then neg_ℤ (pos seconds) else pos seconds) else None
 
+-- the offset of a number in one of these forms after a sign of so many bytes
+abbrev pub said_after : List (List ℕ) → List ℕ → ℕ → Option ℤ
+said_after numbers bytes sign =
+    let long = word numbers (drop sign bytes) in
+    if long == 0 then None else within_fifteen_hours (is_minus (take sign bytes)) (seconds_in (take long (drop sign bytes)))
+
 -- the offset of a sign and a number in one of these forms
 abbrev pub said : List (List ℕ) → List ℕ → Option ℤ
-said numbers bytes =
-    let sign = begun signs bytes in
-    let long = word numbers (drop sign bytes) in
-    if sign == 0 || long == 0 then None else within_fifteen_hours (is_minus (take sign bytes)) (seconds_in (take long (drop sign bytes)))
+said numbers bytes = if begun signs bytes == 0 then None else said_after numbers bytes (begun signs bytes)
 
 -- a space and a bracket, or a space
 abbrev pub opening : List ℕ → ℕ
@@ -158,11 +161,11 @@ is_joint bytes =
 abbrev pub is_year_before : List ℕ → ℕ → ℤ → ℕ → Bool
 is_year_before line begins year far =
     let place = begins - far in
-    nat_le far begins && is_other_year year (drop place line) && is_joint (drop (place + 4) (take begins line)) && is_edge line place
+    is_other_year year (drop place line) && is_joint (drop (place + 4) (take begins line)) && is_edge line place
 
--- it says another year
+-- it says another year, after a date or up to eleven bytes before it
 unfoldable pub has_another_year : List ℕ → ℕ → ℕ → ℤ → Bool
-has_another_year line begins ends year = is_year_after year (after line ends) || is_any (is_year_before line begins year) 5 7
+has_another_year line begins ends year = is_year_after year (after line ends) || is_any (is_year_before line begins year) 5 (min 7 (begins - 4))
 
 -- ---- a clock before a date
 

@@ -45,14 +45,11 @@ fn within_fifteen_hours(minus: bool, seconds: u32) -> Option<i32>
     if minus { Some(-offset) } else { Some(offset) }
 }
 
-// The offset of a sign and a number in one of these forms.
-fn said(numbers: &[&[u8]], bytes: &[u8]) -> Option<i32>
-    ensures { result ≡ Beside.said (map (λ form. form.now) numbers.now) bytes.now }
+// The offset of a number in one of these forms after a sign of so many bytes.
+#[inline(never)]
+fn said_after(numbers: &[&[u8]], bytes: &[u8], sign: usize) -> Option<i32>
+    ensures { result ≡ Beside.said_after (map (λ form. form.now) numbers.now) bytes.now sign }
 {
-    let sign = sign_length(bytes);
-    if sign == 0 {
-        return None;
-    }
     let others = rest_from(bytes, sign);
     let long = word(numbers, others);
     if long == 0 {
@@ -60,6 +57,18 @@ fn said(numbers: &[&[u8]], bytes: &[u8]) -> Option<i32>
     }
     let seconds = seconds_in(first_bytes(others, long));
     within_fifteen_hours(is_minus(first_bytes(bytes, sign)), seconds)
+}
+
+// The offset of a sign and a number in one of these forms. Most bytes begin with no sign, so the rest is a call of its own.
+#[inline(always)]
+fn said(numbers: &[&[u8]], bytes: &[u8]) -> Option<i32>
+    ensures { result ≡ Beside.said (map (λ form. form.now) numbers.now) bytes.now }
+{
+    let sign = sign_length(bytes);
+    if sign == 0 {
+        return None;
+    }
+    said_after(numbers, bytes, sign)
 }
 
 // The length of a space and a bracket at the start, or of a space.
