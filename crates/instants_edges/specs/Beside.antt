@@ -102,17 +102,20 @@ is_another (Some said) given = not (int_eq said given)
 abbrev pub inside : List (List ℕ)
 inside = codes "utc" ∷ codes "gmt" ∷ codes "z" ∷ []
 
--- here stand a sign and four digits after no word, an offset that was read as a year or a year with a sign, or the name of UTC while another offset is given
-abbrev pub is_another_at : List ℕ → ℤ → ℕ → Bool
-is_another_at line given place =
-    let bytes = drop place line in
-    (is_sign (get_or line place 0) && begin_so (codes "9999") (drop 1 bytes) && not (is_ascii_alphanumeric (byte_before line place 1))) ||
-    (not (int_eq given (pos 0)) && not (word inside bytes == 0) && is_edge line place)
+-- here stand a sign and four digits after no word: an offset that was read as a year, or a year with a sign
+abbrev pub is_signed_year : List ℕ → ℕ → Bool
+is_signed_year line place =
+    is_sign (get_or line place 0) && begin_so (codes "9999") (drop 1 (drop place line)) && not (is_ascii_alphanumeric (byte_before line place 1))
 
--- the line says another offset after a date that is read from a place up to another, or inside of what is read
+-- here UTC is named
+abbrev pub is_utc : List ℕ → ℕ → Bool
+is_utc line place = not (word inside (drop place line) == 0) && is_edge line place
+
+-- the line says another offset after a date that is read from a place up to another, or there is one inside of what is read, or UTC is named there
 unfoldable pub has_another_offset : List ℕ → ℕ → ℕ → ℤ → Bool
 has_another_offset line start ends given =
-    is_another (offset_after (after line ends)) given || is_any (is_another_at line given) start (ends - start)
+    is_another (offset_after (after line ends)) given || is_any (is_signed_year line) start (ends - start) ||
+    (not (int_eq given (pos 0)) && is_any (is_utc line) start (ends - start))
 
 -- ---- a time of day
 
