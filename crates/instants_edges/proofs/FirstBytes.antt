@@ -1,5 +1,5 @@
 -- Bytes that begin in no form of a list, by their first byte.
-use Rattle.std.proofs.Common.{◌≡◌, ℕ, zero, suc, ◌<◌, ◌==◌, Bool, true, false, ◌&&◌, List, [], ◌∷◌, length, get_or, refl, arith}
+use Rattle.std.proofs.Common.{◌≡◌, ℕ, ◌<◌, ◌==◌, false, List, [], ◌∷◌, length, get_or, refl, arith}
 use Rattle.std.specs.Char.{is_ascii_digit, is_ascii_lowercase, to_ascii_lowercase}
 use Rattle.std.proofs.Math.Bool.{and-false}
 use Rattle.std.proofs.lemmas.Bool.Decides.{nat_tests}
@@ -18,24 +18,27 @@ too_short (mark ∷ form) (byte ∷ bytes) h = rw (too_short form bytes (omega (
 pub no_other : (mark byte : ℕ) → is_ascii_lowercase mark ≡ false → (byte == mark) ≡ false → (to_ascii_lowercase byte == mark) ≡ false
 no_other mark byte small other = grind (arith, nat_tests)
 
-pub no_sign : (bytes : List ℕ) → is_sign (get_or bytes 0 0) ≡ false → (get_or bytes 0 0 == 226) ≡ false → (get_or bytes 0 0 == 92) ≡ false → begun signs bytes ≡ 0
+pub no_sign : (bytes : List ℕ)
+    → is_sign (get_or bytes 0 0) ≡ false → (get_or bytes 0 0 == 226) ≡ false → (get_or bytes 0 0 == 92) ≡ false → begun signs bytes ≡ 0
 unfolding begun begin_so
 no_sign [] sign minus escape = refl
 no_sign (byte ∷ bytes) sign minus escape = rw (sign, no_other 226 byte refl minus, no_other 92 byte refl escape) refl
 
-pub no_utc : (bytes : List ℕ) → (to_ascii_lowercase (get_or bytes 0 0) == 117) ≡ false → (to_ascii_lowercase (get_or bytes 0 0) == 103) ≡ false → (to_ascii_lowercase (get_or bytes 0 0) == 122) ≡ false
-    → word names_of_utc bytes ≡ 0
+-- the first byte is not this letter
+abbrev pub IsNo : ℕ → List ℕ → Type 0
+IsNo letter bytes = (to_ascii_lowercase (get_or bytes 0 0) == letter) ≡ false
+
+pub no_utc : (bytes : List ℕ) → IsNo 117 bytes → IsNo 103 bytes → IsNo 122 bytes → word names_of_utc bytes ≡ 0
 unfolding word begin_so
 no_utc [] u g z = refl
 no_utc (byte ∷ bytes) u g z = rw (u, g, z) refl
 
-pub no_utc_inside : (bytes : List ℕ) → (to_ascii_lowercase (get_or bytes 0 0) == 117) ≡ false → (to_ascii_lowercase (get_or bytes 0 0) == 103) ≡ false → (to_ascii_lowercase (get_or bytes 0 0) == 122) ≡ false
-    → word inside bytes ≡ 0
+pub no_utc_inside : (bytes : List ℕ) → IsNo 117 bytes → IsNo 103 bytes → IsNo 122 bytes → word inside bytes ≡ 0
 unfolding word begin_so
 no_utc_inside [] u g z = refl
 no_utc_inside (byte ∷ bytes) u g z = rw (u, g, z) refl
 
-pub no_half : (bytes : List ℕ) → (to_ascii_lowercase (get_or bytes 0 0) == 97) ≡ false → (to_ascii_lowercase (get_or bytes 0 0) == 112) ≡ false → word halves bytes ≡ 0
+pub no_half : (bytes : List ℕ) → IsNo 97 bytes → IsNo 112 bytes → word halves bytes ≡ 0
 unfolding word begin_so
 no_half [] a p = refl
 no_half (byte ∷ bytes) a p = rw (a, p) refl

@@ -1,6 +1,6 @@
 -- Without a colon before a place no clock is there.
 use Rattle.std.proofs.Common.{◌≡◌, ℕ, ◌+◌, ◌-◌, ◌<◌, ◌≤◌, ◌==◌, false, not, List, [], ◌∷◌, length, take, drop, get_or, refl, subst, inl, inr, arith}
-use Rattle.std.specs.Prelude.{codes, take_while}
+use Rattle.std.specs.Prelude.{codes}
 use Rattle.std.specs.List.{prefix_len, range_with_len}
 use Rattle.std.proofs.Math.Bool.{and-false}
 use Rattle.std.proofs.lemmas.Bool.{cases_lt}
@@ -13,7 +13,8 @@ use Rattle.instants_edges.specs.Colons.{HasNoColon}
 use Rattle.instants_edges.proofs.FirstBytes.{no_other}
 
 -- sixteen bytes more without one
-pub none_among : (line : List ℕ) (seen at place : ℕ) → at ≤ seen → place ≡ at + 16 → HasNoColon line seen → ((k : ℕ) → k < 16 → (get_or line (at + k) 0 == colon) ≡ false) → HasNoColon line place
+pub none_among : (line : List ℕ) (seen at place : ℕ) → at ≤ seen → place ≡ at + 16 → HasNoColon line seen
+    → ((k : ℕ) → k < 16 → (get_or line (at + k) 0 == colon) ≡ false) → HasNoColon line place
 none_among line seen at place le is none here = λ k lt.
     elim (cases_lt k seen) [
       | inl low ↦ none k low
@@ -34,7 +35,8 @@ none_cut : (line : List ℕ) (place n k : ℕ) → HasNoColon line place → (ge
 none_cut line place n k none =
     elim (cases_lt k (length (take n (take place line)))) [
       | inl low ↦
-          let before : (k < n) × (k < place) = (omega (arith, low, length-take n (take place line)), omega (arith, low, length-take n (take place line), length-take place line)) in
+          let before : (k < n) × (k < place) =
+          (omega (arith, low, length-take n (take place line)), omega (arith, low, length-take n (take place line), length-take place line)) in
           rw (get_or-take n (take place line) k 0 before.0, get_or-take place line k 0 before.1) (none k before.1)
       | inr past ↦ rw (get_or_past (take n (take place line)) k 0 past) refl
     ]

@@ -12,9 +12,15 @@ use Rattle.instants_words.proofs.WordLemmas.{digit_is}
 abbrev pub of_digits : List ℕ → ℕ
 of_digits bytes = digits_value 10 (filter is_ascii_digit bytes)
 
-one_more : (digits : List ℕ) (byte : ℕ) (b : Bool) → is_ascii_digit byte ≡ b → digits_value 10 (digits ++ (if b then byte ∷ [] else [])) ≡ (if b then digits_value 10 digits * 10 + (byte - 48) else digits_value 10 digits)
+one_more : (digits : List ℕ) (byte : ℕ) (b : Bool) → is_ascii_digit byte ≡ b
+    → digits_value 10 (digits ++ (if b then byte ∷ [] else []))
+    ≡ (if b then digits_value 10 digits * 10 + (byte - 48) else digits_value 10 digits)
 one_more digits byte true e = digits_value_push 10 digits byte ∙ ap (λ (n : ℕ). digits_value 10 digits * 10 + n) (digit_is byte e).0
 one_more digits byte false e = ap (digits_value 10) (append-nil digits)
 
-pub next_digit : (bytes : List ℕ) (i : ℕ) → i < length bytes → of_digits (take (i + 1) bytes) ≡ (if is_ascii_digit (get_or bytes i 0) then of_digits (take i bytes) * 10 + (get_or bytes i 0 - 48) else of_digits (take i bytes))
-next_digit bytes i h = rw (filter_more is_ascii_digit bytes i 0 h) (one_more (filter is_ascii_digit (take i bytes)) (get_or bytes i 0) (is_ascii_digit (get_or bytes i 0)) refl)
+pub next_digit : (bytes : List ℕ) (i : ℕ) → i < length bytes
+    → of_digits (take (i + 1) bytes)
+    ≡ (if is_ascii_digit (get_or bytes i 0) then of_digits (take i bytes) * 10 + (get_or bytes i 0 - 48) else of_digits (take i bytes))
+next_digit bytes i h =
+    rw (filter_more is_ascii_digit bytes i 0 h)
+    (one_more (filter is_ascii_digit (take i bytes)) (get_or bytes i 0) (is_ascii_digit (get_or bytes i 0)) refl)

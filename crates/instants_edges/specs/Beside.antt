@@ -52,20 +52,23 @@ number bytes = digits_value 10 (filter is_ascii_digit (take 5 bytes))
 abbrev pub seconds_in : List ℕ → ℕ
 seconds_in bytes = if nat_le (length bytes) 2 then number bytes * 3600 else number bytes / 100 * 3600 + number bytes % 100 * 60
 
--- a sign is a minus
+-- a sign is a minus: a hyphen, U+2212, or a hyphen as JSON may escape it
 abbrev pub is_minus : List ℕ → Bool
 is_minus sign = list_any (λ byte. byte == hyphen || byte == 226 || to_ascii_lowercase byte == 100) sign
 
--- an offset lies within fifteen hours of UTC
+-- so many seconds are an offset, which lies within fifteen hours of UTC
 abbrev pub within_fifteen_hours : Bool → ℕ → Option ℤ
 within_fifteen_hours minus seconds = if nat_lt seconds 54000 then Some (if minus then neg_ℤ (pos seconds) else pos seconds) else None
 
+-- the offset of a number in one of these forms after a sign of so many bytes
+abbrev pub said_after : List (List ℕ) → List ℕ → ℕ → Option ℤ
+said_after numbers bytes sign =
+    let long = word numbers (drop sign bytes) in
+    if long == 0 then None else within_fifteen_hours (is_minus (take sign bytes)) (seconds_in (take long (drop sign bytes)))
+
 -- the offset of a sign and a number in one of these forms
 abbrev pub said : List (List ℕ) → List ℕ → Option ℤ
-said numbers bytes =
-    let sign = begun signs bytes in
-    let long = word numbers (drop sign bytes) in
-    if sign == 0 || long == 0 then None else within_fifteen_hours (is_minus (take sign bytes)) (seconds_in (take long (drop sign bytes)))
+said numbers bytes = if begun signs bytes == 0 then None else said_after numbers bytes (begun signs bytes)
 
 -- a space and a bracket, or a space
 abbrev pub opening : List ℕ → ℕ
@@ -75,13 +78,14 @@ opening bytes = if not (get_or bytes 0 0 == space) then 0 else if is_one_of (cod
 abbrev pub said_directly : List ℕ → Option ℤ
 said_directly bytes = option_or (said (hours_and_minutes ++ hours) bytes) (said (codes "19" ∷ []) (drop (opening bytes) bytes))
 
--- the letters at the start name a zone, with an offset after them, or UTC alone
+-- the letters at the start name a zone, and an offset stands after them, directly or over a space, or UTC is named alone
 abbrev pub said_by_name : List ℕ → Option ℤ
 said_by_name bytes =
     let long = prefix_len is_ascii_alphabetic bytes in
     let others = drop long bytes in
-    let offset = if nat_lt 0 long && begun (names_of_utc ++ other_names) bytes == long then said (hours_and_minutes ++ hours) (drop (if get_or others 0 0 == space then 1 else 0) others) else None in
-    option_or offset (if not (word names_of_utc bytes == 0) then Some (pos 0) else None)
+    let number = drop (if get_or others 0 0 == space then 1 else 0) others in
+    let is_name = nat_lt 0 long && begun (names_of_utc ++ other_names) bytes == long in
+    option_or (if is_name then said (hours_and_minutes ++ hours) number else None) (if not (word names_of_utc bytes == 0) then Some (pos 0) else None)
 
 -- the offset that stands after a date
 unfoldable pub offset_after : List ℕ → Option ℤ
@@ -98,17 +102,20 @@ is_another (Some said) given = not (int_eq said given)
 abbrev pub inside : List (List ℕ)
 inside = codes "utc" ∷ codes "gmt" ∷ codes "z" ∷ []
 
--- a sign and four digits stand here after no word, which is an offset that was read as a year, or a year with a sign, or UTC is named while another offset is given
-abbrev pub is_another_at : List ℕ → ℤ → ℕ → Bool
-is_another_at line given place =
-    let bytes = drop place line in
-    (is_sign (get_or line place 0) && begin_so (codes "9999") (drop 1 bytes) && not (is_ascii_alphanumeric (byte_before line place 1))) ||
-    (not (int_eq given (pos 0)) && not (word inside bytes == 0) && is_edge line place)
+-- here stand a sign and four digits after no word: an offset that was read as a year, or a year with a sign
+abbrev pub is_signed_year : List ℕ → ℕ → Bool
+is_signed_year line place =
+    is_sign (get_or line place 0) && begin_so (codes "9999") (drop 1 (drop place line)) && not (is_ascii_alphanumeric (byte_before line place 1))
 
--- the line says another offset after a date that is read from a place up to another, or inside of what is read
+-- here UTC is named
+abbrev pub is_utc : List ℕ → ℕ → Bool
+is_utc line place = not (word inside (drop place line) == 0) && is_edge line place
+
+-- the line says another offset after a date that is read from a place up to another, or there is one inside of what is read, or UTC is named there
 unfoldable pub has_another_offset : List ℕ → ℕ → ℕ → ℤ → Bool
 has_another_offset line start ends given =
-    is_another (offset_after (after line ends)) given || is_any (is_another_at line given) start (ends - start)
+    is_another (offset_after (after line ends)) given || is_any (is_signed_year line) start (ends - start) ||
+    (not (int_eq given (pos 0)) && is_any (is_utc line) start (ends - start))
 
 -- ---- a time of day
 
@@ -157,11 +164,11 @@ is_joint bytes =
 abbrev pub is_year_before : List ℕ → ℕ → ℤ → ℕ → Bool
 is_year_before line begins year far =
     let place = begins - far in
-    nat_le far begins && is_other_year year (drop place line) && is_joint (drop (place + 4) (take begins line)) && is_edge line place
+    is_other_year year (drop place line) && is_joint (drop (place + 4) (take begins line)) && is_edge line place
 
--- it says another year
+-- it says another year, after a date or up to eleven bytes before it
 unfoldable pub has_another_year : List ℕ → ℕ → ℕ → ℤ → Bool
-has_another_year line begins ends year = is_year_after year (after line ends) || is_any (is_year_before line begins year) 5 7
+has_another_year line begins ends year = is_year_after year (after line ends) || is_any (is_year_before line begins year) 5 (min 7 (begins - 4))
 
 -- ---- a clock before a date
 

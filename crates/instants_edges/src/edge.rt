@@ -3,7 +3,7 @@ ghost use Rattle.std.specs.Prelude.{◌≡◌, ◌≤◌, ◌<◌, ◌-◌, ◌+
 ghost use Rattle.std.specs.List.{suffix_len};
 ghost use Rattle.instants_edges.specs.Edge as Edge;
 
-use crate::bytes::{byte_after, byte_at, byte_before};
+use crate::bytes::{byte_after, byte_at, byte_before, first_bytes};
 
 pub(crate) const ESCAPE: u8 = 27;
 
@@ -16,16 +16,16 @@ pub(crate) fn is_parameter(byte: u8) -> bool
 }
 
 // How many parameters of a control sequence end before a place.
+#[tactic(auto, using(crate::proofs::Prefixes::prefix_count))]
 fn parameters_before(line: &[u8], place: usize) -> usize
-    requires { place ≤ length line.now }
     ensures value { result ≡ suffix_len Edge.is_parameter (take place line.now) }
-    ensures within { result ≤ place }
+    ensures within { result ≤ length line.now }
 {
-    let mut start = place;
-    while start > 0 && is_parameter(line[start - 1]) {
-        start -= 1;
-    }
-    place - start
+    first_bytes(line, place)
+        .iter()
+        .rev()
+        .take_while(|byte| is_parameter(**byte))
+        .count()
 }
 
 // Whether what stands before the byte before a place begins a control sequence.
@@ -49,6 +49,7 @@ fn ends_sequence(line: &[u8], place: usize) -> bool
 
 // Whether a place stands between the minutes of a clock and its seconds.
 #[inline(always)]
+#[tactic(auto, using(std::proofs::lemmas::Bool::Decides::nat_tests))]
 fn is_inside_clock(line: &[u8], place: usize) -> bool
     requires { place ≤ length line.now }
     ensures { result ≡ Edge.is_inside_clock line.now place }

@@ -1,7 +1,5 @@
 //! The offset that a line says after a date, or inside of it.
-ghost use Rattle.std.specs.Prelude.{◌≡◌, ◌≤◌, ◌<◌, ◌==◌, ◌&&◌, not, IsTrue, codes, length, map, drop, get_or};
-ghost use Rattle.std.specs.Char.{is_ascii_alphanumeric};
-ghost use Rattle.instants_edges.specs.Edge.{byte_before, is_sign};
+ghost use Rattle.std.specs.Prelude.{◌≡◌, ◌≤◌, ◌<◌, ◌-◌, ◌==◌, not, IsTrue, length, map};
 ghost use Rattle.instants_edges.specs.Words as Words;
 ghost use Rattle.instants_edges.specs.Beside as Beside;
 
@@ -45,14 +43,11 @@ fn within_fifteen_hours(minus: bool, seconds: u32) -> Option<i32>
     if minus { Some(-offset) } else { Some(offset) }
 }
 
-// The offset of a sign and a number in one of these forms.
-fn said(numbers: &[&[u8]], bytes: &[u8]) -> Option<i32>
-    ensures { result ≡ Beside.said (map (λ form. form.now) numbers.now) bytes.now }
+// The offset of a number in one of these forms after a sign of so many bytes.
+#[inline(never)]
+fn said_after(numbers: &[&[u8]], bytes: &[u8], sign: usize) -> Option<i32>
+    ensures { result ≡ Beside.said_after (map (λ form. form.now) numbers.now) bytes.now sign }
 {
-    let sign = sign_length(bytes);
-    if sign == 0 {
-        return None;
-    }
     let others = rest_from(bytes, sign);
     let long = word(numbers, others);
     if long == 0 {
@@ -60,6 +55,18 @@ fn said(numbers: &[&[u8]], bytes: &[u8]) -> Option<i32>
     }
     let seconds = seconds_in(first_bytes(others, long));
     within_fifteen_hours(is_minus(first_bytes(bytes, sign)), seconds)
+}
+
+// The offset of a sign and a number in one of these forms. Most bytes begin with no sign, so the rest is a call of its own.
+#[inline(always)]
+fn said(numbers: &[&[u8]], bytes: &[u8]) -> Option<i32>
+    ensures { result ≡ Beside.said (map (λ form. form.now) numbers.now) bytes.now }
+{
+    let sign = sign_length(bytes);
+    if sign == 0 {
+        return None;
+    }
+    said_after(numbers, bytes, sign)
 }
 
 // The length of a space and a bracket at the start, or of a space.
@@ -86,7 +93,7 @@ fn said_directly(bytes: &[u8]) -> Option<i32>
 // Whether UTC is named at the start. Few bytes begin a name of it, so the names are tried after those alone.
 #[inline(always)]
 #[tactic(auto, using(crate::proofs::FirstBytes::no_utc))]
-fn is_utc(bytes: &[u8]) -> bool
+fn is_utc_after(bytes: &[u8]) -> bool
     ensures { result ≡ not (Words.word Words.names_of_utc bytes.now == 0) }
 {
     matches!(byte_at(bytes, 0).to_ascii_lowercase(), b'u' | b'g' | b'z')
@@ -104,7 +111,7 @@ fn said_by_name(bytes: &[u8]) -> Option<i32>
     if said.is_some() && long > 0 && begun(&NAMES, bytes) == long {
         return said;
     }
-    is_utc(bytes).then_some(0)
+    is_utc_after(bytes).then_some(0)
 }
 
 // The offset after a date.
@@ -141,25 +148,33 @@ fn is_utc_inside(bytes: &[u8]) -> bool
 // Whether a sign and four digits stand at a place after no word.
 #[inline(always)]
 fn is_signed_year(line: &[u8], place: usize) -> bool
-    ensures { result
-        ≡ (is_sign (get_or line.now place 0)
-        && Words.begin_so (codes "9999") (drop 1 (drop place line.now))
-        && not (is_ascii_alphanumeric (byte_before line.now place 1))) }
+    ensures { result ≡ Beside.is_signed_year line.now place }
 {
     is_sign(byte_at(line, place))
         && begin_so(b"9999", rest_from(rest_from(line, place), 1))
         && !byte_before(line, place, 1).is_ascii_alphanumeric()
 }
 
-// Whether they do, or UTC is named there while another offset is given.
-#[inline(always)]
-fn is_another_at(line: &[u8], given: UtcOffset, place: usize) -> bool
-    ensures { result ≡ Beside.is_another_at line.now given place }
+// Whether they do at a place from one up to another.
+fn has_signed_year(line: &[u8], start: usize, ends: usize) -> bool
+    ensures { result ≡ Beside.is_any (Beside.is_signed_year line.now) start (ends - start) }
 {
-    is_signed_year(line, place)
-        || (given.whole_seconds() != 0
-            && is_utc_inside(rest_from(line, place))
-            && is_edge(line, place))
+    (start..ends).any(|place| is_signed_year(line, place))
+}
+
+// Whether UTC is named at a place.
+#[inline(always)]
+fn is_utc(line: &[u8], place: usize) -> bool
+    ensures { result ≡ Beside.is_utc line.now place }
+{
+    is_utc_inside(rest_from(line, place)) && is_edge(line, place)
+}
+
+// Whether it is at a place from one up to another.
+fn has_utc(line: &[u8], start: usize, ends: usize) -> bool
+    ensures { result ≡ Beside.is_any (Beside.is_utc line.now) start (ends - start) }
+{
+    (start..ends).any(|place| is_utc(line, place))
 }
 
 /// Whether a line says another offset than the one given, after a date that is read from a place up to another, or inside
@@ -170,5 +185,6 @@ pub fn has_another_offset(line: &[u8], start: usize, ends: usize, given: UtcOffs
     ensures { result ≡ Beside.has_another_offset line.now start ends given }
 {
     is_another(offset_after(after(line, ends)), given)
-        || (start..ends).any(|place| is_another_at(line, given, place))
+        || has_signed_year(line, start, ends)
+        || (given.whole_seconds() != 0 && has_utc(line, start, ends))
 }

@@ -41,20 +41,21 @@ pub fn zone_length(bytes: &[u8]) -> usize
 }
 
 // How many digits end the bytes.
+#[tactic(auto, using(crate::proofs::Prefixes::prefix_count))]
 fn last_digits(bytes: &[u8]) -> usize
     ensures value { result ≡ suffix_len is_ascii_digit bytes.now }
     ensures within { result ≤ length bytes.now }
 {
-    let mut start = bytes.len();
-    while start > 0 && bytes[start - 1].is_ascii_digit() {
-        start -= 1;
-    }
-    bytes.len() - start
+    bytes
+        .iter()
+        .rev()
+        .take_while(|byte| byte.is_ascii_digit())
+        .count()
 }
 
 /// Where a date that begins and ends at these places reaches to for sure: to a comma before its last digits, if they
 /// are no fraction, and else to the end of its zone, which is given.
-#[tactic(auto, unfolding(crate::specs::Pieces::reach))]
+#[tactic(auto, using(std::proofs::lemmas::Grind::common_steps), unfolding(crate::specs::Pieces::reach))]
 pub fn reach(line: &[u8], begins: usize, ends: usize, zone: usize) -> usize
     requires { ends ≤ length line.now }
     ensures { result ≡ Pieces.reach line.now begins ends zone }

@@ -3,7 +3,7 @@ ghost use Rattle.std.specs.Prelude.{◌≡◌, ◌≤◌, ◌<◌, ◌+◌, ◌-
 ghost use Rattle.instants_edges.specs.Text as Text;
 ghost use Rattle.instants_edges.specs.Edge.{byte_before};
 
-use crate::bytes::{byte_after, byte_at, byte_before, digits_length};
+use crate::bytes::{byte_after, byte_at, byte_before, digits_length, rest_from};
 
 // Whether a list or a number goes on at a place.
 fn is_continued(bytes: &[u8], place: usize) -> bool
@@ -27,14 +27,16 @@ pub(crate) fn is_fraction(bytes: &[u8]) -> bool
 
 // Whether the byte at a place is one that ends a date of ISO 8601.
 #[inline(always)]
+#[tactic(auto, using(std::proofs::lemmas::Bool::Decides::nat_tests))]
 fn is_stop(bytes: &[u8], place: usize) -> bool
     requires { place < length bytes.now }
     ensures { result
         ≡ Text.is_stop (get_or bytes.now place 0) (drop (place + 1) bytes.now) }
 {
+    let after = rest_from(bytes, place + 1);
     match bytes[place] {
-        b'.' | b':' => !byte_at(bytes, place + 1).is_ascii_digit(),
-        b',' => !byte_at(bytes, place + 1).is_ascii_digit() || !is_fraction(&bytes[place + 1..]),
+        b'.' | b':' => !byte_at(after, 0).is_ascii_digit(),
+        b',' => !byte_at(after, 0).is_ascii_digit() || !is_fraction(after),
         _ => false,
     }
 }

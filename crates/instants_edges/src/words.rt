@@ -78,6 +78,7 @@ pub(crate) fn sign_length(bytes: &[u8]) -> usize
 }
 
 /// The length of a sign and a number in one of these forms, and 0 where there is none.
+#[inline]
 pub(crate) fn signed(numbers: &[&[u8]], bytes: &[u8]) -> usize
     ensures value { result ≡ Words.signed (map (λ form. form.now) numbers.now) bytes.now }
     ensures within { result ≤ length bytes.now }

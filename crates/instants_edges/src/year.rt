@@ -78,10 +78,7 @@ fn is_year_before(line: &[u8], begins: usize, year: i32, far: usize) -> bool
     requires { begins ≤ length line.now }
     ensures { result ≡ Beside.is_year_before line.now begins year far }
 {
-    if far > begins {
-        return false;
-    }
-    let place = begins - far;
+    let place = begins.saturating_sub(far);
     is_other_year(year, rest_from(line, place))
         && is_joint(rest_from(first_bytes(line, begins), place + 4))
         && is_edge(line, place)
@@ -94,5 +91,5 @@ pub fn has_another_year(line: &[u8], begins: usize, ends: usize, year: i32) -> b
     ensures { result ≡ Beside.has_another_year line.now begins ends year }
 {
     is_year_after(year, after(line, ends))
-        || (5..12).any(|far| is_year_before(line, begins, year, far))
+        || (5..12.min(begins + 1)).any(|far| is_year_before(line, begins, year, far))
 }

@@ -9,6 +9,8 @@ pub returns : goal.returns
 unfolding has_clock_before
 returns c =
     let before = c.first_bytes-before.result.now in
-    let is : before ≡ take_while (λ byte. not (byte == 34)) (take c.args.place c.args.line.now) = rw (c.first_bytes-before.ensures, c.quote_place.ensures, c.first_bytes-bytes.ensures) refl in
+    let is : before ≡ take_while (λ byte. not (byte == 34)) (take c.args.place c.args.line.now) =
+    rw (c.first_bytes-before.ensures, c.quote_place.ensures, c.first_bytes-bytes.ensures) refl in
     let P : List ℕ → Type 0 = λ xs. c.any.result ≡ is_any (begins_seconds xs) 0 (length xs) in
-    subst P is (any_from_yields_List (begins_seconds before) _ _ c.any.result c.any.ensures.ran (YieldsList-from_range 0 (length before) (length before) (cc) (omega arith)) (λ x b q k. search (rules, tests)))
+    subst P is (any_from_yields_List (begins_seconds before) _ _ c.any.result c.any.ensures.ran
+    (YieldsList-from_range 0 (length before) (length before) (cc) (omega arith)) (λ x b q k. search (rules, tests)))
