@@ -94,9 +94,7 @@ whole_within text n = let here = trimmed_within (take n text) in let long = leng
 lengths_within : (grammar : Grammar) (text rest : List ℕ) → AreWithin text (lengths grammar text rest)
 unfolding lengths
 lengths_within (Described written) text rest = by_within (language_of written) text (items_written written)
-lengths_within Rfc2822 text rest = whole_within text (length text - length rest)
-lengths_within Rfc3339 text rest = whole_within text (length text - length rest)
-lengths_within Iso8601 text rest = whole_within text (length text - length rest)
+lengths_within _ text rest = whole_within text (length text - length rest)
 
 pub prefix_within : (grammar : Grammar) (text : List ℕ) (moment : Shown) (rest : List ℕ) → IsWithin text (with_lengths text moment rest (lengths grammar text rest))
 prefix_within grammar text moment rest =

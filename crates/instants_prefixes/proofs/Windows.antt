@@ -14,10 +14,9 @@ all_of_it bytes = (length bytes, omega arith, sym (take-length bytes))
 -- the text of a source is a prefix of the bytes within the window
 text_prefix : (grammar : Grammar) (bytes : List ℕ) → IsPrefix (text_for grammar bytes) (take 256 bytes)
 unfolding text_for
-text_prefix (Described written) bytes = all_of_it (take 256 bytes)
 text_prefix Rfc2822 bytes = mail_is_prefix 0 (take 256 bytes)
-text_prefix Rfc3339 bytes = all_of_it (take 256 bytes)
 text_prefix Iso8601 bytes = iso_is_prefix (take 256 bytes)
+text_prefix _ bytes = all_of_it (take 256 bytes)
 
 -- a source is given no more than the bytes within the window
 pub text_within : (grammar : Grammar) (bytes : List ℕ) → length (text_for grammar bytes) ≤ length (take 256 bytes)

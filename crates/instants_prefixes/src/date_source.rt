@@ -7,9 +7,10 @@ ghost use Rattle.instants_prefixes.specs.Ends.{AreEnds, items_in};
 
 use crate::contents::Contents;
 use crate::ends::Ends;
+use crate::extent::extent_by_texts;
 use crate::given::Given;
 use crate::lacks::{Lack, lack_of};
-use crate::lengths::{prefix_by_texts, prefix_of};
+use crate::lengths::prefix_of;
 use crate::named::{assumed, prefix_named, record_of};
 use crate::prefix::Prefix;
 use crate::ruled_out::rules_out;
@@ -111,12 +112,12 @@ impl<'a> DateSource<'a> {
         let Some((fields, rest)) = described.read_prefix(text, assumed(self.contents, given)) else {
             return None;
         };
-        let moment = Named::of_fields(fields);
-        let description = described.description();
-        let Some(prefix) = prefix_by_texts(description, &self.ends, text, moment, rest) else {
+        let read = text.len().saturating_sub(rest.len());
+        let Some(extent) = extent_by_texts(&self.ends, read) else {
             return None;
         };
-        Some(prefix)
+        let moment = Named::of_fields(fields);
+        Some(Prefix::of_extent(extent, text, moment, rest))
     }
 
     /// The prefix of bytes that a plan reads as a date, where texts alone stand around what it says: `None` says nothing of the

@@ -10,7 +10,7 @@ ghost use Rattle.instants_prefixes.specs.Lengths.{length_by};
 use parsing_record::{NodeStep, Parsed, ReadsNode};
 
 // Reads by one node: `None` where it is refused, and then the record holds anything.
-#[tactic(auto, unfolding(parsing_components::specs::Reads::reads, parsing_components::specs::Meaning::optionally))]
+#[tactic(auto, unfolding(parsing_components::specs::Reads::reads, parsing_components::specs::Meaning::optionally, parsing_components::proofs::lemmas::Sizes::size))]
 #[cycle(reading)]
 fn read_node<'a, N: ReadsNode>(node: &N, input: &'a [u8], parsed: &mut Parsed) -> Option<&'a [u8]>
     ensures answer { Answered result parsed.new
@@ -47,6 +47,7 @@ fn read_optional<'a, N: ReadsNode>(
 }
 
 // Reads by each node in turn.
+#[tactic(auto, using(parsing_components::proofs::lemmas::Sizes::one_of_them))]
 #[cycle(reading)]
 fn read_nodes<'a, N: ReadsNode>(
     nodes: &[N],
@@ -67,6 +68,7 @@ fn read_nodes<'a, N: ReadsNode>(
 }
 
 // Reads by the first node that reads.
+#[tactic(auto, using(parsing_components::proofs::lemmas::Sizes::one_of_them))]
 #[cycle(reading)]
 fn read_first<'a, N: ReadsNode>(
     nodes: &[N],
