@@ -11,7 +11,7 @@ use Rattle.description_items.specs.Tree.{Tree, listed}
 use Rattle.parsing_record.specs.Meaning.{Answer}
 use Rattle.parsing_record.specs.Record.{empty}
 use Rattle.parsing_record.specs.Reads.{Language, reading_of_all}
-use Rattle.instants_sources.specs.Grammar.{Grammar, Described, Rfc2822, Rfc3339, Iso8601}
+use Rattle.instants_sources.specs.Grammar.{Grammar, Described}
 use Rattle.instants_sources.specs.Reading.{reading_of}
 use Rattle.instants_sources.specs.Written.{language_of}
 use Rattle.instants_edges.specs.Pieces.{blanks, trimmed_length, zone_length}

@@ -4,7 +4,7 @@ use Rattle.std.specs.Prelude.{bytes_eq, if◌then◌else◌}
 use Rattle.std.proofs.lemmas.List.{drop-drop, length-take}
 use Rattle.std.proofs.lemmas.Slice.Eq.{bytes_eq-Decides}
 use Rattle.parsing_combinator.specs.Readings.{then_read}
-use Rattle.description_items.specs.Tree.{Tree, Trees, Literal, Part, Compound, Optional, First, none, also, listed}
+use Rattle.description_items.specs.Tree.{Tree, Trees, Literal, Compound, none, also, listed}
 use Rattle.parsing_combinator.specs.Fault.{literal}
 use Rattle.parsing_record.specs.Meaning.{Answer, literally, then_counted, all_of}
 use Rattle.parsing_components.specs.declared.fields.Record.{Record}

@@ -12,9 +12,9 @@ use Rattle.parsing_record.specs.Meaning.{Answer}
 use Rattle.parsing_record.specs.Parts.{date_parts, time_parts}
 use Rattle.parsing_components.specs.declared.fields.Record.{Record}
 use Rattle.parsing_record.specs.Record.{empty}
-use Rattle.instants_sources.specs.Grammar.{Grammar, Described, Rfc2822, Rfc3339, Iso8601, Written}
+use Rattle.instants_sources.specs.Grammar.{Grammar, Described, Written}
 use Rattle.instants_sources.specs.Written.{reads_written}
-use Rattle.instants_prefixes.specs.Given.{Given, Years, Unknown, In, Near, lacks_year, moment_of, with_time, with_year, completed}
+use Rattle.instants_prefixes.specs.Given.{Given, Years, Unknown, lacks_year, moment_of, with_time, with_year, completed}
 use Rattle.instants_prefixes.specs.Lacks.{Lack, Year, Day, Time, Offset, may, is_known, takes_year, has_year, has_iso_year, has_day, has_date, has_hour, has_gap, has_time, has_offset, lack}
 use Rattle.instants_prefixes.specs.Kinds.{is_newer}
 use Rattle.instants_prefixes.specs.Reading.{written_has, prefix_named, prefix_of, followed, is_likely, record_of}

@@ -2,7 +2,7 @@
 use Rattle.std.proofs.Common.{◌≡◌, ◌⊎◌, inl, inr, ◌≤◌, ℕ, zero, suc, List, [], ◌∷◌, length, take, get_or, refl, sym, ap, ◌∙◌, arith}
 use Rattle.std.proofs.lemmas.List.{length-take}
 use Rattle.instants_edges.proofs.TextPrefixes.{IsPrefix, iso_is_prefix, mail_is_prefix}
-use Rattle.instants_sources.specs.Grammar.{Grammar, Described, Rfc2822, Rfc3339, Iso8601}
+use Rattle.instants_sources.specs.Grammar.{Grammar, Rfc2822, Iso8601}
 use Rattle.instants_prefixes.specs.Reading.{text_for}
 use Rattle.std.proofs.Math.Seq.{take-length}
 

@@ -115,6 +115,7 @@ fn give_offset(parsed: &mut Parsed, offset: Option<UtcOffset>)
 
 // The moment of a record, with a year given or none.
 #[inline(never)]
+#[tactic(auto, using(crate::proofs::Completing::answered))]
 fn moment_in(given: &Given, year: Option<i32>, read: &Parsed) -> Option<OffsetDateTime>
     ensures { result ≡ Gift.moment_in given.now year read.now }
 {

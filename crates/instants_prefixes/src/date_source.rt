@@ -68,6 +68,7 @@ impl<'a> DateSource<'a> {
 
     /// Whether it may read numbers of Unix time.
     #[inline(always)]
+    #[tactic(auto, using(crate::proofs::Unread::timeless_at))]
     pub fn may_read_unix_time(&self) -> bool
         ensures { result ≡ false → (bytes : List ℕ)
             → (record_at (grammar_in self.now) bytes).unix_timestamp_nanos ≡ None }
@@ -134,6 +135,7 @@ impl<'a> DateSource<'a> {
     /// The prefix of bytes that the source reads as a date, with what is given where the date lacks it. It lies within the
     /// first 256 bytes.
     #[inline(never)]
+    #[tactic(auto, unfolding(crate::specs::Prefix::prefix_at))]
     pub fn read(&self, bytes: &[u8], given: &Given) -> Option<Prefix>
         ensures prefix { result ≡ prefix_at given.now (grammar_in self.now) bytes.now }
         ensures within { IfSome result (IsWithin bytes.now) }
@@ -148,6 +150,7 @@ impl<'a> DateSource<'a> {
     }
 
     /// What the source lacks to name a moment with what is given: such a source finds no date in any line.
+    #[tactic(auto, unfolding(crate::specs::Prefix::prefix_at), using(crate::proofs::Unnamed::finds_nothing))]
     pub fn lack(&self, given: &Given) -> Option<Lack>
         ensures value { result ≡ lack given.now (grammar_in self.now) }
         ensures finds_nothing { IfSome result

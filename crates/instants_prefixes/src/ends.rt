@@ -81,6 +81,7 @@ fn texts_at_start<N: Node>(nodes: &[N]) -> usize
 }
 
 // How long the items are together, where all are texts.
+#[tactic(auto, using(crate::proofs::Counts::no_more))]
 fn length_of_texts<N: Node>(nodes: &[N]) -> Option<usize>
     ensures { IfSome result (λ long. AreTexts (map N.tree nodes.now) long) }
 {
@@ -139,6 +140,7 @@ impl Ends {
 }
 
 // Those of a tree.
+#[tactic(auto, using(crate::proofs::Turns::compound_items))]
 fn ends_of_tree(description: &FormatDescriptionV3<'_>) -> Ends
     ensures { AreEnds (items_of (v3_tree description.now)) result }
 {

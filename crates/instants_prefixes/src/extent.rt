@@ -50,6 +50,7 @@ fn by_reading<N: ReadsNode>(nodes: &[N], ends: &Ends, text: &[u8]) -> Extent
 }
 
 // By reading the text again by a tree.
+#[tactic(auto, using(crate::proofs::Turns::compound_items, crate::proofs::Turns::single_items))]
 fn by_reading_tree(tree: &FormatDescriptionV3<'_>, ends: &Ends, text: &[u8]) -> Extent
     requires { AreEnds (items_of (v3_tree tree.now)) ends.now }
     ensures { IsExtent reads_component_v3 (items_of (v3_tree tree.now)) text.now result }

@@ -20,29 +20,15 @@ fn read_node<'a, N: ReadsNode>(node: &N, input: &'a [u8], parsed: &mut Parsed) -
         NodeStep::Literal(text) => Parsed::parse_literal(input, text).ok(),
         NodeStep::Component(component) => N::read_component(component, input, parsed).ok(),
         NodeStep::Compound(nodes) => read_nodes(nodes, input, parsed),
-        NodeStep::Optional(_, node) => read_optional(node, input, parsed),
-        NodeStep::First(nodes) => read_first(nodes, input, parsed),
-    }
-}
-
-// Reads by the node, or leaves everything as it was.
-#[tactic(auto, unfolding(parsing_components::specs::Meaning::optionally))]
-#[cycle(reading)]
-fn read_optional<'a, N: ReadsNode>(
-    node: &N,
-    input: &'a [u8],
-    parsed: &mut Parsed,
-) -> Option<&'a [u8]>
-    ensures answer { Answered result parsed.new
-        (optionally (reads N.language (N.tree node.now)) parsed.old input.now).0 }
-{
-    let before = *parsed;
-    match read_node(node, input, parsed) {
-        Some(rest) => Some(rest),
-        None => {
+        NodeStep::Optional(_, node) => {
+            let before = *parsed;
+            if let Some(rest) = read_node(node, input, parsed) {
+                return Some(rest);
+            }
             *parsed = before;
             Some(input)
         }
+        NodeStep::First(nodes) => read_first(nodes, input, parsed),
     }
 }
 
