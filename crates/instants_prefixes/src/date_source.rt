@@ -86,6 +86,7 @@ impl<'a> DateSource<'a> {
 
     // The prefix of bytes that the source reads as a date, with what is given where the date lacks it.
     #[inline(never)]
+    #[tactic(auto, using(crate::proofs::PrefixesAt::prefix_at_is))]
     fn read_any(&self, bytes: &[u8], given: &Given) -> Option<Prefix>
         ensures prefix { result ≡ prefix_at given.now (grammar_in self.now) bytes.now }
         ensures within { IfSome result (IsWithin bytes.now) }

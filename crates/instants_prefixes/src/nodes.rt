@@ -33,7 +33,7 @@ fn read_node<'a, N: ReadsNode>(node: &N, input: &'a [u8], parsed: &mut Parsed) -
 }
 
 // Reads by each node in turn.
-#[tactic(auto, using(parsing_components::proofs::lemmas::Sizes::one_of_them))]
+#[tactic(auto, using(parsing_components::proofs::lemmas::Sizes::one_of_them, parsing_record::proofs::lemmas::Steps::stops, parsing_record::proofs::lemmas::Steps::ends))]
 #[cycle(reading)]
 fn read_nodes<'a, N: ReadsNode>(
     nodes: &[N],

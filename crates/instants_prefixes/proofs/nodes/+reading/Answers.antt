@@ -2,23 +2,15 @@ use Rattle.std.proofs.Common.{◌≡◌, ◌+◌, ◌==◌, true, false, length,
 use Rattle.std.specs.Option.{is_none}
 use Rattle.std.proofs.lemmas.Bool.Decides.{nat_tests}
 use Rattle.parsing_record.specs.Reads.{reading}
-use Rattle.parsing_record.proofs.lemmas.Steps.{goes_on, stops, ends, after_refused, after_read, first_fault}
+use Rattle.parsing_record.proofs.lemmas.Steps.{goes_on, after_refused, after_read, first_fault}
 use Rattle.instants_prefixes.proofs.Firsts.{ended_none, ended_some}
 use Rattle.instants_prefixes.proofs.nodes.+reading.Goals as goal
 
 -- ---- one node after the other
 
-pub read_nodes-returns-in_default : goal.read_nodes-returns-in_default
-read_nodes-returns-in_default g t c =
-    let refused = c.in_default.ensures.answer in
-    record { answer = (refused.0, stops g.N.Node.language g.N.Node.tree c.args.nodes.now c.loop-node.node-index c.node-item.result c.loop-node.parsed c.loop-node.rest.now refused.0 _ c.loop-node-test.true c.node-item.is refused.1 c.loop-node.invariant) }
-
 pub read_nodes-loop-node-preserved : goal.read_nodes-loop-node-preserved
 read_nodes-loop-node-preserved g t c =
     goes_on g.N.Node.language g.N.Node.tree c.args.nodes.now c.loop-node.node-index c.node-item.result c.loop-node.parsed c.read_node.new.parsed c.loop-node.rest.now c.in-Some.next.now _ c.loop-node-test.true c.node-item.is c.in-Some.ensures.answer c.loop-node.invariant
-
-pub read_nodes-returns : goal.read_nodes-returns
-read_nodes-returns g t c = record { answer = ends g.N.Node.language g.N.Node.tree c.args.nodes.now c.loop-node.node-index c.loop-node.parsed c.loop-node.rest.now _ c.loop-node-test.false c.loop-node.invariant }
 
 -- ---- the first that reads
 
