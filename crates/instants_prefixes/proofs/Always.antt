@@ -2,6 +2,7 @@
 use Rattle.std.proofs.Common.{◌≡◌, ◌&&◌, ◌⊎◌, inl, inr, ℕ, Bool, true, false, List, Result, Ok, Err, refl}
 use Rattle.std.specs.Prelude.{is_some}
 use Rattle.std.specs.Option.{is_none}
+use Rattle.std.proofs.lemmas.Bool.{and_right}
 use Rattle.description_items.specs.declared.component.Component.{Component}
 use Rattle.description_items.specs.declared.component.Component.TheVariants as component
 use Rattle.description_items.specs.Modern.{modern}
@@ -71,11 +72,9 @@ mutual
   unfolding reads each_reads all_of
 
   tree_makes : (S : Record → Type 0) (language : Language) (kind : Component → Bool) → SetsIn S language kind → (t : Tree) → has false kind t ≡ true → (r : Record) (bytes : List ℕ) → Makes S (meaning (reads language t) r bytes)
-  tree_makes S language kind sets (Literal text) e r bytes = absurd cc
   tree_makes S language kind sets (Part c) e r bytes = sets.makes c e r bytes
   tree_makes S language kind sets (Compound ts) e r bytes = trees_make S language kind sets ts e r bytes
-  tree_makes S language kind sets (Optional format t) e r bytes = absurd cc
-  tree_makes S language kind sets (First ts) e r bytes = absurd cc
+  tree_makes S language kind sets _ e r bytes = absurd cc
 
   trees_make : (S : Record → Type 0) (language : Language) (kind : Component → Bool) → SetsIn S language kind → (ts : Trees) → any_has false kind ts ≡ true → (r : Record) (bytes : List ℕ) → Makes S (meaning (all_of (each_reads language ts)) r bytes)
   trees_make S language kind sets none e r bytes = absurd cc
@@ -104,29 +103,25 @@ always_makes S kind sets (V3 tree) stands r bytes =
 
 -- ---- the kinds
 
-and_false : (b : Bool) → (b && false) ≡ false
-and_false true = refl
-and_false false = refl
-
 pub year_sets : Sets (λ r. lacks_year r ≡ false) is_year_part
 year_sets (component.CalendarYearFullExtendedRange m) said r h = refl
 year_sets (component.CalendarYearFullStandardRange m) said r h = refl
-year_sets (component.CalendarYearCenturyExtendedRange m) said r h = rw (and_false (is_none r.year)) refl
-year_sets (component.CalendarYearCenturyStandardRange m) said r h = rw (and_false (is_none r.year)) refl
-year_sets (component.IsoYearFullExtendedRange m) said r h = and_false (is_none r.year && is_none r.year_century)
-year_sets (component.IsoYearFullStandardRange m) said r h = and_false (is_none r.year && is_none r.year_century)
-year_sets (component.IsoYearCenturyExtendedRange m) said r h = rw (and_false (is_none r.iso_year)) (and_false (is_none r.year && is_none r.year_century))
-year_sets (component.IsoYearCenturyStandardRange m) said r h = rw (and_false (is_none r.iso_year)) (and_false (is_none r.year && is_none r.year_century))
+year_sets (component.CalendarYearCenturyExtendedRange m) said r h = rw (and_right (is_none r.year) false refl) refl
+year_sets (component.CalendarYearCenturyStandardRange m) said r h = rw (and_right (is_none r.year) false refl) refl
+year_sets (component.IsoYearFullExtendedRange m) said r h = and_right (is_none r.year && is_none r.year_century) false refl
+year_sets (component.IsoYearFullStandardRange m) said r h = and_right (is_none r.year && is_none r.year_century) false refl
+year_sets (component.IsoYearCenturyExtendedRange m) said r h = rw (and_right (is_none r.iso_year) false refl) (and_right (is_none r.year && is_none r.year_century) false refl)
+year_sets (component.IsoYearCenturyStandardRange m) said r h = rw (and_right (is_none r.iso_year) false refl) (and_right (is_none r.year && is_none r.year_century) false refl)
 year_sets _ said r (inl e) = absurd cc
 year_sets _ said r (inr h) = h
 
 pub time_sets : Sets (λ r. lacks_time r ≡ false) is_time_part
 time_sets (component.Hour24 m) said r h = refl
-time_sets (component.Hour12 m) said r h = rw (and_false (is_none r.hour_24)) refl
-time_sets (component.Period m) said r h = rw (and_false (is_none r.hour_24 && is_none r.hour_12)) refl
-time_sets (component.Minute m) said r h = and_false ((is_none r.hour_24 && is_none r.hour_12) && is_none r.hour_12_is_pm)
-time_sets (component.Second m) said r h = rw (and_false (is_none r.minute)) (and_false ((is_none r.hour_24 && is_none r.hour_12) && is_none r.hour_12_is_pm))
-time_sets (component.Subsecond m) said r h = rw (and_false (is_none r.minute && is_none r.second)) (and_false ((is_none r.hour_24 && is_none r.hour_12) && is_none r.hour_12_is_pm))
+time_sets (component.Hour12 m) said r h = rw (and_right (is_none r.hour_24) false refl) refl
+time_sets (component.Period m) said r h = rw (and_right (is_none r.hour_24 && is_none r.hour_12) false refl) refl
+time_sets (component.Minute m) said r h = and_right ((is_none r.hour_24 && is_none r.hour_12) && is_none r.hour_12_is_pm) false refl
+time_sets (component.Second m) said r h = rw (and_right (is_none r.minute) false refl) (and_right ((is_none r.hour_24 && is_none r.hour_12) && is_none r.hour_12_is_pm) false refl)
+time_sets (component.Subsecond m) said r h = rw (and_right (is_none r.minute && is_none r.second) false refl) (and_right ((is_none r.hour_24 && is_none r.hour_12) && is_none r.hour_12_is_pm) false refl)
 time_sets _ said r (inl e) = absurd cc
 time_sets _ said r (inr h) = h
 

@@ -1,5 +1,6 @@
 -- The texts before the first item that says something and after the last.
-use Rattle.std.proofs.Common.{◌≡◌, ◌-◌, ℕ, List, length, take, drop, map, Option, sym, ap, ◌∙◌, subst}
+use mathlib.Core.List.{reverse_aux}
+use Rattle.std.proofs.Common.{◌≡◌, ◌+◌, ◌-◌, ℕ, Bool, cond, List, [], ◌∷◌, length, take, drop, map, reverse, Option, refl, sym, ap, ◌∙◌, subst}
 use Rattle.std.specs.Prelude.{IfSome}
 use Rattle.std.specs.Option.{ForSome}
 use Rattle.std.specs.List.{prefix_len, suffix_len}
@@ -9,8 +10,18 @@ use Rattle.instants_prefixes.specs.Ends.{AreTexts, AreTextsOf}
 use Rattle.instants_prefixes.specs.Lengths.{is_silent}
 use Rattle.instants_prefixes.specs.declared.ends.Texts.{Texts}
 
-pub last_is : {X : Type 0} (tree : X → Tree) (nodes : List X) (last : ℕ) → last ≡ length nodes - suffix_len is_silent (map tree nodes) → last ≡ length (map tree nodes) - suffix_len is_silent (map tree nodes)
-last_is tree nodes last e = e ∙ ap (λ n. n - suffix_len is_silent (map tree nodes)) (sym (length-map nodes tree))
+-- counted before a change or after it
+pub prefix_map : {X : Type 0} (p : Tree → Bool) (tree : X → Tree) (xs : List X) → prefix_len (λ x. p (tree x)) xs ≡ prefix_len p (map tree xs)
+prefix_map p tree [] = refl
+prefix_map p tree (x ∷ xs) = ap (λ n. cond (p (tree x)) (1 + n) 0) (prefix_map p tree xs)
+
+reversed_map : {X : Type 0} (tree : X → Tree) (xs ys : List X) → map tree (reverse_aux xs ys) ≡ reverse_aux (map tree xs) (map tree ys)
+reversed_map tree [] ys = refl
+reversed_map tree (x ∷ xs) ys = reversed_map tree xs (x ∷ ys)
+
+pub last_is : {X : Type 0} (tree : X → Tree) (nodes : List X) (silent : ℕ) → silent ≡ suffix_len (λ x. is_silent (tree x)) nodes → length nodes - silent ≡ length (map tree nodes) - suffix_len is_silent (map tree nodes)
+last_is tree nodes silent e =
+    ap (λ n. n - silent) (sym (length-map nodes tree)) ∙ ap (λ n. length (map tree nodes) - n) (e ∙ prefix_map is_silent tree (reverse nodes) ∙ ap (prefix_len is_silent) (reversed_map tree nodes []))
 
 pub texts_of : {X : Type 0} (tree : X → Tree) (nodes : List X) (first last : ℕ) (o : Option Texts) → first ≡ prefix_len is_silent (map tree nodes) → last ≡ length (map tree nodes) - suffix_len is_silent (map tree nodes) → IfSome o (λ texts. AreTexts (map tree (take first nodes)) texts.prefix) → IfSome o (λ texts. AreTexts (map tree (drop last nodes)) texts.back) → ForSome o (AreTextsOf (map tree nodes))
 texts_of tree nodes first last o f l prefix back = λ texts is.

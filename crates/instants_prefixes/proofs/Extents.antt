@@ -1,5 +1,5 @@
 -- How much of a text is read by items at the start of others.
-use Rattle.std.proofs.Common.{◌≡◌, ◌+◌, ◌-◌, ◌≤◌, ℕ, List, ◌++◌, length, take, drop, map, Ok, Err, sym, ap, ◌∙◌, subst, arith, take-append-drop, length-drop, length-append}
+use Rattle.std.proofs.Common.{◌≡◌, ◌+◌, ◌-◌, ◌≤◌, ℕ, List, ◌++◌, length, take, drop, map, Ok, Err, sym, ap, refl, ◌∙◌, subst, arith, take-append-drop, length-drop, length-append}
 use Rattle.std.specs.List.{prefix_len, suffix_len}
 use Rattle.std.proofs.lemmas.List.{take-map, length-take-le, take_all}
 use Rattle.std.proofs.lemmas.List.Sums.{prefix_len-le-length}
@@ -14,8 +14,8 @@ use Rattle.parsing_record.specs.Reads.{Language, reading_of_all}
 use Rattle.parsing_record.proofs.lemmas.Tame.{IsTameLanguage, in_turn_tame}
 use Rattle.instants_sources.specs.Grammar.{Described, Written, Items, V3}
 use Rattle.instants_sources.specs.Written.{language_of}
-use Rattle.instants_prefixes.specs.Ends.{AreTexts, AreTextsOf, AreEnds, IsExtent, IsExtentOf, IsByTexts, LeavesAfter, LeavesRest}
-use Rattle.instants_prefixes.specs.Lengths.{is_silent, is_text, length_read, length_by, before_first, up_to_last, with_text, items_written}
+use Rattle.instants_prefixes.specs.Ends.{AreTexts, AreTextsOf, AreEnds, IsExtent, IsExtentOf, IsByTexts, LiesIn, LeavesAfter, LeavesRest, lengths_from}
+use Rattle.instants_prefixes.specs.Lengths.{is_silent, is_text, length_read, length_by, before_first, up_to_last, with_text, items_written, lengths}
 use Rattle.instants_prefixes.specs.declared.ends.Ends.{Ends}
 use Rattle.instants_prefixes.specs.declared.extent.Extent.{Extent}
 use Rattle.instants_prefixes.proofs.Turns.{split, texts_read, by_items}
@@ -106,6 +106,7 @@ is_tame : (written : Written) → IsTameLanguage (language_of written)
 is_tame (Items items) = component_tame
 is_tame (V3 tree) = component_tame_v3
 
+-- by the lengths of texts in a text of which a description leaves the rest
 pub described_extent : (written : Written) (ends : Ends) (text rest : List ℕ) (read : ℕ) (extent : Extent) → AreEnds (items_written written) ends → LeavesRest (Described written) text rest → read ≡ length text - length rest → IsByTexts ends read extent → IsExtentOf written text extent
 described_extent written ends text rest read extent are leaves sum by =
     texts_extent (language_of written) (is_tame written) (items_written written) ends text rest read extent are (described_after written text rest leaves) sum by
@@ -114,3 +115,14 @@ described_extent written ends text rest read extent are leaves sum by =
 pub read_within : (text : List ℕ) (a : Answer) → length_read text a ≤ length text
 read_within text (Ok read) = omega arith
 read_within text (Err f) = omega arith
+
+pub extent_within : (written : Written) (text : List ℕ) (extent : Extent) → IsExtentOf written text extent → LiesIn text extent
+extent_within written text extent is =
+    let read : (items : List Tree) → length_by (language_of written) text items ≤ length text = λ items. read_within text (reading_of_all (language_of written) (listed items) empty text) in
+    let items = items_written written in
+    record { begins = omega (arith, is.begins, read (before_first items)); up_to = omega (arith, is.up_to, read (up_to_last items)); written = omega (arith, is.written, read (with_text items)) }
+
+-- the lengths by it are those of the description
+pub lengths_are : (written : Written) (text rest : List ℕ) (extent : Extent) → IsExtentOf written text extent → lengths_from text extent ≡ lengths (Described written) text rest
+unfolding lengths
+lengths_are written text rest extent is = rw (is.begins, is.up_to, is.written) refl

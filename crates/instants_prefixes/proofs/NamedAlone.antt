@@ -3,6 +3,7 @@ use Rattle.std.proofs.Common.{◌≡◌, ◌&&◌, ◌/◌, ◌%◌, ◌⊎◌, 
 use Rattle.std.specs.Prelude.{nat_le, int_div, int_rem, if◌then◌else◌}
 use Rattle.std.specs.Option.{is_none}
 use Rattle.std.specs.Result.{result_ok}
+use Rattle.std.proofs.lemmas.Bool.{and_parts, false_from_ne_true}
 use Rattle.calendar_count.specs.Range.{greatest_year}
 use Rattle.datetime_wall.specs.Wall.{Shown}
 use Rattle.parsing_combinator.specs.Fault.{Fault, insufficient}
@@ -19,16 +20,12 @@ use Rattle.instants_prefixes.specs.Given.{Given, Years, Unknown, In, Near, lacks
 
 -- ---- what is not there
 
-both_true : (a b : Bool) → (a && b) ≡ true → (a ≡ true) × (b ≡ true)
-both_true true b e = (refl, e)
-both_true false b e = absurd cc
-
 pub none_of : {A : Type 0} (o : Option A) → is_none o ≡ true → o ≡ None
 none_of None e = refl
 none_of (Some x) e = absurd cc
 
 two_none : {A B : Type 0} (a : Option A) (b : Option B) → (is_none a && is_none b) ≡ true → (a ≡ None) × (b ≡ None)
-two_none a b e = let both = both_true (is_none a) (is_none b) e in (none_of a both.0, none_of b both.1)
+two_none a b e = let both = and_parts (is_none a) (is_none b) e in (none_of a both.0, none_of b both.1)
 
 -- a year needs all of its digits, or its century and its last two
 pub yearless : (y : YearParts) → y.year ≡ None → (y.century ≡ None) ⊎ (y.last_two ≡ None) → year_of y ≡ None
@@ -42,7 +39,7 @@ no_years p year iso = rw (year, iso) refl
 
 no_date : (r : Record) → lacks_year r ≡ true → date_named r ≡ Err insufficient
 no_date r e =
-    let both = both_true (is_none r.year && is_none r.year_century) (is_none r.iso_year && is_none r.iso_year_century) e in
+    let both = and_parts (is_none r.year && is_none r.year_century) (is_none r.iso_year && is_none r.iso_year_century) e in
     let civil = two_none r.year r.year_century both.0 in
     let week = two_none r.iso_year r.iso_year_century both.1 in
     no_years (date_parts r) (yearless (date_parts r).year civil.0 (inl civil.1)) (yearless (date_parts r).iso_year week.0 (inl week.1))
@@ -61,8 +58,8 @@ no_finer r none leap = elim (hour_of (time_parts r)) as (λ o. hour_of (time_par
 
 no_time : (r : Record) → lacks_time r ≡ true → (leap : Bool) → named_time leap (time_parts r) ≡ Err insufficient
 no_time r e leap =
-    let hours = both_true ((is_none r.hour_24 && is_none r.hour_12) && is_none r.hour_12_is_pm) ((is_none r.minute && is_none r.second) && is_none r.subsecond) e in
-    let two = two_none r.hour_24 r.hour_12 (both_true (is_none r.hour_24 && is_none r.hour_12) (is_none r.hour_12_is_pm) hours.0).0 in
+    let hours = and_parts ((is_none r.hour_24 && is_none r.hour_12) && is_none r.hour_12_is_pm) ((is_none r.minute && is_none r.second) && is_none r.subsecond) e in
+    let two = two_none r.hour_24 r.hour_12 (and_parts (is_none r.hour_24 && is_none r.hour_12) (is_none r.hour_12_is_pm) hours.0).0 in
     no_hour r two.0 (inl two.1) leap
 
 pub no_offset : (r : Record) → r.offset_hour ≡ None → offset_named r ≡ Err insufficient
@@ -100,19 +97,15 @@ pub record HasParts (r : Record) : Type 0 where
   pub time : lacks_time r ≡ false
   pub offset : lacks_offset r ≡ false
 
-or_false : (b : Bool) → (b ≡ true → ⊥) → b ≡ false
-or_false true h = absurd (h refl)
-or_false false h = refl
-
 named_not : (r : Record) (m : Shown) → moment_named r ≡ Ok m → names r ≡ None → ⊥
 named_not r m e none = let both : Some m ≡ None = sym (ap result_ok e) ∙ none in cc
 
 pub has_parts : (r : Record) (m : Shown) → r.unix_timestamp_nanos ≡ None → moment_named r ≡ Ok m → HasParts r
 has_parts r m unix e =
     record {
-      date = or_false (lacks_year r) (λ none. named_not r m e (without_date r insufficient unix (no_date r none)));
-      time = or_false (lacks_time r) (λ none. named_not r m e (without_time r insufficient unix (no_time r none)));
-      offset = or_false (lacks_offset r) (λ none. named_not r m e (without_offset r insufficient unix (no_offset r (none_of r.offset_hour none))));
+      date = false_from_ne_true (lacks_year r) (λ none. named_not r m e (without_date r insufficient unix (no_date r none)));
+      time = false_from_ne_true (lacks_time r) (λ none. named_not r m e (without_time r insufficient unix (no_time r none)));
+      offset = false_from_ne_true (lacks_offset r) (λ none. named_not r m e (without_offset r insufficient unix (no_offset r (none_of r.offset_hour none))));
     }
 
 -- ---- what is given changes nothing that was read

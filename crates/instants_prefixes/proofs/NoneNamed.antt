@@ -3,7 +3,7 @@ use Rattle.std.proofs.Common.{◌≡◌, ◌≤◌, ◌||◌, ◌==◌, ℕ, zer
 use Rattle.std.specs.Prelude.{codes, option_map, nat_le, if◌then◌else◌}
 use Rattle.std.specs.Result.{result_ok}
 use Rattle.std.specs.Char.{is_ascii_digit, is_ascii_alphanumeric, to_ascii_lowercase}
-use Rattle.std.proofs.lemmas.Bool.{cases_lt, true≢false}
+use Rattle.std.proofs.lemmas.Bool.{cases_lt, or_parts, true≢false}
 use Rattle.std.proofs.lemmas.Bool.Decides.{nat_tests}
 use Rattle.std.proofs.lemmas.List.Sums.{prefix_len_passes}
 use Rattle.base.specs.Bytes.{plus, hyphen, upper_z}
@@ -92,10 +92,6 @@ year_none text other given = none_prefix given (reads_rfc3339 empty text) (year_
 
 -- ---- RFC 2822
 
-neither : (a b : Bool) → (a || b) ≡ false → (a ≡ false) × (b ≡ false)
-neither true b e = absurd cc
-neither false b e = (refl, e)
-
 other_name : (c d e : ℕ) → eqb (to_ascii_lowercase c) 102 ≡ false → eqb (to_ascii_lowercase c) 109 ≡ false → eqb (to_ascii_lowercase c) 115 ≡ false
     → eqb (to_ascii_lowercase c) 116 ≡ false → eqb (to_ascii_lowercase c) 119 ≡ false → weekday_of (c ∷ d ∷ e ∷ []) ≡ None
 unfolding weekday_of
@@ -121,11 +117,11 @@ above c e = grind (arith, nat_tests)
 day_refused : (bytes : List ℕ) (r : Record) → is_ascii_alphanumeric (get_or bytes 0 0) ≡ true → begins_day (get_or bytes 0 0) ≡ false → result_ok (reads_rfc2822 r bytes) ≡ None
 day_refused [] r word none = absurd cc
 day_refused (c ∷ rest) r word none =
-    let w = neither ((((is_ascii_digit c || to_ascii_lowercase c == 102) || to_ascii_lowercase c == 109) || to_ascii_lowercase c == 115) || to_ascii_lowercase c == 116) (to_ascii_lowercase c == 119) none in
-    let t = neither (((is_ascii_digit c || to_ascii_lowercase c == 102) || to_ascii_lowercase c == 109) || to_ascii_lowercase c == 115) (to_ascii_lowercase c == 116) w.0 in
-    let s = neither ((is_ascii_digit c || to_ascii_lowercase c == 102) || to_ascii_lowercase c == 109) (to_ascii_lowercase c == 115) t.0 in
-    let m = neither (is_ascii_digit c || to_ascii_lowercase c == 102) (to_ascii_lowercase c == 109) s.0 in
-    let f = neither (is_ascii_digit c) (to_ascii_lowercase c == 102) m.0 in
+    let w = or_parts ((((is_ascii_digit c || to_ascii_lowercase c == 102) || to_ascii_lowercase c == 109) || to_ascii_lowercase c == 115) || to_ascii_lowercase c == 116) (to_ascii_lowercase c == 119) none in
+    let t = or_parts (((is_ascii_digit c || to_ascii_lowercase c == 102) || to_ascii_lowercase c == 109) || to_ascii_lowercase c == 115) (to_ascii_lowercase c == 116) w.0 in
+    let s = or_parts ((is_ascii_digit c || to_ascii_lowercase c == 102) || to_ascii_lowercase c == 109) (to_ascii_lowercase c == 115) t.0 in
+    let m = or_parts (is_ascii_digit c || to_ascii_lowercase c == 102) (to_ascii_lowercase c == 109) s.0 in
+    let f = or_parts (is_ascii_digit c) (to_ascii_lowercase c == 102) m.0 in
     no_day c rest r (above c word) f.0 (unnamed c rest (λ d e. other_name c d e f.1 m.1 s.1 t.1 w.1))
 
 pub where_so : {A : Type 0} (b : Bool) (x : Option A) → (b ≡ true → x ≡ None) → (if b then x else None) ≡ None
@@ -191,10 +187,10 @@ no_part c rest r d p h t z = rw (no_date c rest d p h, no_time c rest d t, no_of
 part_refused : (bytes : List ℕ) (r : Record) → begins_part (get_or bytes 0 0) ≡ false → result_ok (reads_iso8601 r bytes) ≡ None
 part_refused [] r none = part_due_of_nothing [] r (omega arith)
 part_refused (c ∷ rest) r none =
-    let z = neither (((is_ascii_digit c || c == plus) || c == hyphen) || c == 84) (c == upper_z) none in
-    let t = neither ((is_ascii_digit c || c == plus) || c == hyphen) (c == 84) z.0 in
-    let h = neither (is_ascii_digit c || c == plus) (c == hyphen) t.0 in
-    let p = neither (is_ascii_digit c) (c == plus) h.0 in
+    let z = or_parts (((is_ascii_digit c || c == plus) || c == hyphen) || c == 84) (c == upper_z) none in
+    let t = or_parts ((is_ascii_digit c || c == plus) || c == hyphen) (c == 84) z.0 in
+    let h = or_parts (is_ascii_digit c || c == plus) (c == hyphen) t.0 in
+    let p = or_parts (is_ascii_digit c) (c == plus) h.0 in
     no_part c rest r p.0 p.1 h.1 t.1 z.1
 
 -- it begins with a part of a date

@@ -11,7 +11,7 @@ use Rattle.description_items.specs.Tree.{Tree, listed}
 use Rattle.parsing_record.specs.Meaning.{Answer}
 use Rattle.parsing_record.specs.Record.{empty}
 use Rattle.parsing_record.specs.Reads.{Language, reading_of_all}
-use Rattle.instants_sources.specs.Grammar.{Grammar, Described, Rfc2822, Rfc3339, Iso8601}
+use Rattle.instants_sources.specs.Grammar.{Grammar, Described}
 use Rattle.instants_sources.specs.Reading.{reading_of}
 use Rattle.instants_sources.specs.Written.{language_of}
 use Rattle.instants_edges.specs.Pieces.{blanks, trimmed_length, zone_length}
@@ -94,9 +94,7 @@ whole_within text n = let here = trimmed_within (take n text) in let long = leng
 lengths_within : (grammar : Grammar) (text rest : List ℕ) → AreWithin text (lengths grammar text rest)
 unfolding lengths
 lengths_within (Described written) text rest = by_within (language_of written) text (items_written written)
-lengths_within Rfc2822 text rest = whole_within text (length text - length rest)
-lengths_within Rfc3339 text rest = whole_within text (length text - length rest)
-lengths_within Iso8601 text rest = whole_within text (length text - length rest)
+lengths_within _ text rest = whole_within text (length text - length rest)
 
 pub prefix_within : (grammar : Grammar) (text : List ℕ) (moment : Shown) (rest : List ℕ) → IsWithin text (with_lengths text moment rest (lengths grammar text rest))
 prefix_within grammar text moment rest =

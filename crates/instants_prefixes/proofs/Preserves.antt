@@ -1,5 +1,6 @@
 -- What is read from related records is related, where no component of a tree tells them apart.
-use Rattle.std.proofs.Common.{◌≡◌, ◌||◌, ℕ, Bool, true, false, List, [], ◌∷◌, Option, Some, None, Result, Ok, Err, refl, subst}
+use Rattle.std.proofs.Common.{◌≡◌, ℕ, Bool, true, false, List, [], ◌∷◌, Option, Some, None, Result, Ok, Err, refl, subst}
+use Rattle.std.proofs.lemmas.Bool.{or_parts}
 use Rattle.description_items.specs.declared.component.Component.{Component}
 use Rattle.description_items.specs.Tree.{Tree, Trees, Literal, Part, Compound, Optional, First, none, also}
 use Rattle.parsing_combinator.specs.Fault.{Fault}
@@ -12,9 +13,8 @@ use Rattle.instants_prefixes.specs.Has.{has, any_has}
 -- both read, to related records and the same rest, or neither does
 abbrev pub Related : (Record → Record → Type 0) → Answer → Answer → Type 0
 Related Q (Ok x) (Ok y) = Q x.0 y.0 × (x.1 ≡ y.1)
-Related Q (Ok x) (Err g) = ⊥
-Related Q (Err f) (Ok y) = ⊥
 Related Q (Err f) (Err g) = Unit {0}
+Related Q _ _ = ⊥
 
 abbrev pub Preserves : (Record → Record → Type 0) → Meaning → Type 0
 Preserves Q m = (r s : Record) (bytes : List ℕ) → Q r s → Related Q (m r bytes) (m s bytes)
@@ -26,9 +26,8 @@ AllPreserve Q (c ∷ cs) = Preserves Q (meaning c) × AllPreserve Q cs
 -- of two related answers
 related_cases : (Q : Record → Record → Type 0) (P : Answer → Answer → Type 0) (a b : Answer) → Related Q a b → ((x y : Record × List ℕ) → Q x.0 y.0 → x.1 ≡ y.1 → P (Ok x) (Ok y)) → ((f g : Fault) → P (Err f) (Err g)) → P a b
 related_cases Q P (Ok x) (Ok y) h read refused = read x y h.0 h.1
-related_cases Q P (Ok x) (Err g) h read refused = absurd h
-related_cases Q P (Err f) (Ok y) h read refused = absurd h
 related_cases Q P (Err f) (Err g) h read refused = refused f g
+related_cases Q P _ _ h read refused = absurd h
 
 text_related : (Q : Record → Record → Type 0) (r s : Record) (x : Result (Unit {0} × List ℕ) Fault) → Q r s → Related Q (then_read x (λ _ rest. Ok (r, rest))) (then_read x (λ _ rest. Ok (s, rest)))
 text_related Q r s (Ok x) q = (q, refl)
@@ -52,9 +51,8 @@ optionally_preserves Q c h r s bytes q =
 -- both found one, or neither did
 abbrev Found : (Record → Record → Type 0) → Option Answer → Option Answer → Type 0
 Found Q (Some a) (Some b) = Related Q a b
-Found Q (Some a) None = ⊥
-Found Q None (Some b) = ⊥
 Found Q None None = Unit {0}
+Found Q _ _ = ⊥
 
 success_related : (Q : Record → Record → Type 0) (cs : List Counted) → AllPreserve Q cs → (r s : Record) (bytes : List ℕ) → Q r s → Found Q (first_success cs r bytes).0 (first_success cs s bytes).0
 unfolding first_success
@@ -64,9 +62,8 @@ success_related Q (c ∷ cs) each r s bytes q =
 
 found_related : (Q : Record → Record → Type 0) (f g : Fault) (one other : Option Answer) → Found Q one other → Related Q (found_or f one) (found_or g other)
 found_related Q f g (Some a) (Some b) h = h
-found_related Q f g (Some a) None h = absurd h
-found_related Q f g None (Some b) h = absurd h
 found_related Q f g None None h = tt
+found_related Q f g _ _ h = absurd h
 
 first_preserves : (Q : Record → Record → Type 0) (cs : List Counted) → AllPreserve Q cs → Preserves Q (meaning (first_of cs))
 unfolding first_of
@@ -78,14 +75,6 @@ first_preserves Q (c ∷ cs) each r s bytes q =
 -- the components that are not of a kind do not tell related records apart
 abbrev pub Spares : (Record → Record → Type 0) → Language → (Component → Bool) → Type 0
 Spares Q language kind = (c : Component) → kind c ≡ false → Preserves Q (putting (language c))
-
-pub neither_left : (a b : Bool) → (a || b) ≡ false → a ≡ false
-neither_left true b e = absurd cc
-neither_left false b e = refl
-
-pub neither_right : (a b : Bool) → (a || b) ≡ false → b ≡ false
-neither_right true b e = absurd cc
-neither_right false b e = e
 
 mutual
   unfolding reads each_reads
@@ -100,7 +89,7 @@ mutual
   trees_preserve : (Q : Record → Record → Type 0) (language : Language) (kind : Component → Bool) → Spares Q language kind → (ts : Trees) → any_has true kind ts ≡ false → AllPreserve Q (each_reads language ts)
   trees_preserve Q language kind h none free = tt
   trees_preserve Q language kind h (also t ts) free =
-      (tree_preserves Q language kind h t (neither_left (has true kind t) (any_has true kind ts) free), trees_preserve Q language kind h ts (neither_right (has true kind t) (any_has true kind ts) free))
+      let both = or_parts (has true kind t) (any_has true kind ts) free in (tree_preserves Q language kind h t both.0, trees_preserve Q language kind h ts both.1)
 
 -- trees one after the other
 pub in_turn_preserves : (Q : Record → Record → Type 0) (language : Language) (kind : Component → Bool) → Spares Q language kind → (ts : Trees) → any_has true kind ts ≡ false → Preserves Q (meaning (all_of (each_reads language ts)))

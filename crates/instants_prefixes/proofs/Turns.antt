@@ -4,7 +4,7 @@ use Rattle.std.specs.Prelude.{bytes_eq, if◌then◌else◌}
 use Rattle.std.proofs.lemmas.List.{drop-drop, length-take}
 use Rattle.std.proofs.lemmas.Slice.Eq.{bytes_eq-Decides}
 use Rattle.parsing_combinator.specs.Readings.{then_read}
-use Rattle.description_items.specs.Tree.{Tree, Trees, Literal, Part, Compound, Optional, First, none, also, listed}
+use Rattle.description_items.specs.Tree.{Tree, Trees, Literal, Compound, none, also, listed}
 use Rattle.parsing_combinator.specs.Fault.{literal}
 use Rattle.parsing_record.specs.Meaning.{Answer, literally, then_counted, all_of}
 use Rattle.parsing_components.specs.declared.fields.Record.{Record}
@@ -69,10 +69,7 @@ Sums (t ∷ others) long = ⊥
 sums : (items : List Tree) (long : ℕ) → AreTexts items long → Sums items long
 sums [] long are = are.1
 sums (Literal text ∷ items) long are = (text_sum items, are.1, sums items (text_sum items) (omega (arith, are.0), refl))
-sums (Part c ∷ items) long are = absurd (omega (arith, are.0))
-sums (Compound ts ∷ items) long are = absurd (omega (arith, are.0))
-sums (Optional format t ∷ items) long are = absurd (omega (arith, are.0))
-sums (First ts ∷ items) long are = absurd (omega (arith, are.0))
+sums (t ∷ items) long are = absurd (omega (arith, are.0))
 
 sums_read : (language : Language) (items : List Tree) (long : ℕ) (r : Record) (text : List ℕ) (read : Record × List ℕ) → Sums items long → reading_of_all language (listed items) r text ≡ Ok read → (read.1 ≡ drop long text) × (long ≤ length text)
 unfolding all_of each_reads
@@ -84,10 +81,7 @@ sums_read language (Literal piece ∷ items) long r text read (rest, sum, others
     let more = sums_read language items rest first.between.0 first.between.1 read others first.others in
     let again : drop rest (drop (length piece) text) ≡ drop (length piece + rest) text = drop-drop rest (length piece) text in
     (more.0 ∙ ap (drop rest) same ∙ again ∙ ap (λ n. drop n text) (sym sum), omega (arith, more.1, ap length same, length-drop (length piece) text, one.0))
-sums_read language (Part c ∷ items) long r text read are e = absurd are
-sums_read language (Compound ts ∷ items) long r text read are e = absurd are
-sums_read language (Optional format t ∷ items) long r text read are e = absurd are
-sums_read language (First ts ∷ items) long r text read are e = absurd are
+sums_read language (t ∷ items) long r text read are e = absurd are
 
 -- texts read as many bytes as they have
 pub texts_read : (language : Language) (items : List Tree) (long : ℕ) (r : Record) (text : List ℕ) (read : Record × List ℕ) → AreTexts items long → reading_of_all language (listed items) r text ≡ Ok read → (read.1 ≡ drop long text) × (long ≤ length text)
@@ -111,19 +105,13 @@ children_listed (t ∷ items) = ap (λ ts. t ∷ ts) (children_listed items)
 -- a tree reads what its items read
 pub by_items : (language : Language) (t : Tree) (r : Record) (text : List ℕ) → reading_of_all language (listed (items_of t)) r text ≡ reading language t r text
 unfolding reads
-by_items language (Literal s) r text = one_item language (Literal s) r text
-by_items language (Part c) r text = one_item language (Part c) r text
 by_items language (Compound ts) r text = ap (λ x. reading_of_all language x r text) (listed_children ts)
-by_items language (Optional format t) r text = one_item language (Optional format t) r text
-by_items language (First ts) r text = one_item language (First ts) r text
+by_items language t r text = one_item language t r text
 
 pub compound_items : (t : Tree) (items : List Tree) → Compound (listed items) ≡ t → items_of t ≡ items
 compound_items t items e = ap items_of (sym e) ∙ children_listed items
 
 -- what is no list of nodes is one item
 pub single_items : {N : Type 0} (tree : N → Tree) (step : NodeStep N) (t : Tree) → ((nodes : Bor (List N)) → step ≡ steps.Compound nodes → ⊥) → step_tree tree step ≡ t → items_of t ≡ t ∷ []
-single_items tree (steps.Literal text) t other e = ap items_of (sym e) ∙ ap (λ x. x ∷ []) e
-single_items tree (steps.Component c) t other e = ap items_of (sym e) ∙ ap (λ x. x ∷ []) e
 single_items tree (steps.Compound nodes) t other e = absurd (other nodes refl)
-single_items tree (steps.Optional format node) t other e = ap items_of (sym e) ∙ ap (λ x. x ∷ []) e
-single_items tree (steps.First nodes) t other e = ap items_of (sym e) ∙ ap (λ x. x ∷ []) e
+single_items tree step t other e = ap items_of (sym e) ∙ ap (λ x. x ∷ []) e

@@ -1,6 +1,7 @@
 -- A source that lacks a part names nothing.
 use Rattle.std.proofs.Common.{◌≡◌, ◌&&◌, ◌||◌, ◌⊎◌, inl, inr, ℕ, ℤ, Bool, true, false, not, List, Option, Some, None, Ok, Err, refl, sym, ap, ◌∙◌, subst}
 use Rattle.std.specs.Prelude.{is_some, if◌then◌else◌}
+use Rattle.std.proofs.lemmas.Bool.{and_cases, and_parts, or_cases, or_parts, not-true, not-false}
 use Rattle.description_items.specs.declared.component.Component.{Component}
 use Rattle.description_items.specs.Modern.{modern}
 use Rattle.parsing_combinator.specs.Fault.{insufficient}
@@ -11,42 +12,19 @@ use Rattle.parsing_record.specs.Meaning.{Answer}
 use Rattle.parsing_record.specs.Parts.{date_parts, time_parts}
 use Rattle.parsing_components.specs.declared.fields.Record.{Record}
 use Rattle.parsing_record.specs.Record.{empty}
-use Rattle.instants_sources.specs.Grammar.{Grammar, Described, Rfc2822, Rfc3339, Iso8601, Written}
+use Rattle.instants_sources.specs.Grammar.{Grammar, Described, Written}
 use Rattle.instants_sources.specs.Written.{reads_written}
-use Rattle.instants_prefixes.specs.Given.{Given, Years, Unknown, In, Near, lacks_year, moment_of, with_time, with_year, completed}
-use Rattle.instants_prefixes.specs.Lacks.{Lack, Year, Day, Time, Offset, may, always, is_known, takes_year, has_year, has_iso_year, has_day, has_date, has_hour, has_gap, has_time, has_offset, lack}
+use Rattle.instants_prefixes.specs.Given.{Given, Years, Unknown, lacks_year, moment_of, with_time, with_year, completed}
+use Rattle.instants_prefixes.specs.Lacks.{Lack, Year, Day, Time, Offset, may, is_known, takes_year, has_year, has_iso_year, has_day, has_date, has_hour, has_gap, has_time, has_offset, lack}
 use Rattle.instants_prefixes.specs.Kinds.{is_newer}
 use Rattle.instants_prefixes.specs.Reading.{written_has, prefix_named, prefix_of, followed, is_likely, record_of}
 use Rattle.instants_prefixes.specs.declared.kind.Kind.{Kind}
 use Rattle.instants_prefixes.specs.declared.kind.Kind.TheVariants as kind
 use Rattle.instants_prefixes.proofs.Always.{Makes, Sets, always_makes, year_sets, time_sets, second_sets, subsecond_sets}
-use Rattle.instants_prefixes.proofs.Preserves.{neither_left, neither_right}
 use Rattle.instants_prefixes.proofs.Unread.{IsUnread, unread}
 use Rattle.instants_prefixes.proofs.NamedAlone.{no_year, yearless, no_hour, no_finer, without_date, without_time, kept, kept_offset, kept_year, kept_time, kept_iso_year, dated, timed}
 use Rattle.instants_prefixes.proofs.NoneNamed.{where_so}
 use Rattle.instants_prefixes.proofs.ReadPrefixes.{unplaced_in}
-
--- ---- tests
-
-lost_both : (a b : Bool) → (a && b) ≡ false → (a ≡ false) ⊎ (b ≡ false)
-lost_both true b e = inr e
-lost_both false b e = inl refl
-
-either : (a b : Bool) → (a || b) ≡ true → (a ≡ true) ⊎ (b ≡ true)
-either true b e = inl refl
-either false b e = inr e
-
-both : (a b : Bool) → (a && b) ≡ true → (a ≡ true) × (b ≡ true)
-both true b e = (refl, e)
-both false b e = absurd cc
-
-turned : (b : Bool) → not b ≡ false → b ≡ true
-turned true e = refl
-turned false e = absurd cc
-
-turned_back : (b : Bool) → not b ≡ true → b ≡ false
-turned_back true e = absurd cc
-turned_back false e = refl
 
 none_of : {A : Type 0} (o : Option A) → is_some o ≡ false → o ≡ None
 none_of None e = refl
@@ -127,8 +105,7 @@ record Reads (written : Written) (r : Record) : Type 1 where
 
 unknown : (years : Years) → is_known years ≡ false → years ≡ Unknown
 unknown Unknown e = refl
-unknown (In year) e = absurd cc
-unknown (Near above) e = absurd cc
+unknown _ e = absurd cc
 
 module _ (given : Given) (written : Written) (r : Record) (reads : Reads written r) (plain : may kind.UnixTime written ≡ false) where
   unix : r.unix_timestamp_nanos ≡ None
@@ -142,56 +119,49 @@ module _ (given : Given) (written : Written) (r : Record) (reads : Reads written
   year_same e year known =
       let whole = with_time given.time r in
       let same : with_year year whole ≡ whole =
-      elim (lost_both (is_known given.years) (not (always kind.YearPart written)) e) [
+      elim (and_cases _ _ e) [
         | inl none ↦ ap (λ (y : Option ℤ). with_year y whole) (known (unknown given.years none))
-        | inr part ↦ dated year whole (kept_time lacks_year given.time r (λ a b. refl) ∙ reads.makes _ _ year_sets (turned (always kind.YearPart written) part))
+        | inr part ↦ dated year whole (kept_time lacks_year given.time r (λ a b. refl) ∙ reads.makes _ _ year_sets (not-false _ part))
       ] in
       kept_offset date_parts given.offset (with_year year whole) (λ a b. refl) ∙ ap date_parts same ∙ kept_time date_parts given.time r (λ a b. refl)
 
   yearless_in : has_year given written ≡ false → (year : Option ℤ) → (given.years ≡ Unknown → year ≡ None) → year_of (date_parts (completed given.offset year given.time r)).year ≡ None
   yearless_in e year known =
-      let none = neither_left (may kind.Year written || (may kind.Century written && may kind.LastTwo written)) (takes_year given written) e in
-      let part : (r.year_century ≡ None) ⊎ (r.year_last_two ≡ None) =
-      elim (lost_both (may kind.Century written) (may kind.LastTwo written) (neither_right (may kind.Year written) (may kind.Century written && may kind.LastTwo written) none)) [
-        | inl c ↦ inl (reads.lacks kind.Century (refl, refl) c).0
-        | inr l ↦ inr (reads.lacks kind.LastTwo (refl, refl) l).0
-      ] in
-      let first : r.year ≡ None = reads.lacks kind.Year refl (neither_left (may kind.Year written) (may kind.Century written && may kind.LastTwo written) none) in
-      ap (λ (p : DateParts). year_of p.year) (year_same (neither_right (may kind.Year written || (may kind.Century written && may kind.LastTwo written)) (takes_year given written) e) year known) ∙ yearless (date_parts r).year first part
+      let first = or_parts _ _ e in
+      let parts = or_parts _ _ first.0 in
+      let split : (r.year_century ≡ None) ⊎ (r.year_last_two ≡ None) =
+      elim (and_cases _ _ parts.1) [ inl c ↦ inl (reads.lacks kind.Century (refl, refl) c).0 | inr l ↦ inr (reads.lacks kind.LastTwo (refl, refl) l).0 ] in
+      ap (λ (p : DateParts). year_of p.year) (year_same first.1 year known) ∙ yearless (date_parts r).year (reads.lacks kind.Year refl parts.0) split
 
   iso_yearless_in : has_iso_year given written ≡ false → (year : Option ℤ) → (given.years ≡ Unknown → year ≡ None) → year_of (date_parts (completed given.offset year given.time r)).iso_year ≡ None
   iso_yearless_in e year known =
       let whole = completed given.offset year given.time r in
       let timed = with_time given.time r in
-      let first : r.iso_year ≡ None = reads.lacks kind.IsoYear refl (neither_left (may kind.IsoYear written) (may kind.LastTwo written && (may kind.Century written || takes_year given written)) e) in
-      elim (lost_both (may kind.LastTwo written) (may kind.Century written || takes_year given written) (neither_right (may kind.IsoYear written) (may kind.LastTwo written && (may kind.Century written || takes_year given written)) e)) [
+      let parts = or_parts _ _ e in
+      let first : r.iso_year ≡ None = reads.lacks kind.IsoYear refl parts.0 in
+      elim (and_cases _ _ parts.1) [
         | inl l ↦
             let digits : r.iso_year_last_two ≡ None = (reads.lacks kind.LastTwo (refl, refl) l).1 in
             let before : timed.iso_year_last_two ≡ None = kept_time (λ x. x.iso_year_last_two) given.time r (λ a b. refl) ∙ digits in
-            let year_none : whole.iso_year ≡ None =
+            let none : whole.iso_year ≡ None =
             kept_offset (λ x. x.iso_year) given.offset (with_year year timed) (λ a b. refl) ∙ kept_iso_year year timed before ∙ kept_time (λ x. x.iso_year) given.time r (λ a b. refl) ∙ first in
-            yearless (date_parts whole).iso_year year_none (inr (kept (λ x. x.iso_year_last_two) (λ _ _ _ _ _ _ _. refl) given.offset year given.time r ∙ digits))
+            yearless (date_parts whole).iso_year none (inr (kept (λ x. x.iso_year_last_two) (λ _ _ _ _ _ _ _. refl) given.offset year given.time r ∙ digits))
         | inr neither ↦
-            let century : r.iso_year_century ≡ None = (reads.lacks kind.Century (refl, refl) (neither_left (may kind.Century written) (takes_year given written) neither)).1 in
-            ap (λ (p : DateParts). year_of p.iso_year) (year_same (neither_right (may kind.Century written) (takes_year given written) neither) year known) ∙ yearless (date_parts r).iso_year first (inl century)
+            let both = or_parts _ _ neither in
+            ap (λ (p : DateParts). year_of p.iso_year) (year_same both.1 year known) ∙ yearless (date_parts r).iso_year first (inl (reads.lacks kind.Century (refl, refl) both.0).1)
       ]
 
   dayless : has_day written ≡ false → HasNoDay (days r)
   dayless e =
-      let first = neither_left (may kind.Ordinal written || (may kind.Month written && may kind.Day written)) (may kind.Week written && may kind.Weekday written) e in (
-        reads.lacks kind.Ordinal refl (neither_left (may kind.Ordinal written) (may kind.Month written && may kind.Day written) first),
-        elim (lost_both (may kind.Month written) (may kind.Day written) (neither_right (may kind.Ordinal written) (may kind.Month written && may kind.Day written) first)) [
-          | inl m ↦ inl (reads.lacks kind.Month refl m)
-          | inr d ↦ inr (reads.lacks kind.Day refl d)
-        ],
-        elim (lost_both (may kind.Week written) (may kind.Weekday written) (neither_right (may kind.Ordinal written || (may kind.Month written && may kind.Day written)) (may kind.Week written && may kind.Weekday written) e)) [
-          | inl w ↦ inl (reads.lacks kind.Week (refl, refl) w)
-          | inr d ↦ inr (reads.lacks kind.Weekday refl d)
-        ],
+      let first = or_parts _ _ e in
+      let parts = or_parts _ _ first.0 in (
+        reads.lacks kind.Ordinal refl parts.0,
+        elim (and_cases _ _ parts.1) [ inl m ↦ inl (reads.lacks kind.Month refl m) | inr d ↦ inr (reads.lacks kind.Day refl d) ],
+        elim (and_cases _ _ first.1) [ inl w ↦ inl (reads.lacks kind.Week (refl, refl) w) | inr d ↦ inr (reads.lacks kind.Weekday refl d) ],
       )
 
   weekless : (may kind.IsoWeek written && may kind.Weekday written) ≡ false → HasNoWeek (days r)
-  weekless e = elim (lost_both (may kind.IsoWeek written) (may kind.Weekday written) e) [ inl w ↦ inl (reads.lacks kind.IsoWeek refl w) | inr d ↦ inr (reads.lacks kind.Weekday refl d) ]
+  weekless e = elim (and_cases _ _ e) [ inl w ↦ inl (reads.lacks kind.IsoWeek refl w) | inr d ↦ inr (reads.lacks kind.Weekday refl d) ]
 
   without_dates : has_date given written ≡ false → moment_of given given.years r ≡ None
   without_dates e = no_year given given.years r (λ year known.
@@ -199,58 +169,50 @@ module _ (given : Given) (written : Written) (r : Record) (reads : Reads written
       let same : days whole ≡ days r = kept days (λ _ _ _ _ _ _ _. refl) given.offset year given.time r in
       let P : DateParts → Type 0 = λ p. HasNoDay p in
       let Q : DateParts → Type 0 = λ p. HasNoWeek p in
+      let parts = or_parts _ _ e in
       let civil : (year_of (date_parts whole).year ≡ None) ⊎ HasNoDay (date_parts whole) =
-      elim (lost_both (has_year given written) (has_day written) (neither_left (has_year given written && has_day written) (has_iso_year given written && (may kind.IsoWeek written && may kind.Weekday written)) e)) [
-        | inl y ↦ inl (yearless_in y year known)
-        | inr d ↦ inr (subst P (sym same) (dayless d))
-      ] in
+      elim (and_cases _ _ parts.0) [ inl y ↦ inl (yearless_in y year known) | inr d ↦ inr (subst P (sym same) (dayless d)) ] in
       let week : (year_of (date_parts whole).iso_year ≡ None) ⊎ HasNoWeek (date_parts whole) =
-      elim (lost_both (has_iso_year given written) (may kind.IsoWeek written && may kind.Weekday written) (neither_right (has_year given written && has_day written) (has_iso_year given written && (may kind.IsoWeek written && may kind.Weekday written)) e)) [
-        | inl y ↦ inl (iso_yearless_in y year known)
-        | inr w ↦ inr (subst Q (sym same) (weekless w))
-      ] in
+      elim (and_cases _ _ parts.1) [ inl y ↦ inl (iso_yearless_in y year known) | inr w ↦ inr (subst Q (sym same) (weekless w)) ] in
       without_date whole insufficient (still year) (no_date (date_parts whole) civil week))
 
   hourless : (has_hour written && not (has_gap written)) ≡ false → (leap : Bool) → named_time leap (time_parts r) ≡ Err insufficient
   hourless e leap =
-      elim (lost_both (has_hour written) (not (has_gap written)) e) [
+      elim (and_cases _ _ e) [
         | inl none ↦
-            let half : (r.hour_12 ≡ None) ⊎ (r.hour_12_is_pm ≡ None) =
-            elim (lost_both (may kind.Hour12 written) (may kind.Half written) (neither_right (may kind.Hour24 written) (may kind.Hour12 written && may kind.Half written) none)) [
-              | inl hour ↦ inl (reads.lacks kind.Hour12 refl hour)
-              | inr pm ↦ inr (reads.lacks kind.Half refl pm)
-            ] in
-            no_hour r (reads.lacks kind.Hour24 refl (neither_left (may kind.Hour24 written) (may kind.Hour12 written && may kind.Half written) none)) half leap
-        | inr gap ↦ elim (either (always kind.Second written && not (may kind.Minute written)) (always kind.Subsecond written && not (may kind.Second written)) (turned (has_gap written) gap)) [
+            let parts = or_parts _ _ none in
+            let half : (r.hour_12 ≡ None) ⊎ (r.hour_12_is_pm ≡ None) = elim (and_cases _ _ parts.1) [ inl hour ↦ inl (reads.lacks kind.Hour12 refl hour) | inr pm ↦ inr (reads.lacks kind.Half refl pm) ] in
+            no_hour r (reads.lacks kind.Hour24 refl parts.0) half leap
+        | inr gap ↦ elim (or_cases _ _ (not-false (has_gap written) gap)) [
           | inl minute ↦
-              let facts = both (always kind.Second written) (not (may kind.Minute written)) minute in
-              let none : r.minute ≡ None = reads.lacks kind.Minute refl (turned_back (may kind.Minute written) facts.1) in
+              let facts = and_parts _ _ minute in
+              let none : r.minute ≡ None = reads.lacks kind.Minute refl (not-true _ facts.1) in
               no_finer r (ap (λ (m : Option ℕ). finer_parts m r.second r.subsecond) none ∙ no_minute r.second r.subsecond (reads.makes _ _ second_sets facts.0)) leap
           | inr second ↦
-              let facts = both (always kind.Subsecond written) (not (may kind.Second written)) second in
-              let none : r.second ≡ None = reads.lacks kind.Second refl (turned_back (may kind.Second written) facts.1) in
+              let facts = and_parts _ _ second in
+              let none : r.second ≡ None = reads.lacks kind.Second refl (not-true _ facts.1) in
               no_finer r (ap (λ (n : Option ℕ). finer_parts r.minute n r.subsecond) none ∙ no_second r.minute r.subsecond (reads.makes _ _ subsecond_sets facts.0)) leap
         ]
       ]
 
   without_times : has_time given written ≡ false → moment_of given given.years r ≡ None
   without_times e =
+      let parts = or_parts _ _ e in
       let same : with_time given.time r ≡ r =
-      elim (lost_both (is_some given.time) (not (always kind.TimePart written)) (neither_right (has_hour written && not (has_gap written)) (is_some given.time && not (always kind.TimePart written)) e)) [
+      elim (and_cases _ _ parts.1) [
         | inl none ↦ ap (λ (t : Option ℕ). with_time t r) (none_of given.time none)
-        | inr part ↦ timed given.time r (reads.makes _ _ time_sets (turned (always kind.TimePart written) part))
+        | inr part ↦ timed given.time r (reads.makes _ _ time_sets (not-false _ part))
       ] in
       no_year given given.years r (λ year known.
       let whole = completed given.offset year given.time r in
-      let parts : time_parts whole ≡ time_parts r =
+      let alike : time_parts whole ≡ time_parts r =
       kept_offset time_parts given.offset (with_year year (with_time given.time r)) (λ a b. refl) ∙ kept_year time_parts year (with_time given.time r) (λ a b. refl) ∙ ap time_parts same in
-      without_time whole insufficient (still year)
-      (λ leap. ap (named_time leap) parts ∙ hourless (neither_left (has_hour written && not (has_gap written)) (is_some given.time && not (always kind.TimePart written)) e) leap))
+      without_time whole insufficient (still year) (λ leap. ap (named_time leap) alike ∙ hourless parts.0 leap))
 
   without_offsets : has_offset given written ≡ false → moment_of given given.years r ≡ None
   without_offsets e =
-      let hour : r.offset_hour ≡ None = reads.lacks kind.OffsetHour refl (neither_left (may kind.OffsetHour written) (is_some given.offset) e) in
-      no_year given given.years r (λ year known. unplaced_in given r (none_of given.offset (neither_right (may kind.OffsetHour written) (is_some given.offset) e)) hour unix year)
+      let parts = or_parts _ _ e in
+      no_year given given.years r (λ year known. unplaced_in given r (none_of given.offset parts.1) (reads.lacks kind.OffsetHour refl parts.0) unix year)
 
 -- ---- the first of them
 
@@ -288,6 +250,4 @@ finds_nothing given (Described written) what e text =
       | inl date ↦ without_dates given written r reads one.0 date
       | inr later ↦ elim later [ inl time ↦ without_times given written r reads one.0 time | inr offset ↦ without_offsets given written r reads one.0 offset ]
     ])
-finds_nothing given Rfc2822 what e text = absurd cc
-finds_nothing given Rfc3339 what e text = absurd cc
-finds_nothing given Iso8601 what e text = absurd cc
+finds_nothing given _ what e text = absurd cc

@@ -2,7 +2,7 @@
 use Rattle.std.proofs.Common.{◌≡◌, ◌⊎◌, inl, inr, ◌≤◌, ℕ, zero, suc, List, [], ◌∷◌, length, take, get_or, refl, sym, ap, ◌∙◌, arith}
 use Rattle.std.proofs.lemmas.List.{length-take}
 use Rattle.instants_edges.proofs.TextPrefixes.{IsPrefix, iso_is_prefix, mail_is_prefix}
-use Rattle.instants_sources.specs.Grammar.{Grammar, Described, Rfc2822, Rfc3339, Iso8601}
+use Rattle.instants_sources.specs.Grammar.{Grammar, Rfc2822, Iso8601}
 use Rattle.instants_prefixes.specs.Reading.{text_for}
 use Rattle.std.proofs.Math.Seq.{take-length}
 
@@ -14,10 +14,9 @@ all_of_it bytes = (length bytes, omega arith, sym (take-length bytes))
 -- the text of a source is a prefix of the bytes within the window
 text_prefix : (grammar : Grammar) (bytes : List ℕ) → IsPrefix (text_for grammar bytes) (take 256 bytes)
 unfolding text_for
-text_prefix (Described written) bytes = all_of_it (take 256 bytes)
 text_prefix Rfc2822 bytes = mail_is_prefix 0 (take 256 bytes)
-text_prefix Rfc3339 bytes = all_of_it (take 256 bytes)
 text_prefix Iso8601 bytes = iso_is_prefix (take 256 bytes)
+text_prefix _ bytes = all_of_it (take 256 bytes)
 
 -- a source is given no more than the bytes within the window
 pub text_within : (grammar : Grammar) (bytes : List ℕ) → length (text_for grammar bytes) ≤ length (take 256 bytes)

@@ -1,5 +1,5 @@
 -- What stands in a list of items before the first that says something and after the last that does, and where the prefix that they read begins and ends.
-use Rattle.std.specs.Prelude.{◌≡◌, ℕ, ◌+◌, ◌-◌, nat_lt, List, [], ◌∷◌, length, take, drop, Some, Ok}
+use Rattle.std.specs.Prelude.{◌≡◌, ℕ, ◌+◌, ◌-◌, ◌≤◌, nat_lt, List, [], ◌∷◌, length, take, drop, Some, Ok}
 use Rattle.std.specs.List.{prefix_len, suffix_len}
 use Rattle.std.specs.Option.{ForSome}
 use Rattle.description_items.specs.Tree.{Tree, Literal, listed}
@@ -50,6 +50,12 @@ pub record IsExtent (language : Language) (items : List Tree) (text : List ℕ) 
 -- of a text that a description reads
 abbrev pub IsExtentOf : Written → List ℕ → Extent → Type 0
 IsExtentOf written text extent = IsExtent (language_of written) (items_written written) text extent
+
+-- they lie within the text
+pub record LiesIn (text : List ℕ) (extent : Extent) : Type 0 where
+  pub begins : extent.begins ≤ length text
+  pub up_to : extent.up_to ≤ length text
+  pub written : extent.written ≤ length text
 
 -- the lengths by these
 abbrev pub lengths_from : List ℕ → Extent → Lengths

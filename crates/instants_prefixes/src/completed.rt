@@ -1,5 +1,5 @@
 //! The moments of records, with what is given in place of what was not read.
-ghost use Rattle.std.specs.Prelude.{◌≡◌, pos, ◌+ℤ◌, ◌-ℤ◌};
+ghost use Rattle.std.specs.Prelude.{◌≡◌};
 ghost use Rattle.calendar_count.specs.Range.{IsYear};
 ghost use Rattle.instants_prefixes.specs.Given as Gift;
 
@@ -115,6 +115,7 @@ fn give_offset(parsed: &mut Parsed, offset: Option<UtcOffset>)
 
 // The moment of a record, with a year given or none.
 #[inline(never)]
+#[tactic(auto, using(crate::proofs::Completing::answered))]
 fn moment_in(given: &Given, year: Option<i32>, read: &Parsed) -> Option<OffsetDateTime>
     ensures { result ≡ Gift.moment_in given.now year read.now }
 {
@@ -151,24 +152,14 @@ fn nearer(
     }
 }
 
-// The years before and after one.
-fn years_beside(year: i32) -> (i32, i32)
-    requires { IsYear year }
-    ensures before { result.0 ≡ year -ℤ pos 1 }
-    ensures after { result.1 ≡ year +ℤ pos 1 }
-{
-    (year - 1, year + 1)
-}
-
 // Of the three years round that of a moment the one that brings the moment of a record nearest to it.
 fn moment_near(given: &Given, above: OffsetDateTime, read: &Parsed) -> Option<OffsetDateTime>
     ensures { result ≡ Gift.moment_of given.now (Gift.Near above) read.now }
 {
     let year = above.year();
-    let beside = years_beside(year);
-    let before = moment_in(given, Some(beside.0), read);
+    let before = moment_in(given, Some(year - 1), read);
     let same = moment_in(given, Some(year), read);
-    let after = moment_in(given, Some(beside.1), read);
+    let after = moment_in(given, Some(year + 1), read);
     nearer(above, nearer(above, before, same), after)
 }
 

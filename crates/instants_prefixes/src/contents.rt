@@ -22,6 +22,7 @@ pub(crate) struct Contents {
 }
 
 /// Whether a component of a kind stands in a node: inside its choices too, or outside of all of them.
+#[tactic(auto, unfolding(parsing_components::proofs::lemmas::Sizes::size))]
 #[cycle(stands)]
 pub(crate) fn stands_in_node<N: Node>(node: &N, kind: Kind, in_choices: bool) -> bool
     ensures stands { result ≡ has in_choices (is_of kind) (N.tree node.now) }
@@ -36,6 +37,7 @@ pub(crate) fn stands_in_node<N: Node>(node: &N, kind: Kind, in_choices: bool) ->
 }
 
 // Whether one stands in one of the nodes.
+#[tactic(auto, using(parsing_components::proofs::lemmas::Sizes::one_of_them))]
 #[cycle(stands)]
 fn stands_in_any<N: Node>(nodes: &[N], kind: Kind, in_choices: bool) -> bool
     ensures stands { result ≡ any_has in_choices (is_of kind) (listed (map N.tree nodes.now)) }

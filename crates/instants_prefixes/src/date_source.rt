@@ -7,9 +7,10 @@ ghost use Rattle.instants_prefixes.specs.Ends.{AreEnds, items_in};
 
 use crate::contents::Contents;
 use crate::ends::Ends;
+use crate::extent::extent_by_texts;
 use crate::given::Given;
 use crate::lacks::{Lack, lack_of};
-use crate::lengths::{prefix_by_texts, prefix_of};
+use crate::lengths::prefix_of;
 use crate::named::{assumed, prefix_named, record_of};
 use crate::prefix::Prefix;
 use crate::ruled_out::rules_out;
@@ -67,6 +68,7 @@ impl<'a> DateSource<'a> {
 
     /// Whether it may read numbers of Unix time.
     #[inline(always)]
+    #[tactic(auto, using(crate::proofs::Unread::timeless_at))]
     pub fn may_read_unix_time(&self) -> bool
         ensures { result ≡ false → (bytes : List ℕ)
             → (record_at (grammar_in self.now) bytes).unix_timestamp_nanos ≡ None }
@@ -84,6 +86,7 @@ impl<'a> DateSource<'a> {
 
     // The prefix of bytes that the source reads as a date, with what is given where the date lacks it.
     #[inline(never)]
+    #[tactic(auto, using(crate::proofs::PrefixesAt::prefix_at_is))]
     fn read_any(&self, bytes: &[u8], given: &Given) -> Option<Prefix>
         ensures prefix { result ≡ prefix_at given.now (grammar_in self.now) bytes.now }
         ensures within { IfSome result (IsWithin bytes.now) }
@@ -111,12 +114,12 @@ impl<'a> DateSource<'a> {
         let Some((fields, rest)) = described.read_prefix(text, assumed(self.contents, given)) else {
             return None;
         };
-        let moment = Named::of_fields(fields);
-        let description = described.description();
-        let Some(prefix) = prefix_by_texts(description, &self.ends, text, moment, rest) else {
+        let read = text.len().saturating_sub(rest.len());
+        let Some(extent) = extent_by_texts(&self.ends, read) else {
             return None;
         };
-        Some(prefix)
+        let moment = Named::of_fields(fields);
+        Some(Prefix::of_extent(extent, text, moment, rest))
     }
 
     /// The prefix of bytes that a plan reads as a date, where texts alone stand around what it says: `None` says nothing of the
@@ -133,6 +136,7 @@ impl<'a> DateSource<'a> {
     /// The prefix of bytes that the source reads as a date, with what is given where the date lacks it. It lies within the
     /// first 256 bytes.
     #[inline(never)]
+    #[tactic(auto, unfolding(crate::specs::Prefix::prefix_at))]
     pub fn read(&self, bytes: &[u8], given: &Given) -> Option<Prefix>
         ensures prefix { result ≡ prefix_at given.now (grammar_in self.now) bytes.now }
         ensures within { IfSome result (IsWithin bytes.now) }
@@ -147,6 +151,7 @@ impl<'a> DateSource<'a> {
     }
 
     /// What the source lacks to name a moment with what is given: such a source finds no date in any line.
+    #[tactic(auto, unfolding(crate::specs::Prefix::prefix_at), using(crate::proofs::Unnamed::finds_nothing))]
     pub fn lack(&self, given: &Given) -> Option<Lack>
         ensures value { result ≡ lack given.now (grammar_in self.now) }
         ensures finds_nothing { IfSome result

@@ -37,27 +37,25 @@ pub(crate) struct Ends {
 
 // How many items stand before the first that says something.
 fn silent_at_start<N: Node>(nodes: &[N]) -> usize
-    ensures value { result ≡ prefix_len is_silent (map N.tree nodes.now) }
+    ensures value { result ≡ prefix_len (λ node. is_silent (N.tree node)) nodes.now }
     ensures within { result ≤ length nodes.now }
 {
-    for (i, node) in nodes.iter().enumerate() {
-        if stands_in_node(node, Kind::Saying, true) {
-            return i;
-        }
-    }
-    nodes.len()
+    nodes
+        .iter()
+        .take_while(|node| !stands_in_node(*node, Kind::Saying, true))
+        .count()
 }
 
-// How many stand up to the last that does.
-fn up_to_last<N: Node>(nodes: &[N]) -> usize
-    ensures value { result ≡ length nodes.now - suffix_len is_silent (map N.tree nodes.now) }
+// How many stand after the last that does.
+fn silent_at_end<N: Node>(nodes: &[N]) -> usize
+    ensures value { result ≡ suffix_len (λ node. is_silent (N.tree node)) nodes.now }
     ensures within { result ≤ length nodes.now }
 {
-    let mut end = nodes.len();
-    while end > 0 && !stands_in_node(&nodes[end - 1], Kind::Saying, true) {
-        end -= 1;
-    }
-    end
+    nodes
+        .iter()
+        .rev()
+        .take_while(|node| !stands_in_node(*node, Kind::Saying, true))
+        .count()
 }
 
 // The bytes of a text.
@@ -73,18 +71,17 @@ fn text_of<N: Node>(node: &N) -> Option<&[u8]>
 
 // How many texts stand at the start.
 fn texts_at_start<N: Node>(nodes: &[N]) -> usize
-    ensures value { result ≡ prefix_len is_text (map N.tree nodes.now) }
+    ensures value { result ≡ prefix_len (λ node. is_text (N.tree node)) nodes.now }
     ensures within { result ≤ length nodes.now }
 {
-    for (i, node) in nodes.iter().enumerate() {
-        if text_of(node).is_none() {
-            return i;
-        }
-    }
-    nodes.len()
+    nodes
+        .iter()
+        .take_while(|node| text_of(*node).is_some())
+        .count()
 }
 
 // How long the items are together, where all are texts.
+#[tactic(auto, using(crate::proofs::Counts::no_more))]
 fn length_of_texts<N: Node>(nodes: &[N]) -> Option<usize>
     ensures { IfSome result (λ long. AreTexts (map N.tree nodes.now) long) }
 {
@@ -132,7 +129,7 @@ impl Ends {
         ensures ends { AreEnds (map N.tree nodes.now) result }
     {
         let first = silent_at_start(nodes);
-        let last = up_to_last(nodes);
+        let last = nodes.len() - silent_at_end(nodes);
         Ends {
             first,
             last,
@@ -143,6 +140,7 @@ impl Ends {
 }
 
 // Those of a tree.
+#[tactic(auto, using(crate::proofs::Turns::compound_items))]
 fn ends_of_tree(description: &FormatDescriptionV3<'_>) -> Ends
     ensures { AreEnds (items_of (v3_tree description.now)) result }
 {

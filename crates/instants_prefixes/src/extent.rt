@@ -22,9 +22,10 @@ pub(crate) struct Extent {
     pub(crate) written: usize,
 }
 
-// By the lengths of the texts, where so many bytes were read in all.
+/// The extent by the lengths of the texts around what a description says, where so many bytes were read in all: `None` where
+/// these don't tell it.
 #[inline(always)]
-fn by_texts(ends: &Ends, read: usize) -> Option<Extent>
+pub(crate) fn extent_by_texts(ends: &Ends, read: usize) -> Option<Extent>
     ensures { IfSome result (λ extent. IsByTexts ends.now read extent) }
 {
     let texts = ends.texts?;
@@ -49,6 +50,7 @@ fn by_reading<N: ReadsNode>(nodes: &[N], ends: &Ends, text: &[u8]) -> Extent
 }
 
 // By reading the text again by a tree.
+#[tactic(auto, using(crate::proofs::Turns::compound_items, crate::proofs::Turns::single_items))]
 fn by_reading_tree(tree: &FormatDescriptionV3<'_>, ends: &Ends, text: &[u8]) -> Extent
     requires { AreEnds (items_of (v3_tree tree.now)) ends.now }
     ensures { IsExtent reads_component_v3 (items_of (v3_tree tree.now)) text.now result }
@@ -58,25 +60,6 @@ fn by_reading_tree(tree: &FormatDescriptionV3<'_>, ends: &Ends, text: &[u8]) -> 
         NodeStep::Compound(nodes) => by_reading(nodes, ends, text),
         _ => by_reading(slice::from_ref(node), ends, text),
     }
-}
-
-/// The extent of a description in a text that it reads up to the rest, by the lengths of the texts around what it says: `None`
-/// where these don't tell it.
-#[inline(always)]
-pub(crate) fn extent_by_texts(
-    _description: &Description<'_>,
-    ends: &Ends,
-    text: &[u8],
-    rest: &[u8],
-) -> Option<Extent>
-    requires ends { AreEnds (items_written (written _description.now)) ends.now }
-    requires read { LeavesRest (Described (written _description.now)) text.now rest.now }
-    ensures { IfSome result (IsExtentOf (written _description.now) text.now) }
-{
-    let Some(extent) = by_texts(ends, text.len().saturating_sub(rest.len())) else {
-        return None;
-    };
-    Some(extent)
 }
 
 /// The extent of a description in a text that it reads up to the rest.
@@ -91,7 +74,7 @@ pub(crate) fn extent_of(
     requires read { LeavesRest (Described (written description.now)) text.now rest.now }
     ensures { IsExtentOf (written description.now) text.now result }
 {
-    if let Some(extent) = extent_by_texts(description, ends, text, rest) {
+    if let Some(extent) = extent_by_texts(ends, text.len().saturating_sub(rest.len())) {
         return extent;
     }
     match description {

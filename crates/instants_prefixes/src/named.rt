@@ -129,7 +129,7 @@ fn named_by_rfc2822<'b>(text: &'b [u8], given: &Given) -> Option<(Named, &'b [u8
 }
 
 // By RFC 3339, the fast way first.
-#[tactic(auto, unfolding(crate::specs::Reading::prefix_named))]
+#[tactic(auto, unfolding(crate::specs::Reading::prefix_named), using(crate::proofs::ReadPrefixes::rfc3339_prefix))]
 #[inline(always)]
 fn named_by_rfc3339<'b>(text: &'b [u8], given: &Given) -> Option<(Named, &'b [u8])>
     ensures { option_map (λ x. (x.0, x.1.now)) result

@@ -10,7 +10,7 @@ ghost use Rattle.instants_prefixes.specs.Lengths.{length_by};
 use parsing_record::{NodeStep, Parsed, ReadsNode};
 
 // Reads by one node: `None` where it is refused, and then the record holds anything.
-#[tactic(auto, unfolding(parsing_components::specs::Reads::reads, parsing_components::specs::Meaning::optionally))]
+#[tactic(auto, unfolding(parsing_components::specs::Reads::reads, parsing_components::specs::Meaning::optionally, parsing_components::proofs::lemmas::Sizes::size))]
 #[cycle(reading)]
 fn read_node<'a, N: ReadsNode>(node: &N, input: &'a [u8], parsed: &mut Parsed) -> Option<&'a [u8]>
     ensures answer { Answered result parsed.new
@@ -20,33 +20,20 @@ fn read_node<'a, N: ReadsNode>(node: &N, input: &'a [u8], parsed: &mut Parsed) -
         NodeStep::Literal(text) => Parsed::parse_literal(input, text).ok(),
         NodeStep::Component(component) => N::read_component(component, input, parsed).ok(),
         NodeStep::Compound(nodes) => read_nodes(nodes, input, parsed),
-        NodeStep::Optional(_, node) => read_optional(node, input, parsed),
+        NodeStep::Optional(_, node) => {
+            let before = *parsed;
+            if let Some(rest) = read_node(node, input, parsed) {
+                return Some(rest);
+            }
+            *parsed = before;
+            Some(input)
+        }
         NodeStep::First(nodes) => read_first(nodes, input, parsed),
     }
 }
 
-// Reads by the node, or leaves everything as it was.
-#[tactic(auto, unfolding(parsing_components::specs::Meaning::optionally))]
-#[cycle(reading)]
-fn read_optional<'a, N: ReadsNode>(
-    node: &N,
-    input: &'a [u8],
-    parsed: &mut Parsed,
-) -> Option<&'a [u8]>
-    ensures answer { Answered result parsed.new
-        (optionally (reads N.language (N.tree node.now)) parsed.old input.now).0 }
-{
-    let before = *parsed;
-    match read_node(node, input, parsed) {
-        Some(rest) => Some(rest),
-        None => {
-            *parsed = before;
-            Some(input)
-        }
-    }
-}
-
 // Reads by each node in turn.
+#[tactic(auto, using(parsing_components::proofs::lemmas::Sizes::one_of_them, parsing_record::proofs::lemmas::Steps::stops, parsing_record::proofs::lemmas::Steps::ends))]
 #[cycle(reading)]
 fn read_nodes<'a, N: ReadsNode>(
     nodes: &[N],
@@ -67,6 +54,7 @@ fn read_nodes<'a, N: ReadsNode>(
 }
 
 // Reads by the first node that reads.
+#[tactic(auto, using(parsing_components::proofs::lemmas::Sizes::one_of_them))]
 #[cycle(reading)]
 fn read_first<'a, N: ReadsNode>(
     nodes: &[N],

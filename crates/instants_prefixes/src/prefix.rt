@@ -1,7 +1,7 @@
 //! A prefix of bytes that is read as a date.
 ghost use Rattle.std.specs.Prelude.{◌≡◌, ◌≤◌, ◌+◌, ◌-◌, length, take, drop};
 ghost use Rattle.instants_edges.specs.Pieces as Pieces;
-ghost use Rattle.instants_prefixes.specs.Ends.{lengths_from};
+ghost use Rattle.instants_prefixes.specs.Ends.{lengths_from, LiesIn};
 ghost use Rattle.instants_prefixes.specs.Prefix.{with_lengths};
 ghost use Rattle.instants_prefixes.specs.Lengths as Lengths;
 
@@ -45,9 +45,7 @@ impl Prefix {
     /// The prefix that items read up to the rest of a text, by how much of it they read.
     #[inline(always)]
     pub(crate) fn of_extent(extent: Extent, text: &[u8], moment: Named, rest: &[u8]) -> Prefix
-        requires begins { extent.begins ≤ length text.now }
-        requires up_to { extent.up_to ≤ length text.now }
-        requires written { extent.written ≤ length text.now }
+        requires { LiesIn text.now extent }
         ensures { result ≡ with_lengths text.now moment rest.now (lengths_from text.now extent) }
     {
         let ends = trimmed_length(&text[..extent.up_to]);

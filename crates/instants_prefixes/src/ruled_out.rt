@@ -11,6 +11,7 @@ use instants_sources::Source;
 // Whether the first bytes show that none of them is a date of RFC 2822: no day begins it, and no comma stands after three
 // letters.
 #[inline(always)]
+#[tactic(auto, using(crate::proofs::RuledOut::comma_due))]
 fn is_no_rfc2822(bytes: &[u8]) -> bool
     ensures { result ≡ true → HasNoPrefix bytes.now grammar.Rfc2822 }
 {
@@ -23,6 +24,7 @@ fn is_no_rfc2822(bytes: &[u8]) -> bool
 /// Whether a byte that is due in each date of a format is not there, so that no prefix of the bytes names a moment by a source,
 /// whatever is given: `false` says nothing of them.
 #[inline(always)]
+#[tactic(auto, using(crate::proofs::RuledOut::hyphen_due))]
 pub fn lacks_byte(source: &Source<'_>, bytes: &[u8]) -> bool
     ensures { result ≡ true → HasNoPrefix bytes.now (grammar_of source.now) }
 {
@@ -35,6 +37,7 @@ pub fn lacks_byte(source: &Source<'_>, bytes: &[u8]) -> bool
 
 /// Whether the first bytes show that: `false` says nothing of them.
 #[inline(always)]
+#[tactic(auto, using(crate::proofs::RuledOut::described_due))]
 pub fn rules_out(source: &Source<'_>, bytes: &[u8]) -> bool
     ensures { result ≡ true → HasNoPrefix bytes.now (grammar_of source.now) }
 {

@@ -1,5 +1,10 @@
 use Rattle.std.proofs.Common.{inl, inr}
+use Rattle.instants_sources.specs.Grammar.{written}
+use Rattle.instants_prefixes.proofs.Extents.{extent_within}
 use Rattle.instants_prefixes.proofs.lengths.prefix_of.Goals as goal
 
-pub prefix_of_description-requires-clause-read : goal.prefix_of_description-requires-clause-read
-prefix_of_description-requires-clause-read c = rw c.description.ensures (elim c.in-Items.is [ inl e ↦ (rw e at c.requires.read) | inr e ↦ (rw e at c.requires.read) ])
+pub extent_of-extent-requires-clause-read : goal.extent_of-extent-requires-clause-read
+extent_of-extent-requires-clause-read c = rw c.description.ensures (elim c.in-Items.is [ inl e ↦ (rw e at c.requires.read) | inr e ↦ (rw e at c.requires.read) ])
+
+pub of_extent-requires : goal.of_extent-requires
+of_extent-requires c = extent_within (written c.description.result.now) c.args.text.now c.extent_of-extent.result c.extent_of-extent.ensures

@@ -2,50 +2,15 @@ use Rattle.std.proofs.Common.{◌≡◌, ◌+◌, ◌==◌, true, false, length,
 use Rattle.std.specs.Option.{is_none}
 use Rattle.std.proofs.lemmas.Bool.Decides.{nat_tests}
 use Rattle.parsing_record.specs.Reads.{reading}
-use Rattle.parsing_components.proofs.lemmas.Sizes.{size, one_of_them}
-use Rattle.parsing_record.proofs.lemmas.Steps.{goes_on, stops, ends, after_refused, after_read, first_fault}
+use Rattle.parsing_record.proofs.lemmas.Steps.{goes_on, after_refused, after_read, first_fault}
 use Rattle.instants_prefixes.proofs.Firsts.{ended_none, ended_some}
 use Rattle.instants_prefixes.proofs.nodes.+reading.Goals as goal
 
--- ---- the nodes inside a node are smaller
-
-pub read_node-read_nodes-requires : goal.read_node-read_nodes-requires
-unfolding size
-read_node-read_nodes-requires g t c κs within = let inside = ap size c.in-Compound.ensures in (omega (arith, inside, c.decreases), within)
-
-pub read_node-read_optional-requires : goal.read_node-read_optional-requires
-unfolding size
-read_node-read_optional-requires g t c κs within = let inside = ap size c.in-Optional.ensures in (omega (arith, inside, c.decreases), within)
-
-pub read_node-read_first-requires : goal.read_node-read_first-requires
-unfolding size
-read_node-read_first-requires g t c κs within = let inside = ap size c.in-First.ensures in (omega (arith, inside, c.decreases), within)
-
-pub read_nodes-read_node-requires : goal.read_nodes-read_node-requires
-read_nodes-read_node-requires g t c κs within =
-    let one = one_of_them g.N.Node.tree c.args.nodes.now c.loop-node.node-index c.node-item.result c.loop-node-test.true in
-    let same = ap (λ node. size (g.N.Node.tree node)) c.node-item.is in
-    (omega (arith, one, same, c.decreases), within)
-
-pub read_first-read_node-requires : goal.read_first-read_node-requires
-read_first-read_node-requires g t c κs within =
-    let one = one_of_them g.N.Node.tree c.args.nodes.now c.loop-node.node-index c.node-item.result c.loop-node-test.true in
-    let same = ap (λ node. size (g.N.Node.tree node)) c.node-item.is in
-    (omega (arith, one, same, c.decreases), within)
-
 -- ---- one node after the other
-
-pub read_nodes-returns-in_default : goal.read_nodes-returns-in_default
-read_nodes-returns-in_default g t c =
-    let refused = c.in_default.ensures.answer in
-    record { answer = (refused.0, stops g.N.Node.language g.N.Node.tree c.args.nodes.now c.loop-node.node-index c.node-item.result c.loop-node.parsed c.loop-node.rest.now refused.0 _ c.loop-node-test.true c.node-item.is refused.1 c.loop-node.invariant) }
 
 pub read_nodes-loop-node-preserved : goal.read_nodes-loop-node-preserved
 read_nodes-loop-node-preserved g t c =
     goes_on g.N.Node.language g.N.Node.tree c.args.nodes.now c.loop-node.node-index c.node-item.result c.loop-node.parsed c.read_node.new.parsed c.loop-node.rest.now c.in-Some.next.now _ c.loop-node-test.true c.node-item.is c.in-Some.ensures.answer c.loop-node.invariant
-
-pub read_nodes-returns : goal.read_nodes-returns
-read_nodes-returns g t c = record { answer = ends g.N.Node.language g.N.Node.tree c.args.nodes.now c.loop-node.node-index c.loop-node.parsed c.loop-node.rest.now _ c.loop-node-test.false c.loop-node.invariant }
 
 -- ---- the first that reads
 

@@ -19,9 +19,6 @@ invariant-read_nodes-loop-node g l = reading_of_all g.N.Node.language (from g.N.
 abbrev pub decreases-read_node : goal.decreases-read_node
 decreases-read_node g l = 2 * size (g.N.Node.tree l.node.now)
 
-abbrev pub decreases-read_optional : goal.decreases-read_optional
-decreases-read_optional g l = 2 * size (g.N.Node.tree l.node.now) + 1
-
 abbrev pub decreases-read_nodes : goal.decreases-read_nodes
 decreases-read_nodes g l = 2 * size_all (listed (map g.N.Node.tree l.nodes.now)) + 1
 

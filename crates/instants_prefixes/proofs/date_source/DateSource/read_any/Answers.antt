@@ -1,20 +1,13 @@
-use Rattle.std.proofs.Common.{◌≤◌, length, Some, None, sym, ap, subst, ◌∙◌, arith}
+use Rattle.std.proofs.Common.{◌≤◌, length, sym, ap, subst, arith}
 use Rattle.std.proofs.lemmas.List.{length-take}
 use Rattle.instants_prefixes.specs.DateSource.{grammar_in, IsWithin}
 use Rattle.instants_prefixes.specs.declared.prefix.Prefix.{Prefix}
-use Rattle.instants_prefixes.proofs.PrefixesAt.{prefix_at_is, named_leaves, within_bytes, prefix_within}
+use Rattle.instants_prefixes.proofs.PrefixesAt.{named_leaves, within_bytes, prefix_within}
 use Rattle.instants_prefixes.proofs.Windows.{text_within}
 use Rattle.instants_prefixes.proofs.date_source.DateSource.read_any.Goals as goal
 
-pub returns-in-None-clause-prefix : goal.returns-in-None-clause-prefix
-returns-in-None-clause-prefix c = sym (prefix_at_is c.args.given.now (grammar_in c.args.self.now) c.args.bytes.now c.text_for-text.result.now None c.text_for-text.ensures c.in-None.ensures)
-
 pub prefix_of-requires-clause-read : goal.prefix_of-requires-clause-read
 prefix_of-requires-clause-read c = named_leaves c.args.given.now (grammar_in c.args.self.now) c.text_for-text.result.now c.in-Some.moment c.in-Some.rest.now (sym c.in-Some.ensures)
-
-pub returns-in-Some-clause-prefix : goal.returns-in-Some-clause-prefix
-returns-in-Some-clause-prefix c =
-    ap Some c.prefix_of.ensures ∙ sym (prefix_at_is c.args.given.now (grammar_in c.args.self.now) c.args.bytes.now c.text_for-text.result.now (Some (c.in-Some.moment, c.in-Some.rest.now)) c.text_for-text.ensures c.in-Some.ensures)
 
 pub returns-in-Some-clause-within : goal.returns-in-Some-clause-within
 returns-in-Some-clause-within c =

@@ -1,6 +1,0 @@
-use Rattle.instants_sources.specs.Grammar.{written}
-use Rattle.instants_prefixes.proofs.Extents.{described_extent}
-use Rattle.instants_prefixes.proofs.extent.extent_by_texts.Goals as goal
-
-pub returns : goal.returns
-returns c = described_extent (written c.args._description.now) c.args.ends.now c.args.text.now c.args.rest.now c.saturating_sub.result c.in-Some.extent c.requires.ends c.requires.read c.saturating_sub.ensures c.in-Some.ensures
