@@ -6,17 +6,16 @@ use Rattle.instants_faults.specs.ProgramText as instants
 use Rattle.instants_lines_words.specs.Wrong.{wrong_of}
 use Rattle.instants_lines_words.specs.WrongText.{wrong_text}
 use Rattle.instants_prefixes.specs.declared.lacks.Lack.{Lack}
-use Rattle.instants_prefixes.specs.declared.lacks.Lack.TheVariants.{Century, Year, Day, Hour, Offset}
+use Rattle.instants_prefixes.specs.declared.lacks.Lack.TheVariants.{Year, Day, Time, Offset}
 use Rattle.instants_lines.specs.declared.lacking.Lacking.{Lacking}
 use Rattle.instants_lines.specs.declared.lines_fault.LinesFault.{LinesFault}
 use Rattle.instants_lines.specs.declared.lines_fault.LinesFault.TheVariants as lines
 
 -- what a source lacks
 abbrev pub lack_word : Lack → List ℕ
-lack_word Century = codes "century"
 lack_word Year = codes "year"
 lack_word Day = codes "day"
-lack_word Hour = codes "hour"
+lack_word Time = codes "time of day"
 lack_word Offset = codes "offset"
 
 -- the sentence for a source that lacks something, after the name of the program

@@ -20,10 +20,9 @@ fn lack_word(lack: Lack) -> &'static str
     ensures { result.now ≡ lack_word lack }
 {
     match lack {
-        Lack::Century => "century",
         Lack::Year => "year",
         Lack::Day => "day",
-        Lack::Hour => "hour",
+        Lack::Time => "time of day",
         Lack::Offset => "offset",
     }
 }

@@ -1,5 +1,5 @@
 //! Laws of what is written, each the contract of a function.
-ghost use Rattle.std.specs.Prelude.{◌≡◌, ◌<◌, ◌≤◌, ◌↔◌, ◌⊎◌, ◌+◌, ℕ, true, Option, List, [], ◌∷◌, ◌++◌, Some, None, Ok, Err, length, take, drop, map, decimal, IsOk};
+ghost use Rattle.std.specs.Prelude.{◌≡◌, ◌<◌, ◌≤◌, ◌↔◌, ◌⊎◌, ◌+◌, ℕ, true, false, Option, List, [], ◌∷◌, ◌++◌, Some, None, Ok, Err, length, take, drop, map, decimal, IsOk};
 ghost use Rattle.std.specs.Ordering.{nat_cmp, int_cmp};
 ghost use Rattle.std.specs.Cmp.Lexicographic.{slice_cmp};
 ghost use Rattle.base.specs.Bytes.{tab, line_feed};
