@@ -3,7 +3,8 @@
 use calendar::UtcOffset;
 use instants::SourceText;
 use instants_prefixes::{
-    DateSource, Given, Lack, Prefix, Years, lacks_byte, lacks_offset, lacks_time, lacks_year, rules_out,
+    DateSource, Given, Lack, Prefix, Years, lacks_byte, lacks_offset, lacks_time, lacks_year,
+    rules_out,
 };
 use instants_sources::Source;
 use std::alloc::Global;
@@ -34,7 +35,10 @@ static ROWS: [(SourceText, &[u8], Told, Known); 5] = [
         SourceText::Strftime("%F %T UTC"),
         b"2021-01-02 03:04:05 UTC up",
         Some((1_609_556_645, [0, 19, 23, 23])),
-        (Some(Lack::Offset), [false, true, false, false, false, false]),
+        (
+            Some(Lack::Offset),
+            [false, true, false, false, false, false],
+        ),
     ),
     (
         SourceText::Strftime("at %s"),
@@ -162,7 +166,8 @@ fn near_years(rt: HostRuntime) {
                 == Some((1_709_164_800, [0, 17, 17, 17]))
         );
         assert!(rt;
-            as_told(source.read(b"12/31/99 23:59:59", &given)) == Some((946_684_799, [0, 17, 17, 17]))
+            as_told(source.read(b"12/31/99 23:59:59", &given))
+                == Some((946_684_799, [0, 17, 17, 17]))
         );
     }
 }
