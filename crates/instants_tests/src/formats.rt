@@ -61,6 +61,10 @@ fn described(format: &Format) -> SourceText<'static> {
 #[test]
 fn descriptions(rt: HostRuntime) {
     for format in formats() {
-        assert!(rt; Source::new(rt.alloc(), described(format)).is_ok(), "{}", format.name);
+        assert!(rt;
+            Source::new(rt.alloc(), described(format)).is_ok(),
+            "{}",
+            format.name
+        );
     }
 }
