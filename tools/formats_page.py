@@ -29,6 +29,7 @@ ENTRY = re.compile(
 # The arguments before the name, where lines lack something.
 GIVEN = {
     "Nothing": "",
+    "Utc": "+00:00 +00:00 ",
     "Offset": "+00:00 +00:00 ",
     "YearAndOffset": "+00:00 +00:00 year 2024 ",
     "TimeAndOffset": "+00:00 +00:00 time 00:00 ",
@@ -36,6 +37,7 @@ GIVEN = {
 # What lines lack, in words.
 LACKING = {
     "Nothing": "",
+    "Utc": "the offset, which is +00:00: their text says UTC",
     "Offset": "the offset",
     "YearAndOffset": "the year and the offset",
     "TimeAndOffset": "the time of day and the offset",

@@ -11,38 +11,50 @@ OFFSETS = ["+00:00", "+00:00", "Z", "UTC", "+02:00", "-03:30", "+05:45", "+14:00
 LIMITS = ["1", "2", "8", "17", "33", "64", "64", "64", "100", "100", "200", "1000", "4096", "1048576", "0000064"]
 TIMES = ["00:00", "12:30", "23:59"]
 LABELS = ["web", "", "two words", "\u00e9", "label", "2024", "rfc3339"]
-YEARS = ["2024", "2023", "2020", "1970", "0", "1", "9999", "0099"]
+YEARS = ["2024", "2023", "2020", "1970", "0000", "0001", "9999", "0099"]
 
 
 # How the dates of named formats are written, where that is no pattern of another way.
 PATTERNS = {
-    "access-log": "{day:02}/{mon}/{year:04}:{clock} {z}",
+    "access-log": "[{day:02}/{mon}/{year:04}:{clock} {z}]",
     "go-time": "{year:04}-{month:02}-{day:02} {clock}.{some} {z} CEST",
     "serilog": "{year:04}-{month:02}-{day:02} {clock}.{ms} {zc}",
     "jenkins": "{year:04}-{month:02}-{day:02} {clock}.{ms}{z}",
     "psql": "{year:04}-{month:02}-{day:02} {clock}{zc}",
     "git-log": "{wd} {mon} {day} {clock} {year:04} {z}",
+    "twitter": "{wd} {mon} {day:02} {clock} {z} {year:04}",
     "docker-json": '{{"log":"10:00:00","time":"{year:04}-{month:02}-{day:02}T{clock}.{ns}Z"}}',
+    "json-time": '{{"msg":"10:00:00","ts":"{year:04}-{month:02}-{day:02}T{clock}.{ms}{zc}"}}',
     "apache-error": "{wd} {mon} {day:02} {clock}.{us} {year:04}",
     "go-log": "{year:04}/{month:02}/{day:02} {clock}.{us}",
     "tomcat": "{day:02}-{mon}-{year:04} {clock}.{ms}",
     "redis": "{day:02} {mon} {year:04} {clock}.{ms}",
+    "suricata": "{month:02}/{day:02}/{year:04}-{clock}.{us}",
     "erlang": "{day}-{mon}-{year:04}::{clock}",
     "glog": "I{year:04}{month:02}{day:02} {clock}.{us}",
     "java-logging": "{mon} {day:02}, {year:04} {hour12}:{minute:02}:{second:02} {half}",
     "windows-events": "{month}/{day}/{year:04} {hour12}:{minute:02}:{second:02} {half}",
+    "mdy-am-pm": "{month:02}/{day:02}/{year:04} {hour12:02}:{minute:02}:{second:02}.{ms} {half}",
+    "dmy-dots": "{day:02}.{month:02}.{year:04} {clock}",
+    "dmy": "{day:02}/{month:02}/{year:04} {clock}",
+    "mdy": "{month:02}/{day:02}/{year:04} {clock}.{ms}",
     "ctime": "{wd} {mon} {day:2} {clock} {year:04}",
     "date-utc": "{wd} {mon} {day:2} {clock} UTC {year:04}",
     "cloudfront": "{year:04}-{month:02}-{day:02}\t{clock}",
     "apt": "{year:04}-{month:02}-{day:02}  {clock}",
     "mariadb": "{year:04}-{month:02}-{day:02} {hour:2}:{minute:02}:{second:02}",
     "php": "{day:02}-{mon}-{year:04} {clock}",
+    "oracle": "{day:02}-{mon}-{year:04} {clock}",
     "cisco-asa": "{mon} {day:2} {year:04} {clock}",
     "openssl": "{mon} {day:2} {clock} {year:04} GMT",
     "unix-fraction": "{unix}.{ms}",
     "unix-micros": "{unix}{us}",
     "klog": "W{month:02}{day:02} {clock}.{us}",
     "logcat": "{month:02}-{day:02} {clock}.{ms}",
+    "snort": "{month:02}/{day:02}-{clock}.{us}",
+    "syslog-fraction": "{mon} {day:2} {clock}.{us}",
+    "spark": "{yy:02}/{month:02}/{day:02} {clock}",
+    "dmy-short": "{day:02}/{month:02}/{yy:02} {clock}",
     "ledger": "{year:04}/{month:02}/{day:02}",
 }
 
@@ -61,8 +73,8 @@ def offset_of(rng: random.Random, is_needed: bool) -> str:
 
 def named_formats() -> list[Way]:
     """Returns the ways that have a name: a name is written where its language and description would be."""
-    lacking = {"year": ("klog", "logcat", "syslog"), "time": ("ledger", "date")}
-    whole = ("access-log", "go-time", "serilog", "jenkins", "psql", "git-log", "auditd")
+    lacking = {"year": ("klog", "logcat", "snort", "syslog-fraction", "syslog", "spark", "dmy-short"), "time": ("ledger", "date")}
+    whole = ("access-log", "go-time", "serilog", "jenkins", "psql", "git-log", "twitter", "auditd")
     ways = []
     for word, (language, description) in SYNONYMS.items():
         name = word.decode()
@@ -127,7 +139,7 @@ ODD = [
     "[optional [" * 128 + "x" + "]]" * 128, "[optional [" * 127 + "x" + "]]" * 127, "[subsecond digits:10]",
     "[year base:iso_week sign:mandatory range:extended]", "[ \tday\fpadding:none\r]", "[day padding:none ",
     "[year repr:last_two sign:mandatory]", "[weekday one_indexed:true]", "[first ]", "[first []]", "[optional []x]", "key", "carry",
-    "explain", "guess", "locate", "label", "syslog", "access-log", "date", "web\tlog", "--help me", "\u00e9",
+    "explain", "guess", "locate", "label", "syslog", "access-log", "date", "web\tlog", "--help me", "\u00e9", "OFFSET", "YEAR", "24",
 ]
 
 

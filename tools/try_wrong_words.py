@@ -30,9 +30,9 @@ ROWS = (
     ("keys rfc3339", '"keys": no such mode; there are key, carry, replace, explain, locate'),
     ("key", f"no source is named; there are {SOURCES}"),
     ("key +24:00 rfc3339", '"+24:00": no target offset; it must be +HH:MM, -HH:MM, Z or UTC'),
-    ("key Z 7 rfc3339", '"7": no assumed offset; it must be +HH:MM, -HH:MM, Z, UTC or -'),
+    ("key Z 7 rfc3339", '"7": no assumed offset; it must be +HH:MM, -HH:MM, Z, UTC or -, as +02:00'),
     ("key Z - 0 rfc3339", '"0": no limit; it must be a number from 1 to 1048576'),
-    ("key year 24x rfc3339", '"24x": no year; it must be a number from 0 to 9999'),
+    ("key year 24x rfc3339", '"24x": no year; it must be four digits, as 2024'),
     ("key time 25:00 rfc3339", '"25:00": no time of day; it must be HH:MM'),
     ("key Z - 9 RFC3339", f'source 1: "RFC3339": no such source; there are {SOURCES}'),
     ("key rfc3339 app.log", 'source 2: "app.log": no such source; files are read from standard input: instants-lines .. < FILE'),
@@ -78,6 +78,11 @@ def test_a_closed_pipe(instants_lines: pathlib.Path) -> None:
 def test_a_description_without_components(instants_lines: pathlib.Path) -> None:
     said = 'instants-lines: warning: v3 "%F" names no component, as [year]\ninstants-lines: source 1 names no moment: it has no year\n'
     assert call(instants_lines, "key", "v3", "%F") == (2, "", said)
+
+
+def test_packed_input(instants_lines: pathlib.Path) -> None:
+    said = "instants-lines: warning: the input is packed by bzip2: bunzip2 -c FILE | instants-lines ..\n"
+    assert call(instants_lines, "key", "rfc3339", input="BZh9\nBZh9\n") == (0, "! none\tBZh9\n! none\tBZh9\n", said)
 
 
 @pytest.mark.parametrize("word", ["--help", "-h", "--version"])

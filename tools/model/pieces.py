@@ -23,4 +23,4 @@ def time_said(word: bytes) -> int | None:
 
 
 def year_said(word: bytes) -> int | None:
-    return number_said(0, 9999, 4, word) if word else None
+    return number_said(0, 9999, 4, word) if len(word) == 4 else None

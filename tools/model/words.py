@@ -79,7 +79,7 @@ def maybe_said(word: bytes | None, reading: Callable[[bytes], Value | None], wro
 
 
 def is_setting(word: bytes) -> bool:
-    return word[:1] in (b"+", b"-") or word[:1].isdigit() or word in (b"Z", b"UTC")
+    return word[:1] in (b"+", b"-") or word[:1].isdigit() or word in (b"Z", b"UTC", b"OFFSET")
 
 
 def as_offset(word: bytes) -> bytes:
@@ -159,9 +159,9 @@ def asked_by(words: list[bytes]) -> Asked:
         raise WrongWords(b"no source is named; there are " + SOURCES)
     target_word, assumed_word, limit_word = settings + [b"+00:00", b"-", b"1048576"][len(settings) :]
     target = said(as_offset(target_word), offset_said, b"no target offset; it must be +HH:MM, -HH:MM, Z or UTC")
-    assumed = None if assumed_word == b"-" else said(as_offset(assumed_word), offset_said, b"no assumed offset; it must be +HH:MM, -HH:MM, Z, UTC or -")
+    assumed = None if assumed_word == b"-" else said(as_offset(assumed_word), offset_said, b"no assumed offset; it must be +HH:MM, -HH:MM, Z, UTC or -, as +02:00")
     limit = said(limit_word, lambda it: number_said(1, 1_048_576, 7, it), b"no limit; it must be a number from 1 to 1048576")
-    year = maybe_said(named[b"year"], year_said, b"no year; it must be a number from 0 to 9999")
+    year = maybe_said(named[b"year"], year_said, b"no year; it must be four digits, as 2024")
     minutes = maybe_said(named[b"time"], time_said, b"no time of day; it must be HH:MM")
     label = maybe_said(named[b"label"], lambda it: label_said(words[0], it), b"no label; modes key and carry take one, without tabs and line feeds")
     sources = tuple(source_made(place, *it) for place, it in enumerate(sources_said(rest, len(settings) == 3), 1))

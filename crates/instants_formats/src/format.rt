@@ -5,6 +5,8 @@
 pub enum Lacking {
     /// They say all.
     Nothing,
+    /// Their text says UTC, which has the offset +00:00 and no other.
+    Utc,
     /// They say no offset from UTC.
     Offset,
     /// They say no year, and no offset.

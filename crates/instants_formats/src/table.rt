@@ -2,14 +2,14 @@
 
 use crate::format::{Format, Lacking};
 
-pub(crate) static FORMATS: [Format; 40] = [
+pub(crate) static FORMATS: [Format; 52] = [
     // nginx and Apache: access log; Amazon S3, Squid with `logformat common`, CUPS.
     //     127.0.0.1 - - [10/Oct/2000:13:55:36 -0700] "GET / HTTP/1.0" 200 12
     //     2000-10-10T20:55:36.000000000Z
     Format {
         name: "access-log",
         language: "strftime",
-        description: "%d/%b/%Y:%T %z",
+        description: "[%d/%b/%Y:%T %z]",
         lacks: Lacking::Nothing,
     },
     // Go: `time.Time` as printed; Rails, Gunicorn, `git log --date=iso`.
@@ -57,6 +57,15 @@ pub(crate) static FORMATS: [Format; 40] = [
         description: "%a %b %-d %T %Y %z",
         lacks: Lacking::Nothing,
     },
+    // Twitter: `created_at`; Ruby: `Time` before 1.9.
+    //     {"created_at":"Sat Jan 02 03:04:05 +0100 2021","id":7}
+    //     2021-01-02T02:04:05.000000000Z
+    Format {
+        name: "twitter",
+        language: "strftime",
+        description: "%a %b %e %T %z %Y",
+        lacks: Lacking::Nothing,
+    },
     // Docker: files of `json-file`, where a message has a date of its own.
     //     {"log":"until 2027-01-01T00:00:00Z","stream":"stdout","time":"2021-01-02T03:04:05.123456789Z"}
     //     2021-01-02T03:04:05.123456789Z
@@ -64,7 +73,16 @@ pub(crate) static FORMATS: [Format; 40] = [
         name: "docker-json",
         language: "v3",
         description: "\"time\":\"[year]-[month]-[day]T[hour]:[minute]:[second][optional [.[subsecond]]]Z\"",
-        lacks: Lacking::Offset,
+        lacks: Lacking::Utc,
+    },
+    // JSON with the key of its time, where a message may have a date of its own: Bunyan, logrus, Logstash, CloudTrail.
+    //     {"msg":"until 2027-01-01T00:00:00Z","ts":"2021-01-02T03:04:05.123+01:00"}
+    //     2021-01-02T02:04:05.123000000Z
+    Format {
+        name: "json-time",
+        language: "v3",
+        description: "[first [\"time\"] [\"ts\"] [\"timestamp\"] [\"@timestamp\"] [\"eventTime\"]]:\"[year]-[month]-[day]T[hour]:[minute]:[second][optional [.[subsecond]]][first [Z] [[offset_hour sign:mandatory]:[offset_minute]]]\"",
+        lacks: Lacking::Utc,
     },
     // auditd.
     //     type=SYSCALL msg=audit(1609556645.123:42): arch=c000003e
@@ -138,6 +156,15 @@ pub(crate) static FORMATS: [Format; 40] = [
         description: "[day] [month repr:short] [year] [hour]:[minute]:[second].[subsecond]",
         lacks: Lacking::Offset,
     },
+    // Suricata: `fast.log`.
+    //     01/02/2021-03:04:05.123456  [**] [1:2010935:3] ET SCAN [**]
+    //     2021-01-02T03:04:05.123456000Z
+    Format {
+        name: "suricata",
+        language: "v3",
+        description: "[month]/[day]/[year]-[hour]:[minute]:[second].[subsecond]",
+        lacks: Lacking::Offset,
+    },
     // Erlang, RabbitMQ, CouchDB: reports.
     //     =INFO REPORT==== 2-Jan-2021::03:04:05.123456 ===
     //     2021-01-02T03:04:05.123456000Z
@@ -165,6 +192,15 @@ pub(crate) static FORMATS: [Format; 40] = [
         description: "[month repr:short] [day], [year] [hour repr:12 padding:none]:[minute]:[second] [period]",
         lacks: Lacking::Offset,
     },
+    // Dates of the United States with AM and PM, each number in two digits.
+    //     01/02/2021 03:04:05.12 PM up
+    //     2021-01-02T15:04:05.120000000Z
+    Format {
+        name: "mdy-am-pm",
+        language: "v3",
+        description: "[month]/[day]/[year] [hour repr:12]:[minute]:[second][optional [.[subsecond]]] [period]",
+        lacks: Lacking::Offset,
+    },
     // Windows: events as exported in the United States.
     //     Information,1/2/2021 3:04:05 PM,Service Control Manager,7036
     //     2021-01-02T15:04:05.000000000Z
@@ -172,6 +208,33 @@ pub(crate) static FORMATS: [Format; 40] = [
         name: "windows-events",
         language: "v3",
         description: "[month padding:none]/[day padding:none]/[year] [hour repr:12 padding:none]:[minute]:[second] [period]",
+        lacks: Lacking::Offset,
+    },
+    // Windows: events as exported in Germany.
+    //     Informationen;02.01.2021 03:04:05;Service Control Manager;7036
+    //     2021-01-02T03:04:05.000000000Z
+    Format {
+        name: "dmy-dots",
+        language: "v3",
+        description: "[day].[month].[year] [hour]:[minute]:[second][optional [.[subsecond]]]",
+        lacks: Lacking::Offset,
+    },
+    // Dates of Great Britain, day first.
+    //     02/01/2021 03:04:05.123 INFO up
+    //     2021-01-02T03:04:05.123000000Z
+    Format {
+        name: "dmy",
+        language: "v3",
+        description: "[day]/[month]/[year] [hour]:[minute]:[second][optional [.[subsecond]]]",
+        lacks: Lacking::Offset,
+    },
+    // Dates of the United States, month first; SharePoint: ULS.
+    //     01/02/2021 03:04:05.123 INFO up
+    //     2021-01-02T03:04:05.123000000Z
+    Format {
+        name: "mdy",
+        language: "v3",
+        description: "[month]/[day]/[year] [hour]:[minute]:[second][optional [.[subsecond]]]",
         lacks: Lacking::Offset,
     },
     // `ctime`, `dmesg -T`, vsftpd, uWSGI, Apache 2.2: error log.
@@ -190,7 +253,7 @@ pub(crate) static FORMATS: [Format; 40] = [
         name: "date-utc",
         language: "strftime",
         description: "%a %b %e %T UTC %Y",
-        lacks: Lacking::Offset,
+        lacks: Lacking::Utc,
     },
     // Amazon CloudFront.
     //     2021-01-02\t03:04:05\tLHR62-C2\t2390\t10.0.1.2\tGET
@@ -244,6 +307,15 @@ pub(crate) static FORMATS: [Format; 40] = [
         name: "php",
         language: "strftime",
         description: "%d-%b-%Y %T",
+        lacks: Lacking::Offset,
+    },
+    // Oracle: listener and alert logs, months in any case.
+    //     02-JAN-2021 03:04:05 * service_update * db * 0
+    //     2021-01-02T03:04:05.000000000Z
+    Format {
+        name: "oracle",
+        language: "v3",
+        description: "[day]-[month repr:short case_sensitive:false]-[year] [hour]:[minute]:[second]",
         lacks: Lacking::Offset,
     },
     // Cisco ASA.
@@ -336,6 +408,24 @@ pub(crate) static FORMATS: [Format; 40] = [
         description: "[month]-[day] [hour]:[minute]:[second].[subsecond]",
         lacks: Lacking::YearAndOffset,
     },
+    // Snort: alerts.
+    //     01/02-03:04:05.123456  [**] [1:469:3] ICMP PING NMAP [**]
+    //     2024-01-02T03:04:05.123456000Z
+    Format {
+        name: "snort",
+        language: "v3",
+        description: "[month]/[day]-[hour]:[minute]:[second].[subsecond]",
+        lacks: Lacking::YearAndOffset,
+    },
+    // syslog with a fraction: Cisco IOS; `journalctl -o short-precise`.
+    //     Jan  2 03:04:05.123456 host cron[1]: run
+    //     2024-01-02T03:04:05.123456000Z
+    Format {
+        name: "syslog-fraction",
+        language: "v3",
+        description: "[month repr:short] [day padding:space] [hour]:[minute]:[second].[subsecond]",
+        lacks: Lacking::YearAndOffset,
+    },
     // syslog (RFC 3164), macOS: `system.log`; Postfix, sshd, cron.
     //     Jan  2 03:04:05 host cron[1]: run
     //     2024-01-02T03:04:05.000000000Z
@@ -343,6 +433,24 @@ pub(crate) static FORMATS: [Format; 40] = [
         name: "syslog",
         language: "strftime",
         description: "%b %e %T",
+        lacks: Lacking::YearAndOffset,
+    },
+    // Spark, HDFS: a year of two digits, of which the year that is given says the century.
+    //     21/01/02 03:04:05 INFO SparkContext: up
+    //     2021-01-02T03:04:05.000000000Z
+    Format {
+        name: "spark",
+        language: "strftime",
+        description: "%y/%m/%d %T",
+        lacks: Lacking::YearAndOffset,
+    },
+    // Dates of Great Britain with such a year; WebSphere.
+    //     02/01/21 03:04:05 INFO up
+    //     2021-01-02T03:04:05.000000000Z
+    Format {
+        name: "dmy-short",
+        language: "strftime",
+        description: "%d/%m/%y %T",
         lacks: Lacking::YearAndOffset,
     },
     // Ledger, hledger.

@@ -1,8 +1,3 @@
 mod Counting
-mod Trying
-mod Decimals
-mod Descriptions
 mod FirstLine
-mod Ranking
 mod Sampled
-mod Written

@@ -1,51 +1,42 @@
--- What is found in lines by a format, counted.
-use Rattle.std.specs.Prelude.{◌≤◌, ℕ, ◌+◌, Bool, true, false, max, List, [], ◌∷◌, map, count_by, Option, None, Some, ⊤}
-use Rattle.instants_found.specs.Found.{found}
+-- What is found in a line by a format.
+use Rattle.std.specs.Prelude.{ℕ, Bool, true, false, not, is_ok, pos, Option, None, Some, Ok}
+use Rattle.instants_prefixes.specs.declared.given.Given.{Given}
+use Rattle.instants_prefixes.specs.declared.given.Years.TheVariants.{Unknown, In}
+use Rattle.instants_formats.specs.declared.format.Lacking.{Lacking}
+use Rattle.instants_formats.specs.declared.format.Lacking.TheVariants.{Nothing, Utc, Offset, YearAndOffset, TimeAndOffset}
+use Rattle.instants_found.specs.declared.found.Found.{Found}
 use Rattle.instants_found.specs.declared.found.Finding.{Finding}
-use Rattle.instants_found.specs.declared.found.Finding.TheVariants.{Doubtful, There}
-use Rattle.instants_guess.specs.Trials.{Trial, given_for}
-use Rattle.instants_guess.specs.declared.tally.Tally.{Tally}
+use Rattle.instants_found.specs.declared.found.Finding.TheVariants.{There}
+use Rattle.instants_timeline.specs.Place.{shown_or_refused}
 
 -- the most bytes of a stream that are looked at
 abbrev pub most : ℕ
 most = 1_048_576
 
--- what is found in each line, wherever it begins
-unfoldable pub findings : Trial → List (List ℕ) → List (Option Finding)
-findings trial lines = map (λ line. found most (given_for trial.lacks) trial.sources line) lines
+-- what is given to the dates of a format that lacks it: the offset +00:00, the year 2024, midnight
+abbrev pub given_for : Lacking → Given
+given_for Nothing = record { offset = None; years = Unknown; time = None }
+given_for Utc = record { offset = Some (pos 0); years = Unknown; time = None }
+given_for Offset = record { offset = Some (pos 0); years = Unknown; time = None }
+given_for YearAndOffset = record { offset = Some (pos 0); years = In (pos 2024); time = None }
+given_for TimeAndOffset = record { offset = Some (pos 0); years = Unknown; time = Some 0 }
 
-abbrev pub is_there : Option Finding → Bool
-is_there None = false
-is_there (Some Doubtful) = false
-is_there (Some (There date)) = true
+-- the date's year at the target +00:00 is written, and not `! year`
+abbrev pub is_written : Found → Bool
+is_written date = is_ok (shown_or_refused (pos 0) (Ok date.moment))
 
+-- the line has a date that is written
+abbrev pub is_dated : Option Finding → Bool
+is_dated (Some (There date)) = is_written date
+is_dated _ = false
+
+-- it has one whose year is not written
+abbrev pub is_unwritten : Option Finding → Bool
+is_unwritten (Some (There date)) = not (is_written date)
+is_unwritten _ = false
+
+-- its date is in doubt
 abbrev pub is_doubtful : Option Finding → Bool
 is_doubtful None = false
-is_doubtful (Some Doubtful) = true
 is_doubtful (Some (There date)) = false
-
--- the number of places that a date needs to begin among them
-abbrev pub places_of : Option Finding → ℕ
-places_of None = 0
-places_of (Some Doubtful) = 0
-places_of (Some (There date)) = date.start + 1
-
--- the number of places that all of them need
-abbrev pub places : List (Option Finding) → ℕ
-places [] = 0
-places (finding ∷ others) = max (places_of finding) (places others)
-
--- how many lines have a date, how many have one in doubt, and the least limit for those that have one
-unfoldable pub tally_of : List (Option Finding) → Tally
-tally_of findings = record { dated = count_by is_there findings; doubtful = count_by is_doubtful findings; limit = places findings }
-
--- with what is found in a line more
-abbrev pub counted : Tally → Option Finding → Tally
-counted tally None = tally
-counted tally (Some Doubtful) = record tally { doubtful = tally.doubtful + 1 }
-counted tally (Some (There date)) = record tally { dated = tally.dated + 1; limit = max tally.limit (date.start + 1) }
-
--- where a line has a date it begins so near
-abbrev pub StartsWithin : ℕ → Finding → Type 0
-StartsWithin bytes Doubtful = ⊤
-StartsWithin bytes (There date) = date.start ≤ bytes
+is_doubtful (Some _) = true

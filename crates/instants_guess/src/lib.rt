@@ -2,15 +2,12 @@
 #![tactic(auto)]
 
 mod candidate;
-mod candidates;
-mod count;
-mod guessed;
+mod formats;
 mod line;
-mod offer;
 mod program;
 mod rank;
 mod sample;
 mod tally;
-mod write;
+mod text;
 
 pub use program::guess;

@@ -3,6 +3,8 @@ ghost use Rattle.std.specs.Prelude.{◌≡◌, ◌<◌, ◌≤◌, ◌+◌, ◌�
 ghost use Rattle.base.specs.Bytes.{line_feed};
 ghost use Rattle.instants_stream.specs.Lines.{HasNoLineFeed, lines};
 
+use crate::candidate::MOST;
+
 // How many bytes stand before the first line feed.
 fn line_len(text: &[u8]) -> Option<usize>
     ensures none { IfNone result (HasNoLineFeed text.now) }
@@ -26,15 +28,17 @@ pub(crate) fn first_line(text: &[u8]) -> (&[u8], &[u8])
     }
 }
 
-/// How many lines a text has.
-pub(crate) fn count_lines(text: &[u8]) -> usize
-    ensures { result ≡ length (lines text.now) }
+/// The lines of the first bytes of a stream, without one that their end cuts.
+pub(crate) fn whole_lines(text: &[u8]) -> &[u8]
+    ensures { length result.now ≤ length text.now }
 {
-    let mut count = 0;
-    let mut rest = text;
-    while !rest.is_empty() {
-        rest = first_line(rest).1;
-        count += 1;
+    if text.len() < MOST {
+        return text;
     }
-    count
+    for last in (0..text.len()).rev() {
+        if text[last] == b'\n' {
+            return &text[..last + 1];
+        }
+    }
+    b""
 }

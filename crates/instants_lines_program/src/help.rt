@@ -12,7 +12,9 @@ instants-lines MODE [TARGET [ASSUMED [LIMIT]]] [year N] [time HH:MM]
     the line to standard output with that at one offset
 instants-lines guess
     reads the first 1048576 bytes of standard input, and writes which formats
-    date its lines, and by which words, the best first
+    date its lines, and by which words, the best first; put the offset of the
+    machine that wrote the lines in the place of OFFSET, and the year of the
+    first one in that of YEAR
 
     MODE     key      the line after the date-time and a tab; `! none` where it
                       has no date-time, `! doubt` where that is in doubt, `! year`
@@ -30,7 +32,8 @@ instants-lines guess
              left out
     LIMIT    how many bytes of a line are places at which its date-time may
              begin, 1 to 1048576; the greatest where it is left out
-    year N   the year of the first date of lines that say none, 0 to 9999
+    year N   the year of the first date of lines that say none, in four digits,
+             or one near it where lines say its last two
     time HH:MM
              the time of day of dates without one, 00:00 to 23:59
     label TEXT

@@ -6,10 +6,12 @@
 mod bare;
 mod help;
 mod noting;
+mod packed;
 
 use crate::bare::warn_of_bare;
 use crate::help::{HELP, text_for};
 use crate::noting::Noting;
+use crate::packed::Looking;
 use instants_formats::formats;
 use instants_guess::guess;
 use instants_lines::{
@@ -88,7 +90,10 @@ fn write_by(rt: &HostRuntime, words: &[&str]) -> ExitCode {
     let Ok(block) = vec![in rt.alloc(); 0; BLOCK] else {
         return ended(rt, Err(LinesFault::Program(ProgramFault::Memory)), None);
     };
-    let mut input = Noting::new(rt.stdin());
+    let Ok(own_rt) = rt.clone() else {
+        return ended(rt, Err(LinesFault::Program(ProgramFault::Memory)), None);
+    };
+    let mut input = Noting::new(Looking::new(own_rt, rt.stdin()));
     let mut output = Noting::new(rt.stdout());
     let mut reader = StdReader::new(&mut input);
     let mut writer = BlockWriter::new(block, StdWriter::new(&mut output));

@@ -1,20 +1,7 @@
--- What the words for a year and a time of day say.
-use Rattle.std.proofs.Common.{◌≡◌, ℕ, ◌<◌, None, List, [], ◌∷◌, length, get_or, option_map, refl, arith}
-use Rattle.std.specs.Prelude.{pos}
+-- What the word for a time of day says.
+use Rattle.std.proofs.Common.{◌≡◌, ℕ, List, [], ◌∷◌, length, get_or, refl, arith}
 use Rattle.instants_words.specs.Pieces.{number_said}
-use Rattle.instants_lines_words.specs.Words.{clock_minutes, time_said, year_said}
-
--- a word of some bytes says the year that its digits write
-pub year_some : (word : List ℕ) → 0 < length word → year_said word ≡ option_map pos (number_said 0 9999 4 word)
-unfolding year_said
-year_some [] some = absurd (omega arith)
-year_some (first ∷ rest) some = refl
-
--- no bytes say none
-pub year_none : (word : List ℕ) → length word ≡ 0 → year_said word ≡ None
-unfolding year_said
-year_none [] none = refl
-year_none (first ∷ rest) none = absurd (omega arith)
+use Rattle.instants_lines_words.specs.Words.{clock_minutes, time_said}
 
 -- what a word of five bytes with a colon in the middle says
 pub time_five : (word : List ℕ) → length word ≡ 5 → get_or word 2 0 ≡ 58

@@ -14,9 +14,9 @@ unfoldable pub has_sign_or_digit : List ℕ → Bool
 has_sign_or_digit [] = false
 has_sign_or_digit (first ∷ rest) = first == plus || first == hyphen || is_ascii_digit first
 
--- a word is an offset or a limit, and no source, by its looks
+-- a word is an offset or a limit, and no source, by its looks; `OFFSET` stands for an offset that is still to be said
 unfoldable pub is_setting : List ℕ → Bool
-is_setting word = has_sign_or_digit word || is_utc word
+is_setting word = has_sign_or_digit word || is_utc word || bytes_eq word (codes "OFFSET")
 
 -- the first word, where it is such a word
 abbrev pub prefix_setting : List (List ℕ) → Option (List ℕ)

@@ -1,5 +1,5 @@
 -- What the words of the program say: a mode, and after it what the words of `instants` say, of which some may be left out, and before the sources a year, a time and a label.
-use Rattle.std.specs.Prelude.{ℕ, ◌+◌, ◌*◌, ◌==◌, ◌||◌, ◌&&◌, not, Bool, true, false, List, [], ◌∷◌, Option, None, Some, option_map, Result, Ok, Err, if◌then◌else◌, ℤ, pos}
+use Rattle.std.specs.Prelude.{ℕ, ◌+◌, ◌*◌, ◌==◌, ◌||◌, ◌&&◌, not, Bool, true, false, List, [], ◌∷◌, length, Option, None, Some, option_map, Result, Ok, Err, if◌then◌else◌, ℤ, pos}
 use Rattle.std.specs.List.{list_all}
 use Rattle.base.specs.Bytes.{colon, tab, line_feed}
 use Rattle.instants_words.specs.Pieces.{number_said}
@@ -58,10 +58,9 @@ clock_minutes (Some hour) (Some minute) = Some (hour * 60 + minute)
 clock_minutes (Some hour) None = None
 clock_minutes None minute = None
 
--- a year is one to four digits
+-- a year is four digits
 unfoldable pub year_said : List ℕ → Option ℤ
-year_said [] = None
-year_said (first ∷ rest) = option_map pos (number_said 0 9999 4 (first ∷ rest))
+year_said word = if length word == 4 then option_map pos (number_said 0 9999 4 word) else None
 
 -- a time of day as `HH:MM`, in minutes
 unfoldable pub time_said : List ℕ → Option ℕ

@@ -15,12 +15,12 @@ const GREATEST_YEAR: u32 = 9999;
 
 const YEAR_DIGITS: usize = 4;
 
-// A year of one to four digits.
-#[tactic(auto, using(crate::proofs::AskedWords::year_some), unfolding(crate::specs::Words::year_said))]
+// A year of four digits.
+#[tactic(auto, using(std::proofs::lemmas::Bool::Decides::nat_tests), unfolding(crate::specs::Words::year_said))]
 fn year(word: &str) -> Option<i32>
     ensures { result ≡ year_said word.now }
 {
-    if word.is_empty() {
+    if word.len() != YEAR_DIGITS {
         return None;
     }
     let year = number(word.as_bytes(), GREATEST_YEAR, YEAR_DIGITS)?;

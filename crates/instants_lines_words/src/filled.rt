@@ -48,12 +48,12 @@ fn has_sign_or_digit(word: &str) -> bool
     }
 }
 
-// Whether a word is an offset or a limit by its looks, and no source.
+// Whether a word is an offset or a limit by its looks, and no source. `OFFSET` stands for an offset that is still to be said.
 #[tactic(auto, unfolding(crate::specs::Filled::is_setting))]
 fn is_setting(word: &str) -> bool
     ensures { result ≡ is_setting word.now }
 {
-    has_sign_or_digit(word) || is_utc(word)
+    has_sign_or_digit(word) || is_utc(word) || word == "OFFSET"
 }
 
 // The first word, where it is such a word, and those after it.

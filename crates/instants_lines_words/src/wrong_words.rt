@@ -20,7 +20,7 @@ pub enum WrongWords<'a> {
     Assumed(&'a str),
     /// The limit is not a number from 1 to 1048576, in one to seven digits.
     Limit(&'a str),
-    /// The word after `year` is not a number from 0 to 9999, in one to four digits.
+    /// The word after `year` is not four digits.
     Year(&'a str),
     /// The word after `time` is not a time of day from 00:00 to 23:59.
     Time(&'a str),
@@ -76,9 +76,11 @@ fn said(wrong: &WrongWords<'_>) -> &'static str
             "no source is named; there are rfc3339, rfc2822, iso8601, v1, v2, v3, strftime, and the names of --help"
         }
         WrongWords::Target(_) => "no target offset; it must be +HH:MM, -HH:MM, Z or UTC",
-        WrongWords::Assumed(_) => "no assumed offset; it must be +HH:MM, -HH:MM, Z, UTC or -",
+        WrongWords::Assumed(_) => {
+            "no assumed offset; it must be +HH:MM, -HH:MM, Z, UTC or -, as +02:00"
+        }
         WrongWords::Limit(_) => "no limit; it must be a number from 1 to 1048576",
-        WrongWords::Year(_) => "no year; it must be a number from 0 to 9999",
+        WrongWords::Year(_) => "no year; it must be four digits, as 2024",
         WrongWords::Time(_) => "no time of day; it must be HH:MM",
         WrongWords::Label(_) => {
             "no label; modes key and carry take one, without tabs and line feeds"

@@ -1,4 +1,0 @@
-use Rattle.instants_guess.proofs.write.+push_decimal.Given as goal
-
-abbrev pub decreases-push_decimal : goal.decreases-push_decimal
-decreases-push_decimal l = l.number
