@@ -125,7 +125,10 @@ impl Candidate {
 
     // Why the date of a line is in doubt, if it is.
     fn doubt_in(&self, line: &[u8]) -> Option<Doubt> {
-        let doubted = self.finder.doubt_of(&self.given, line, 0)?;
+        let Some(Finding::Doubtful(place)) = self.finder.find(&self.given, line) else {
+            return None;
+        };
+        let doubted = self.finder.doubt_of(&self.given, line, place, 0)?;
         Some(doubted.doubt)
     }
 
