@@ -3,6 +3,7 @@ pub mod Outside
 pub mod Sayings
 pub mod Digits
 pub mod Explaining
+pub mod Depths
 pub mod Keyed
 mod Saying
 pub mod Keys

@@ -23,10 +23,14 @@ pub record Going : Type 0 where
   pub key : List ℕ
   pub indent : Option ℕ
 
--- the columns of white space at the start of a line, a tab for eight
+-- the columns of a space and of a tab
+abbrev pub width : ℕ → ℕ
+width byte = if byte == space then 1 else if byte == tab then 8 else 0
+
+-- those of the white space at the start of a line
 unfoldable pub columns : List ℕ → ℕ
 columns [] = 0
-columns (byte ∷ others) = if byte == space then 1 + columns others else if byte == tab then 8 + columns others else 0
+columns (byte ∷ others) = if width byte == 0 then 0 else width byte + columns others
 
 -- how deep a line begins, in steps of two columns, since a day or an hour may be one digit after a space
 unfoldable pub depth : List ℕ → ℕ
