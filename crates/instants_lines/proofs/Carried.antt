@@ -1,6 +1,6 @@
 -- Joined streams in mode `carry`, where a line with a date begins the second.
 use Rattle.std.specs.Prelude.{nat_lt}
-use Rattle.std.proofs.Common.{◌≡◌, ℕ, ◌+◌, false, List, [], ◌∷◌, ◌++◌, length, take, Option, None, Some, refl, sym, ap, ◌∙◌, inl, inr}
+use Rattle.std.proofs.Common.{◌≡◌, ℕ, zero, suc, ◌+◌, false, List, [], ◌∷◌, ◌++◌, length, take, Option, None, Some, refl, sym, ap, ◌∙◌, inl, inr}
 use Rattle.std.proofs.lemmas.Bool.{cases_lt}
 use Rattle.base.specs.Bytes.{tab, line_feed}
 use Rattle.instants_prefixes.specs.declared.given.Given.{Given}
@@ -57,10 +57,14 @@ same_key : (setting : Setting) (key other : List ℕ) (finding : Finding) → ke
 same_key setting key other (Doubtful place) = refl
 same_key setting key other (There date) = refl
 
+none_below : (n : ℕ) → nat_lt n 0 ≡ false
+none_below zero = refl
+none_below (suc n) = refl
+
 -- a line that begins at the margin does not go on
 at_margin : (mode : Mode) (indent : Option ℕ) (line : List ℕ) → depth line ≡ 0 → goes_on mode indent line ≡ false
 at_margin Carry None line e = refl
-at_margin Carry (Some indent) line e = ap (nat_lt indent) e
+at_margin Carry (Some indent) line e = ap (nat_lt indent) e ∙ none_below indent
 at_margin mode indent line e = refl
 
 module _ (going : Going) (line : List ℕ) (others : List (List ℕ)) (finding : Finding) (carries : going.mode ≡ Carry) (margin : depth line ≡ 0) (e : date_in going.search line ≡ Some finding) where

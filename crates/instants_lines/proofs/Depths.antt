@@ -12,25 +12,25 @@ module _ (near : List ℕ) (place so_far : ℕ) (e : AreColumns near place so_fa
   pub past : length near ≤ place → so_far ≡ columns near
   unfolding columns
   past end =
-      let none : drop place near ≡ [] = drop_all near place end in
+      let none : drop place near ≡ [] = drop_all place near end in
       let all = rw none at e in
       omega (arith, all)
 
-  module _ (byte more : ℕ) (within : place < length near) (is : byte ≡ get_or near place byte) (wide : more ≡ width byte) where
-    cut : drop place near ≡ byte ∷ drop (place + 1) near
-    cut = rw (← is) at (drop_more near place byte within)
+  module _ (more : ℕ) (within : place < length near) (wide : more ≡ width (get_or near place 0)) where
+    cut : drop place near ≡ get_or near place 0 ∷ drop (place + 1) near
+    cut = drop_more near place 0 within
 
     pub ended : more ≡ 0 → so_far ≡ columns near
     unfolding columns
     ended none =
-        let test : width byte ≡ 0 = sym wide ∙ none in
+        let test : width (get_or near place 0) ≡ 0 = sym wide ∙ none in
         let all = rw test at (rw cut at e) in
         omega (arith, all)
 
     pub further : 0 < more → AreColumns near (place + 1) (so_far + more)
     unfolding columns
     further some =
-        let test : (width byte == 0) ≡ false = grind (arith, nat_tests) in
+        let test : (width (get_or near place 0) == 0) ≡ false = grind (arith, nat_tests) in
         let all = rw test at (rw cut at e) in
         omega (arith, all, wide)
 

@@ -1,6 +1,6 @@
 -- A line for which its one source names a moment is found as a date.
-use Rattle.std.proofs.Common.{◌≡◌, ◌<◌, ◌-◌, ◌+◌, ◌==◌, ℕ, zero, suc, Bool, true, false, List, [], ◌∷◌, length, get_or, take, drop, Option, Some, None, Result, Ok, Err, refl, sym, ◌∙◌, ap, subst, inl, inr, arith}
-use Rattle.std.specs.Prelude.{reverse, not, min, if◌then◌else◌}
+use Rattle.std.proofs.Common.{◌≡◌, ◌<◌, ◌≤◌, ◌-◌, ◌+◌, ◌==◌, ℕ, zero, suc, Bool, true, false, List, [], ◌∷◌, length, get_or, take, drop, Option, Some, None, Result, Ok, Err, refl, sym, ◌∙◌, ap, subst, inl, inr, arith}
+use Rattle.std.specs.Prelude.{reverse, not, if◌then◌else◌}
 use Rattle.std.specs.Char.{is_ascii_alphanumeric, is_ascii_whitespace}
 use Rattle.std.specs.List.{suffix_len}
 use Rattle.std.specs.Result.{result_ok}
@@ -24,7 +24,7 @@ use Rattle.instants_sources.specs.Grammar.{Grammar, Described, Rfc2822, Rfc3339,
 use Rattle.instants_sources.specs.Reading.{reading_of}
 use Rattle.instants_sources.specs.Written.{reads_written}
 use Rattle.instants_sources.specs.Named.{named}
-use Rattle.instants_edges.specs.Beside.{has_clock_before, is_any, quote_place}
+use Rattle.instants_edges.specs.Beside.{has_clock_before}
 use Rattle.instants_edges.specs.Edge.{is_edge, is_sign, may_say}
 use Rattle.instants_edges.specs.Pieces.{trimmed_length}
 use Rattle.instants_prefixes.specs.Prefix.{with_lengths, prefix_in, prefix_at}
@@ -125,10 +125,8 @@ says_first : (line : List ℕ) → may_say line 0 ≡ true
 says_first line = or-true (not (is_sign (get_or line 0 0)))
 
 clock_none : (line : List ℕ) → has_clock_before line 0 ≡ false
-unfolding has_clock_before is_any
-clock_none line =
-    let none : min 0 (quote_place line) ≡ 0 = omega arith in
-    rw none refl
+unfolding has_clock_before
+clock_none line = refl
 
 -- ---- the date at the first place
 

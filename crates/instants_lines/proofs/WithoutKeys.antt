@@ -165,7 +165,7 @@ module _ (label : Option (List ℕ)) (is_label : IsLabel label) where
       }
 
 written_lines : (going : Going) → IsKeyed going.mode → IsLabel going.label → is_field going.key ≡ true → (some : List (List ℕ)) → Frees some → AreLines going.label (written lines_steps (near going.mode going.search.limit) going some) some
-unfolding written
+unfolding written key_of_line
 written_lines going keys is_label is [] free = none_are going.label [] refl
 written_lines going keys is_label is (line ∷ others) free =
     let many : ℕ = near going.mode going.search.limit in

@@ -2,6 +2,8 @@
 ghost use Rattle.std.specs.Prelude.{◌≡◌, ◌≤◌, take, length};
 ghost use Rattle.instants_lines.specs.Going.{depth, width};
 
+use instants_edges::byte_at;
+
 // Bytes of a line among which its white space is looked at.
 const WINDOW: usize = 256;
 
@@ -35,7 +37,7 @@ pub(crate) fn depth(line: &[u8]) -> usize
     let near = first_bytes(line);
     let mut columns = 0;
     for place in 0..near.len() {
-        let more = width(near[place]);
+        let more = width(byte_at(near, place));
         if more == 0 {
             return columns / 2;
         }
