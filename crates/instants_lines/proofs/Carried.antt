@@ -1,7 +1,8 @@
 -- Joined streams in mode `carry`, where a line with a date begins the second.
 use Rattle.std.specs.Prelude.{nat_lt}
-use Rattle.std.proofs.Common.{◌≡◌, ℕ, zero, suc, ◌+◌, false, List, [], ◌∷◌, ◌++◌, length, take, Option, None, Some, refl, sym, ap, ◌∙◌, inl, inr}
+use Rattle.std.proofs.Common.{◌≡◌, ℕ, ◌+◌, false, List, [], ◌∷◌, ◌++◌, length, take, Option, None, Some, refl, sym, ap, ◌∙◌, inl, inr, arith}
 use Rattle.std.proofs.lemmas.Bool.{cases_lt}
+use Rattle.std.proofs.lemmas.Bool.Decides.{nat_tests}
 use Rattle.base.specs.Bytes.{tab, line_feed}
 use Rattle.instants_prefixes.specs.declared.given.Given.{Given}
 use Rattle.instants_prefixes.specs.declared.given.Years.TheVariants.{Unknown}
@@ -58,8 +59,7 @@ same_key setting key other (Doubtful place) = refl
 same_key setting key other (There date) = refl
 
 none_below : (n : ℕ) → nat_lt n 0 ≡ false
-none_below zero = refl
-none_below (suc n) = refl
+none_below n = grind (arith, nat_tests)
 
 -- a line that begins at the margin does not go on
 at_margin : (mode : Mode) (indent : Option ℕ) (line : List ℕ) → depth line ≡ 0 → goes_on mode indent line ≡ false
