@@ -1,20 +1,19 @@
 """A source: what a line, or the bytes from a place of a line on, say by it."""
 
-from collections.abc import Iterable
+from collections.abc import Iterator
 from typing import NamedTuple
 
 from . import edges, iso8601, record, rfc2822, rfc3339
 from .calendar import Moment
-from .components import Compound, Item, Items, Literal, Record, components_of, read_all
+from .components import Component, Compound, Item, Items, Literal, Part, Record, components_of, read_all
 from .faults import Refused
 
 # How each format reads a prefix into a record, and how some read the moment of a whole line by themselves.
 FORMATS = {"rfc3339": rfc3339.into_record, "rfc2822": rfc2822.into_record, "iso8601": iso8601.into_record}
 DIRECT = {"rfc3339": rfc3339.moment, "rfc2822": rfc2822.moment}
 SILENT = ("ignore", "end")
-YEARS, CENTURIES, LAST_TWOS = ("year", "iso_year"), ("century", "iso_century"), ("last_two", "iso_last_two")
-MONTHS, WEEKS = ("month", "month_short", "month_long"), ("week_iso", "week_sunday", "week_monday")
-WEEKDAYS, HOURS = ("weekday_short", "weekday_long", "weekday_sunday", "weekday_monday"), ("hour_12", "hour_24")
+MONTHS = ("month", "month_short", "month_long")
+WEEKDAYS = ("weekday_short", "weekday_long", "weekday_sunday", "weekday_monday")
 
 
 class Lengths(NamedTuple):
@@ -31,13 +30,22 @@ def is_silent(item: Item) -> bool:
     return all(it.kind in SILENT for it in components_of(item))
 
 
+def sure_components(item: Item) -> Iterator[Component]:
+    """Yields the components that stand outside of all choices."""
+    if isinstance(item, Part):
+        yield item.component
+    elif isinstance(item, Compound):
+        for it in item.items:
+            yield from sure_components(it)
+
+
 class Source:
     """`kind` is a format, or `items` for the items of version 1, version 2 or strftime, or `v3`."""
 
     def __init__(self, kind: str, items: Items = ()) -> None:
         self.kind, self.items, self.is_three = kind, items, kind == "v3"
         self.kinds = {it.kind for it in components_of(Compound(tuple(items)))}
-        self.has_unix_time = "unix" in self.kinds
+        self.sure = {it.kind for it in sure_components(Compound(tuple(items)))}
         first = 0
         while first < len(items) and is_silent(items[first]):
             first += 1
@@ -103,18 +111,30 @@ class Source:
 
     # ---- what it lacks
 
-    def has(self, kinds: Iterable[str]) -> bool:
-        """Whether a component of one of these kinds is in it; the well-known formats have all that a moment needs."""
-        return self.kind in FORMATS or bool(self.kinds & set(kinds))
+    def may(self, *kinds: str) -> bool:
+        """Whether a component of one of these kinds is in it."""
+        return bool(self.kinds & set(kinds))
+
+    def always(self, *kinds: str) -> bool:
+        """Whether one is in it outside of all choices."""
+        return bool(self.sure & set(kinds))
 
     def lack(self, has_offset: bool, has_year: bool, has_time: bool) -> str | None:
-        """Returns what it never names and nobody gives, the first of these, or None."""
-        if self.has(("unix",)):
+        """Returns what it never names and nobody gives, the first of these, or None. The well-known formats lack nothing."""
+        if self.kind in FORMATS or self.may("unix"):
             return None
-        if not (self.has(YEARS) or (self.has(CENTURIES) and self.has(LAST_TWOS)) or has_year):
-            return "century" if self.has(LAST_TWOS) else "year"
-        if not ((self.has(MONTHS) and self.has(("day",))) or self.has(("ordinal",)) or (self.has(WEEKS) and self.has(WEEKDAYS))):
+        has_century, has_last_two = self.may("century", "iso_century"), self.may("last_two", "iso_last_two")
+        takes_year = has_year and not self.always("year", "century", "iso_year", "iso_century")
+        is_year = self.may("year") or (has_century and has_last_two) or takes_year
+        is_iso_year = self.may("iso_year") or (has_last_two and (has_century or takes_year))
+        if not (is_year or is_iso_year):
+            return "year"
+        is_day = self.may("ordinal") or (self.may(*MONTHS) and self.may("day")) or (self.may("week_sunday", "week_monday") and self.may(*WEEKDAYS))
+        if not ((is_year and is_day) or (is_iso_year and self.may("week_iso") and self.may(*WEEKDAYS))):
             return "day"
-        if not (self.has(HOURS) or has_time):
-            return "hour"
-        return None if self.has(("offset_hour",)) or has_offset else "offset"
+        is_hour = self.may("hour_24") or (self.may("hour_12") and self.may("period"))
+        is_gap = (self.always("second") and not self.may("minute")) or (self.always("subsecond") and not self.may("second"))
+        takes_time = has_time and not self.always("hour_24", "hour_12", "period", "minute", "second", "subsecond")
+        if not ((is_hour and not is_gap) or takes_time):
+            return "time of day"
+        return None if self.may("offset_hour") or has_offset else "offset"

@@ -38,7 +38,7 @@ key|+00:00|+00:00|100|strftime|%F %T => 2024-05-01 10:00:00,250 up => 2024-05-01
 key|+00:00|+00:00|100|strftime|%F %T => --2024-05-01 10:00:00--  https://example.com/ => 2024-05-01T10:00:00.000000000Z
 key|+00:00|+00:00|100|strftime|%F %T => backup-2024-05-01 10:00:00 done => 2024-05-01T10:00:00.000000000Z
 key|+00:00|-|100|strftime|%s => job-1714550400 done => 2024-05-01T08:00:00.000000000Z
-key|+00:00|+00:00|100|strftime|%F %T => at -0044-03-15 10:00:00 done => ! year
+key|+00:00|+00:00|100|strftime|%F %T => at -0044-03-15 10:00:00 done => ! doubt
 key|+00:00|-|100|strftime|%s => {\"born\":-286243200} => 1960-12-06T00:00:00.000000000Z
 key|+00:00|+00:00|100|strftime|%F %T => 1.2024-05-01 10:00:00 up => ! none
 # Numbers of Unix time.
@@ -139,7 +139,7 @@ locate|rfc2822|rfc3339 => 2021-01-02T03:04:05Z => 2021-01-02T03:04:05.000000000Z
 locate|+00:00|+00:00|100|strftime|%e %b %Y %R => at  1 Nov 2024 10:00 up => 2024-11-01T10:00:00.000000000Z\t1\t5-20
 locate|+00:00|-|100|strftime|[%d/%b/%Y:%T %z] => [10/Oct/2000:13:55:36 -0700] x => 2000-10-10T20:55:36.000000000Z\t1\t2-27
 locate|+00:00|+00:00|100|strftime|%F %T|v3|[year]-[month]-[day] [hour]:[minute]:[second],[subsecond] => 2024-05-01 10:00:00,250 up => 2024-05-01T10:00:00.250000000Z\t2\t1-23
-locate|+00:00|+00:00|100|strftime|%F %T => at -0044-03-15 10:00:00 done => ! year\t1\t4-23
+locate|+00:00|+00:00|100|strftime|%F %T => at -0044-03-15 10:00:00 done => ! doubt\t1\t4-23\tanother offset
 # None.
 locate|rfc3339 => up => ! none
 locate|+00:00|-|1|rfc3339 => up until 2027-01-01T00:00:00Z => ! none
