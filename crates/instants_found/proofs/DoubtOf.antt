@@ -44,5 +44,5 @@ module _ (limit : ℕ) (given : Given) (sources : List DateSource) (line : List 
   unfolding doubt_of
   doubt_here source within is =
       let there : slice_get (map grammar_in sources) number ≡ Some (grammar_in source) =
-          slice_get-map grammar_in sources number ∙ ap (option_map grammar_in) (slice_get-get_or sources number source within ∙ ap Some (sym is)) in
+      slice_get-map grammar_in sources number ∙ ap (option_map grammar_in) (slice_get-get_or sources number source within ∙ ap Some (sym is)) in
       rw there refl

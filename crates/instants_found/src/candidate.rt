@@ -94,7 +94,11 @@ pub(crate) fn longer(one: Option<Candidate>, other: Candidate) -> Option<Candida
     ensures { result ≡ kept one other }
 {
     let Some(best) = one else {
-        return if other.doubt.is_none() { Some(other) } else { None };
+        return if other.doubt.is_none() {
+            Some(other)
+        } else {
+            None
+        };
     };
     if other.doubt.is_none() && best.reach < other.reach {
         return Some(other);

@@ -221,6 +221,6 @@ key_alone going grammar line moment of_rfc3339 of_rfc2822 alone own e assumed so
     let whole_is = read_whole search.given grammar line moment of_rfc3339 of_rfc2822 e (rw text at likely) in
     let at = at_first search.given grammar line moment text may whole_is first in
     let is = ap (found_in search.limit search.given setting.sources) (all_looked_at search.limit grammar line text)
-        ∙ ap (λ (sources : List Grammar). found_in search.limit search.given sources line) alone ∙ found_in_first search.limit search.given (grammar ∷ []) line _ some long at in
+    ∙ ap (λ (sources : List Grammar). found_in search.limit search.given sources line) alone ∙ found_in_first search.limit search.given (grammar ∷ []) line _ some long at in
     ap (key_or setting going.key) (sym (own_date going line own) ∙ is)
     ∙ ap (λ (n : Result Shown Fault). place_text (shown_or_refused setting.target n)) (sym (alone_named setting grammar line moment alone assumed))

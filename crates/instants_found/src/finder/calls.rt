@@ -334,7 +334,8 @@ impl<'a> Finder<'a> {
         if first >= self.limit {
             return None;
         }
-        let Some(date) = plain_at(self.sources.as_slice(), given, self.looked_at(line), first) else {
+        let Some(date) = plain_at(self.sources.as_slice(), given, self.looked_at(line), first)
+        else {
             return None;
         };
         Some(date)
