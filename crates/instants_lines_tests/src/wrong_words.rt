@@ -78,7 +78,7 @@ key|+00:00|+00:00|100|strftime|%b %e %T => source 1 names no moment: it has no y
 key|+00:00|+00:00|100|rfc3339|strftime|%F => source 2 names no moment: it has no time of day
 key|+00:00|-|100|strftime|%F %T => source 1 names no moment: it has no offset
 key|+00:00|+00:00|100|v3|%Y-%m-%d => source 1 names no moment: it has no year
-key|+00:00|+00:00|100|strftime|%y/%m/%d %T => source 1 names no moment: it has no century
+key|+00:00|+00:00|100|strftime|%y/%m/%d %T => source 1 names no moment: it has no year
 key|+00:00|+00:00|100|strftime|%Y %H => source 1 names no moment: it has no day
 explain|+00:00|-|100|iso8601|mysql => source 2 names no moment: it has no offset"#;
 
