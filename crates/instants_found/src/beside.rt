@@ -15,7 +15,7 @@ use instants_edges::{
     has_another_offset, has_another_year, has_clock_before, has_clock_beside, has_half_after,
     is_edge, may_say,
 };
-use instants_prefixes::{DateSource, Given, Prefix, Years, lacks_time, lacks_year};
+use instants_prefixes::{DateSource, Given, Prefix, Years, lacks_offset, lacks_time, lacks_year};
 use parsing_record::Parsed;
 
 /// The bytes from a place on.
@@ -121,12 +121,12 @@ impl Said {
         if read.unix_timestamp_nanos().is_some() {
             return None;
         }
-        let lacks_offset = read.offset_hour().is_none();
-        if lacks_offset && self.offset {
+        let no_offset = lacks_offset(read);
+        if no_offset && self.offset {
             return Some(Doubt::AnotherOffset);
         }
-        let lacks_half = lacks_offset && read.hour_12_is_pm().is_none();
-        if (lacks_half && self.half) || (self.clock && lacks_time(read)) {
+        let no_half = no_offset && read.hour_12_is_pm().is_none();
+        if (no_half && self.half) || (self.clock && lacks_time(read)) {
             return Some(Doubt::AnotherTime);
         }
         if self.year && says_no_year(read) {

@@ -1,5 +1,5 @@
 mod AskedWords
 pub mod Spelling
-pub mod Reported
+pub mod Sources
 mod Reading
 pub mod Stays

@@ -1,5 +1,5 @@
 -- Names of formats, spelled out step by step.
-use Rattle.std.proofs.Common.{◌≡◌, ◌<◌, ◌⊎◌, inl, inr, ℕ, Bool, true, false, Option, None, Some, List, [], ◌∷◌, ◌++◌, length, drop, is_some, option_map, codes, append-nil, cond, if◌then◌else◌, refl, sym, ap, ◌∙◌, subst, arith}
+use Rattle.std.proofs.Common.{◌≡◌, ◌<◌, ◌+◌, ◌⊎◌, inl, inr, ℕ, Bool, true, false, Option, None, Some, Result, Ok, Err, List, [], ◌∷◌, ◌++◌, length, is_some, option_map, codes, append-nil, cond, if◌then◌else◌, refl, sym, ap, ◌∙◌, subst, arith}
 use Rattle.std.specs.List.{find, list_all}
 use Rattle.std.specs.Str.{bytes_eq}
 use Rattle.std.proofs.lemmas.Bool.{and_parts}
@@ -8,8 +8,12 @@ use Rattle.instants_formats.specs.Format.{FormatSaid}
 use Rattle.instants_formats.specs.Named.{has_name, named_format}
 use Rattle.instants_formats.specs.Table.{table}
 use Rattle.instants_words.specs.FirstSource.{first_said, source_said}
-use Rattle.instants_words.specs.Sources.{SourceSaid, V1, V2, V3, Strftime, Rfc2822, Rfc3339, Iso8601, format_named, language_named}
+use Rattle.instants_words.specs.Sources.{SourceSaid, V1, V2, V3, Strftime, Rfc2822, Rfc3339, Iso8601, format_named, language_named, sources_said}
+use Rattle.instants_words.specs.Sources as theirs
+use Rattle.instants_words.proofs.SourceLemmas.{step_some}
 use Rattle.instants_lines_words.specs.Spelled.{in_place, spelled_out}
+use Rattle.instants_lines_words.specs.Words.{also, described, last_read, next_read, source_named, sources_read}
+use Rattle.instants_lines_words.specs.Wrong.{Wrong}
 
 -- ---- words of formats and of languages
 
@@ -138,92 +142,70 @@ spelled_some (word ∷ next ∷ words) some =
       | false ↦ in_place_some (named_format word) word (spelled_out (next ∷ words))
     ]
 
--- what is known of a name, by what was found of it
-pub some_name : {A : Type 0} (v : A → FormatSaid) (o : Option A) (n : Option FormatSaid) → option_map v o ≡ n → is_some o ≡ true → (format : FormatSaid) × (n ≡ Some format)
-some_name v (Some x) n e is = (v x, sym e)
-some_name v None n e is = absurd cc
-
-pub none_name : {A : Type 0} (v : A → FormatSaid) (o : Option A) (n : Option FormatSaid) → option_map v o ≡ n → is_some o ≡ false → n ≡ None
-none_name v (Some x) n e is = absurd cc
-none_name v None n e is = sym e
-
--- ---- the first source
-
-none_of : {A : Type 0} (o : Option A) → is_some o ≡ false → o ≡ None
-none_of None e = refl
-none_of (Some x) e = absurd cc
-
-of_format : (format : Option SourceSaid) (language : Option (List ℕ → SourceSaid)) (after : List (List ℕ)) → is_some format ≡ true → (said : SourceSaid) × (first_said format language after ≡ Some (said, after))
-of_format (Some f) language after f_is = (f, refl)
-of_format None language after f_is = absurd cc
-
-of_language : (format : Option SourceSaid) (language : Option (List ℕ → SourceSaid)) (next : List ℕ) (after : List (List ℕ)) → format ≡ None → is_some language ≡ true → (said : SourceSaid) × (first_said format language (next ∷ after) ≡ Some (said, after))
-of_language (Some f) language next after f_is l_is = absurd cc
-of_language None (Some l) next after f_is l_is = (l next, refl)
-of_language None None next after f_is l_is = absurd cc
-
--- what the words say first, and those after it
-abbrev pub SaysFirst : List (List ℕ) → List (List ℕ) → Type 0
-SaysFirst words after = (said : SourceSaid) × (source_said (spelled_out words) ≡ Some (said, spelled_out after))
-
+-- a word that says itself stays
 pub as_itself : (word : List ℕ) (words : List (List ℕ)) → is_some (language_named word) ≡ false → named_format word ≡ None → spelled_out (word ∷ words) ≡ word ∷ spelled_out words
 as_itself word words no_language no_name = spelled_word word words no_language ∙ ap (λ (o : Option FormatSaid). in_place o word ++ spelled_out words) no_name
 
-pub first_format : (word : List ℕ) (words : List (List ℕ)) → is_some (format_named word) ≡ true → SaysFirst (word ∷ words) words
-first_format word words is =
-    let alone = format_alone word is in
-    let said = of_format (format_named word) (language_named word) (spelled_out words) is in
-    (said.0, ap source_said (as_itself word words alone.1 alone.0) ∙ said.1)
+-- ---- the same sources
 
-pub first_name : (word : List ℕ) (words : List (List ℕ)) (format : FormatSaid) → named_format word ≡ Some format → SaysFirst (word ∷ words) words
-first_name word words format is =
-    let speaks_it = name_speaks word format is in
-    let said = of_language (format_named format.language) (language_named format.language) format.description (spelled_out words) (language_alone format.language speaks_it).1 speaks_it in
-    (said.0, ap source_said (spelled_word word words (no_language word format is) ∙ ap (λ (o : Option FormatSaid). in_place o word ++ spelled_out words) is) ∙ said.1)
+-- a word that says a source says it when it is spelled out
+by_format : (word : List ℕ) (words : List (List ℕ)) (format : SourceSaid) → format_named word ≡ Some format → source_said (spelled_out (word ∷ words)) ≡ Some (format, spelled_out words)
+by_format word words format e =
+    let alone = format_alone word (ap is_some e) in
+    ap source_said (as_itself word words alone.1 alone.0) ∙ ap (λ (f : Option SourceSaid). first_said f (language_named word) (spelled_out words)) e
 
-pub first_language : (word next : List ℕ) (words : List (List ℕ)) → is_some (language_named word) ≡ true → SaysFirst (word ∷ next ∷ words) words
-first_language word next words is =
-    let said = of_language (format_named word) (language_named word) next (spelled_out words) (language_alone word is).1 is in
-    (said.0, ap source_said (spelled_language word next words is) ∙ said.1)
+by_language : (format : FormatSaid) (language : Option (List ℕ → SourceSaid)) (said : SourceSaid) (words : List (List ℕ)) → format_named format.language ≡ None → language_named format.language ≡ language
+    → option_map (λ l. l format.description) language ≡ Some said → source_said (format.language ∷ format.description ∷ words) ≡ Some (said, words)
+by_language format None said words f l e = absurd cc
+by_language format (Some language) said words f l e = rw (f, l) (ap (λ (o : Option SourceSaid). option_map (λ s. (s, words)) o) e)
 
--- a language alone says nothing
-alone_says : (format : Option SourceSaid) (language : Option (List ℕ → SourceSaid)) → format ≡ None → first_said format language [] ≡ None
-alone_says (Some f) language e = absurd cc
-alone_says None (Some l) e = refl
-alone_says None None e = refl
+by_name : (word : List ℕ) (words : List (List ℕ)) (format : FormatSaid) (said : SourceSaid) → named_format word ≡ Some format → described format ≡ Some said → source_said (spelled_out (word ∷ words)) ≡ Some (said, spelled_out words)
+by_name word words format said e d =
+    ap source_said (spelled_word word words (no_language word format e) ∙ ap (λ (o : Option FormatSaid). in_place o word ++ spelled_out words) e)
+    ∙ by_language format (language_named format.language) said (spelled_out words) (language_alone format.language (name_speaks word format e)).1 refl d
 
-pub no_first_language : (word : List ℕ) (words : List (List ℕ)) → length words ≡ 0 → is_some (language_named word) ≡ true → source_said (spelled_out (word ∷ words)) ≡ None
-no_first_language word words none is =
-    let alone = language_alone word is in
-    ap source_said (spelled_last word words none ∙ ap (λ (o : Option FormatSaid). in_place o word ++ spelled_out words) alone.0 ∙ ap (λ (l : List (List ℕ)). word ∷ l) (spelled_none words none))
-    ∙ alone_says (format_named word) (language_named word) alone.1
+one_said : (word : List ℕ) (words : List (List ℕ)) (format : Option SourceSaid) (name : Option FormatSaid) (said : SourceSaid) → format_named word ≡ format → named_format word ≡ name
+    → source_named word ≡ Some said → source_said (spelled_out (word ∷ words)) ≡ Some (said, spelled_out words)
+one_said word words (Some format) name said f n e = let same : Some format ≡ Some said = rw f at e in by_format word words said (f ∙ same)
+one_said word words None (Some format) said f n e = by_name word words format said n (rw n at (rw f at e))
+one_said word words None None said f n e = let none = rw n at (rw f at e) in absurd cc
 
-neither_says : (format : Option SourceSaid) (language : Option (List ℕ → SourceSaid)) (words : List (List ℕ)) → format ≡ None → language ≡ None → first_said format language words ≡ None
-neither_says (Some f) language words e l = absurd cc
-neither_says None (Some g) words e l = absurd cc
-neither_says None None words e l = refl
+-- .. and so does a language with its description
+two_said : (word next : List ℕ) (words : List (List ℕ)) (language : List ℕ → SourceSaid) → language_named word ≡ Some language → source_said (spelled_out (word ∷ next ∷ words)) ≡ Some (language next, spelled_out words)
+two_said word next words language e =
+    let is = ap is_some e in
+    ap source_said (spelled_language word next words is) ∙ rw ((language_alone word is).1, e) refl
 
--- nor does a word that is neither a format nor a language nor a name
-pub no_first_word : (word : List ℕ) (words : List (List ℕ)) → is_some (format_named word) ≡ false → is_some (language_named word) ≡ false → named_format word ≡ None → source_said (spelled_out (word ∷ words)) ≡ None
-no_first_word word words no_format no_language no_name =
-    ap source_said (as_itself word words no_language no_name) ∙ neither_says (format_named word) (language_named word) (spelled_out words) (none_of (format_named word) no_format) (none_of (language_named word) no_language)
+-- what is known where all words say sources
+last_known : (language : Option (List ℕ → SourceSaid)) (named : Option SourceSaid) (place : ℕ) (word : List ℕ) (all : List SourceSaid) → last_read language named place word ≡ Ok all
+    → (source : SourceSaid) × (named ≡ Some source) × (all ≡ source ∷ [])
+last_known None (Some source) place word all e = let same : all ≡ source ∷ [] = cc in (source, refl, same)
+last_known language named place word all e = absurd cc
 
--- a language with a description after it, and what stands after both
-pub first_two : (word : List ℕ) (after : List (List ℕ)) → 0 < length after → is_some (language_named word) ≡ true → SaysFirst (word ∷ after) (drop 2 (word ∷ after))
-first_two word [] some is = absurd (omega arith)
-first_two word (next ∷ words) some is = first_language word next words is
+also_known : (source : SourceSaid) (others : Result (List SourceSaid) Wrong) (all : List SourceSaid) → also source others ≡ Ok all → (rest : List SourceSaid) × (others ≡ Ok rest) × (all ≡ source ∷ rest)
+also_known source (Ok rest) all e = let same : all ≡ source ∷ rest = cc in (rest, refl, same)
+also_known source (Err wrong) all e = absurd cc
 
--- ---- what is wrong with the first word
+spelled_next : (place other : ℕ) (word next : List ℕ) (words : List (List ℕ)) (all : List SourceSaid) (language : Option (List ℕ → SourceSaid)) (named : Option SourceSaid) → language_named word ≡ language → source_named word ≡ named
+    → ((rest : List SourceSaid) → sources_read (place + 1) (next ∷ words) ≡ Ok rest → sources_said (other + 1) (spelled_out (next ∷ words)) ≡ Ok rest)
+    → ((rest : List SourceSaid) → sources_read (place + 1) words ≡ Ok rest → sources_said (other + 1) (spelled_out words) ≡ Ok rest)
+    → next_read language named place word next (sources_read (place + 1) (next ∷ words)) (sources_read (place + 1) words) ≡ Ok all → sources_said other (spelled_out (word ∷ next ∷ words)) ≡ Ok all
+spelled_next place other word next words all (Some language) named l n one two e =
+    let known = also_known (language next) (sources_read (place + 1) words) all e in
+    step_some other (spelled_out (word ∷ next ∷ words)) (spelled_out words) (language next) (two_said word next words language l)
+    ∙ ap (theirs.also (language next)) (two known.0 known.1) ∙ ap Ok (sym known.2)
+spelled_next place other word next words all None (Some source) l n one two e =
+    let known = also_known source (sources_read (place + 1) (next ∷ words)) all e in
+    step_some other (spelled_out (word ∷ next ∷ words)) (spelled_out (next ∷ words)) source (one_said word (next ∷ words) (format_named word) (named_format word) source refl refl n)
+    ∙ ap (theirs.also source) (one known.0 known.1) ∙ ap Ok (sym known.2)
+spelled_next place other word next words all None None l n one two e = absurd cc
 
--- a language stands first, whatever is after it
-pub language_head : (word : List ℕ) (words : List (List ℕ)) → is_some (language_named word) ≡ true → (rest : List (List ℕ)) × (spelled_out (word ∷ words) ≡ word ∷ rest)
-language_head word [] is = ([], spelled_last word [] refl ∙ ap (λ (o : Option FormatSaid). in_place o word ++ spelled_out []) (language_alone word is).0 ∙ ap (λ (l : List (List ℕ)). word ∷ l) (spelled_none [] refl))
-language_head word (next ∷ words) is = (next ∷ spelled_out words, spelled_language word next words is)
-
--- .. and so does a word that says nothing
-head_by : (word : List ℕ) (words : List (List ℕ)) (o : Option FormatSaid) → named_format word ≡ o → is_some (language_named word) ≡ false → source_said (spelled_out (word ∷ words)) ≡ None → (rest : List (List ℕ)) × (spelled_out (word ∷ words) ≡ word ∷ rest)
-head_by word words None e is none = (spelled_out words, as_itself word words is e)
-head_by word words (Some format) e is none = let said = first_name word words format e in let other = sym none ∙ said.1 in absurd cc
-
-pub word_head : (word : List ℕ) (words : List (List ℕ)) → is_some (language_named word) ≡ false → source_said (spelled_out (word ∷ words)) ≡ None → (rest : List (List ℕ)) × (spelled_out (word ∷ words) ≡ word ∷ rest)
-word_head word words is none = head_by word words (named_format word) refl is none
+-- the sources that are read are those that their words say to `instants` when they are spelled out
+pub spelled : (place other : ℕ) (words : List (List ℕ)) (all : List SourceSaid) → sources_read place words ≡ Ok all → sources_said other (spelled_out words) ≡ Ok all
+unfolding sources_read spelled_out sources_said
+spelled place other [] all e = let same : [] ≡ all = cc in ap Ok same
+spelled place other (word ∷ []) all e =
+    let known = last_known (language_named word) (source_named word) place word all e in
+    step_some other (spelled_out (word ∷ [])) [] known.0 (one_said word [] (format_named word) (named_format word) known.0 refl refl known.1) ∙ ap Ok (sym known.2)
+spelled place other (word ∷ next ∷ words) all e =
+    spelled_next place other word next words all (language_named word) (source_named word) refl refl (λ rest h. spelled (place + 1) (other + 1) (next ∷ words) rest h) (λ rest h. spelled (place + 1) (other + 1) words rest h) e

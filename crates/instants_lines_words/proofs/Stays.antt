@@ -9,11 +9,12 @@ use Rattle.base.specs.Bytes.{plus, hyphen, colon}
 use Rattle.instants_words.specs.declared.words.Words.{Words}
 use Rattle.instants_words.specs.Pieces.{number_said, clock_seconds, with_sign, offset_said, limit_said, assumed_said}
 use Rattle.instants_words.specs.Sources.{SourceSaid, also, format_named, language_named, last_said, next_said, sources_said}
-use Rattle.instants_words.specs.Words.{words_said}
+use Rattle.instants_words.specs.Words.{◌or◌, ◌>>=◌, words_said}
+use Rattle.instants_words.proofs.TextLemmas.{said_four}
 use Rattle.instants_words.specs.declared.fault.WordsFault.{WordsFault}
+use Rattle.instants_words.specs.declared.fault.WordsFault.TheVariants as words
 use Rattle.instants_lines_words.specs.Spelled.{spelled_out}
 use Rattle.instants_lines_words.proofs.Spelling.{as_itself, format_alone, spelled_language, spelled_none}
-use Rattle.instants_lines_words.proofs.Reported.{by_parts, parts}
 use Rattle.instants_lines_words.specs.Filled.{has_sign_or_digit, is_utc, is_setting, as_offset, target_in, assumed_in, limit_in, sources_in, filled}
 
 signed : (sign : ℕ) (number : Option ℕ) (offset : ℤ) → with_sign sign number ≡ Some offset → (sign == plus || sign == hyphen) ≡ true
@@ -121,7 +122,8 @@ stays : (target assumed limit source : List ℕ) (others : List (List ℕ)) → 
 unfolding filled target_in assumed_in limit_in sources_in
 stays target assumed limit source others t a l et ea y n b s = rw t (rw a (rw l (rw et (rw ea (rw y (rw n (rw b (rw s refl))))))))
 
-known : (t : Option ℤ) (a : Option (Option ℤ)) (l : Option ℕ) (sources : Result (List SourceSaid) WordsFault) (said : Words) → by_parts t a l sources ≡ Ok said
+known : (t : Option ℤ) (a : Option (Option ℤ)) (l : Option ℕ) (sources : Result (List SourceSaid) WordsFault) (said : Words)
+    → ((t or words.Target) >>= (λ x. (a or words.Assumed) >>= (λ y. (l or words.Limit) >>= (λ z. sources >>= (λ s. Ok (record { target = x; assumed = y; limit = z; sources = s })))))) ≡ Ok said
     → (t ≡ Some said.target) × (a ≡ Some said.assumed) × (l ≡ Some said.limit) × (sources ≡ Ok said.sources)
 known (Some t) (Some a) (Some l) (Ok sources) said e =
     let same : record { target = t; assumed = a; limit = l; sources = sources } ≡ said = cc in
@@ -136,7 +138,7 @@ few words said h e = cc
 -- words that `instants` accepts stay as they are
 pub in_full : (words : List (List ℕ)) (said : Words) → words_said words ≡ Ok said → filled words ≡ words
 in_full (t ∷ a ∷ l ∷ source ∷ others) said e =
-    let is = known (offset_said t) (assumed_said a) (limit_said l) (sources_said 1 (source ∷ others)) said (sym (parts t a l source others) ∙ e) in
+    let is = known (offset_said t) (assumed_said a) (limit_said l) (sources_said 1 (source ∷ others)) said (sym (said_four (t ∷ a ∷ l ∷ source ∷ others) (source ∷ others) t a l refl (omega arith)) ∙ e) in
     let assumed = assumed_first a said.assumed is.1 in
     stays t a l source others (setting t (sign_first t said.target is.0)) (setting a assumed.0) (setting l (digit_first l said.limit is.2))
     (as_is t (no_name t said.target is.0)) (as_is a assumed.1)

@@ -92,10 +92,10 @@ after_time words = after_named (codes "time") (after_year words)
 unfoldable pub label_in : List (List ℕ) → Option (List ℕ)
 label_in words = prefix_named (codes "label") (after_time words)
 
--- the sources: all words after these, with names of formats spelled out
+-- the sources: all words after these
 unfoldable pub sources_in : List (List ℕ) → List (List ℕ)
-sources_in words = spelled_out (after_named (codes "label") (after_time words))
+sources_in words = after_named (codes "label") (after_time words)
 
--- all of it, as the words of `instants`
+-- all of it, as the words of `instants`: names of formats are spelled out
 unfoldable pub filled : List (List ℕ) → List (List ℕ)
-filled words = target_in words ∷ assumed_in words ∷ limit_in words ∷ sources_in words
+filled words = target_in words ∷ assumed_in words ∷ limit_in words ∷ spelled_out (sources_in words)

@@ -1,41 +1,71 @@
 -- What the words of the program say: a mode, and after it what the words of `instants` say, of which some may be left out, and before the sources a year, a time and a label.
-use Rattle.std.specs.Prelude.{ℕ, ◌+◌, ◌*◌, ◌==◌, ◌||◌, ◌&&◌, not, Bool, true, false, List, [], ◌∷◌, length, Option, None, Some, option_map, Result, Ok, Err, if◌then◌else◌, ℤ, pos}
+use Rattle.std.specs.Prelude.{ℕ, ◌+◌, ◌*◌, ◌==◌, ◌||◌, ◌&&◌, not, Bool, true, false, List, [], ◌∷◌, length, Option, None, Some, option_map, option_and_then, Result, Ok, Err, if◌then◌else◌, ℤ, pos}
 use Rattle.std.specs.List.{list_all}
+use Rattle.std.specs.Option.{option_or}
 use Rattle.base.specs.Bytes.{colon, tab, line_feed}
-use Rattle.instants_words.specs.Pieces.{number_said}
+use Rattle.instants_formats.specs.Format.{FormatSaid}
+use Rattle.instants_formats.specs.Named.{named_format}
+use Rattle.instants_words.specs.Pieces.{number_said, offset_said, assumed_said, limit_said}
 use Rattle.instants_words.specs.Sources.{SourceSaid, format_named, language_named}
-use Rattle.instants_words.specs.Words.{words_said}
-use Rattle.instants_words.specs.declared.fault.WordsFault.{WordsFault}
-use Rattle.instants_words.specs.declared.fault.WordsFault.TheVariants as words
 use Rattle.instants_words.specs.declared.words.Words.{Words}
-use Rattle.instants_lines_words.specs.Filled.{filled, target_in, assumed_in, limit_in, year_in, time_in, label_in, sources_in, is_whole}
+use Rattle.instants_lines_words.specs.Filled.{target_in, assumed_in, limit_in, year_in, time_in, label_in, sources_in, is_whole}
 use Rattle.instants_lines_words.specs.Modes.{mode_said}
 use Rattle.instants_lines_words.specs.Wrong.{Wrong, NoMode, UnknownMode, NoSource, Target, Assumed, Limit, Year, Time, Label, Source, FirstSource, NoDescription}
 use Rattle.instants_lines_words.specs.Asked.{Asking}
 use Rattle.instants_lines_words.specs.declared.mode.Mode.{Mode}
 use Rattle.instants_lines_words.specs.declared.mode.Mode.TheVariants.{Key, Carry}
 
--- a word that is no format: it names nothing, or a language without a description
-abbrev pub unknown : ℕ → Option (List ℕ → SourceSaid) → List ℕ → Wrong
-unknown place None word = Source place word
-unknown place (Some language) word = NoDescription place word
+-- what a word says, or else this is wrong
+infixl 12 ◌or◌
+abbrev pub ◌or◌ : {A : Type 0} → Option A → Wrong → Result A Wrong
+(Some said) or wrong = Ok said
+None or wrong = Err wrong
 
--- the last word names a format, or this is wrong
-abbrev pub last_wrong : Option SourceSaid → Wrong → Wrong
-last_wrong (Some format) wrong = NoSource
-last_wrong None wrong = wrong
+-- one thing and then the next, up to the first that is wrong
+infixl 10 ◌>>=◌
+abbrev pub ◌>>=◌ : {A B : Type 0} → Result A Wrong → (A → Result B Wrong) → Result B Wrong
+(Ok said) >>= next = next said
+(Err wrong) >>= next = Err wrong
 
--- a word names a format, or a language with its description, and something else is wrong after; or this is wrong
-abbrev pub next_wrong : Option SourceSaid → Option (List ℕ → SourceSaid) → Wrong → Wrong → Wrong → Wrong
-next_wrong (Some format) language wrong after after_description = after
-next_wrong None (Some language) wrong after after_description = after_description
-next_wrong None None wrong after after_description = wrong
+-- a target, an assumed offset and a limit
+abbrev pub settings_said : List ℕ → List ℕ → List ℕ → Result (ℤ × Option ℤ × ℕ) Wrong
+settings_said target_word assumed_word limit_word = do
+  target ← offset_said target_word or Target target_word
+  assumed ← assumed_said assumed_word or Assumed assumed_word
+  limit ← limit_said limit_word or Limit limit_word
+  Ok (target, assumed, limit)
 
--- the first of the sources that is wrong, where one is; the first of them is in this place
-unfoldable pub wrong_source : ℕ → List (List ℕ) → Wrong
-wrong_source place [] = NoSource
-wrong_source place (word ∷ []) = last_wrong (format_named word) (unknown place (language_named word) word)
-wrong_source place (word ∷ next ∷ words) = next_wrong (format_named word) (language_named word) (Source place word) (wrong_source (place + 1) (next ∷ words)) (wrong_source (place + 1) words)
+-- ---- sources
+
+-- what a name stands for
+abbrev pub described : FormatSaid → Option SourceSaid
+described format = option_map (λ language. language format.description) (language_named format.language)
+
+-- the source that one word says: a well-known format, or one that has a name
+abbrev pub source_named : List ℕ → Option SourceSaid
+source_named word = option_or (format_named word) (option_and_then described (named_format word))
+
+abbrev pub also : SourceSaid → Result (List SourceSaid) Wrong → Result (List SourceSaid) Wrong
+also source (Ok sources) = Ok (source ∷ sources)
+also source (Err wrong) = Err wrong
+
+-- the last word, in this place, by what it says as a language and as a source
+abbrev pub last_read : Option (List ℕ → SourceSaid) → Option SourceSaid → ℕ → List ℕ → Result (List SourceSaid) Wrong
+last_read (Some language) named place word = Err (NoDescription place word)
+last_read None (Some source) place word = Ok (source ∷ [])
+last_read None None place word = Err (Source place word)
+
+-- a word with another one after it: these sources stand after the word, or after that as its description
+abbrev pub next_read : Option (List ℕ → SourceSaid) → Option SourceSaid → ℕ → List ℕ → List ℕ → Result (List SourceSaid) Wrong → Result (List SourceSaid) Wrong → Result (List SourceSaid) Wrong
+next_read (Some language) named place word next after after_description = also (language next) after_description
+next_read None (Some source) place word next after after_description = also source after
+next_read None None place word next after after_description = Err (Source place word)
+
+-- sources by their words, the first of them in this place, or the first that is wrong
+unfoldable pub sources_read : ℕ → List (List ℕ) → Result (List SourceSaid) Wrong
+sources_read place [] = Ok []
+sources_read place (word ∷ []) = last_read (language_named word) (source_named word) place word
+sources_read place (word ∷ next ∷ words) = next_read (language_named word) (source_named word) place word next (sources_read (place + 1) (next ∷ words)) (sources_read (place + 1) words)
 
 -- where an offset or a limit is left out, the first source may be one that is misspelt
 abbrev pub first_wrong : Bool → Wrong → Wrong
@@ -43,14 +73,11 @@ first_wrong false (Source place word) = if place == 1 then FirstSource word else
 first_wrong false wrong = wrong
 first_wrong true wrong = wrong
 
--- a fault of a target, an assumed offset, a limit and sources, with the word that is wrong; this is what is wrong with the sources
-abbrev pub reported : List ℕ → List ℕ → List ℕ → Wrong → WordsFault → Wrong
-reported target assumed limit wrong words.Usage = NoSource
-reported target assumed limit wrong words.Target = Target target
-reported target assumed limit wrong words.Assumed = Assumed assumed
-reported target assumed limit wrong words.Limit = Limit limit
-reported target assumed limit wrong (words.Source place) = wrong
-reported target assumed limit wrong words.Memory = NoSource
+abbrev pub told : Bool → Result (List SourceSaid) Wrong → Result (List SourceSaid) Wrong
+told whole (Ok sources) = Ok sources
+told whole (Err wrong) = Err (first_wrong whole wrong)
+
+-- ---- a year, a time and a label
 
 -- the hours and minutes of a clock, in minutes
 abbrev pub clock_minutes : Option ℕ → Option ℕ → Option ℕ
@@ -108,30 +135,29 @@ asked_by mode (Ok year) (Ok time) (Err wrong) = Err wrong
 asked_by mode (Ok year) (Err wrong) label = Err wrong
 asked_by mode (Err wrong) time label = Err wrong
 
--- what the words after the mode ask
-unfoldable pub asked_said : Mode → List (List ℕ) → Result Asking Wrong
-asked_said mode others = asked_by mode (year_read (year_in others)) (time_read (time_in others)) (label_read mode (label_in others))
+-- ---- all words
 
--- what is wrong first where sources are: what is asked, or the first source that is wrong
-abbrev pub wrong_after : Result Asking Wrong → Wrong → Wrong
-wrong_after (Ok asked) wrong = wrong
-wrong_after (Err wrong_asked) wrong = wrong_asked
+-- some word is there
+abbrev pub some_of : List (List ℕ) → Result (Unit {0}) Wrong
+some_of [] = Err NoSource
+some_of (word ∷ words) = Ok tt
 
--- a fault of the words after the mode
-unfoldable pub reported_after : List (List ℕ) → Result Asking Wrong → WordsFault → Wrong
-reported_after others asked fault =
-    reported (target_in others) (assumed_in others) (limit_in others) (wrong_after asked (first_wrong (is_whole others) (wrong_source 1 (sources_in others)))) fault
+-- all parts in the order in which they are looked at, or the first that is wrong
+abbrev pub joined : Result (Unit {0}) Wrong → Result (ℤ × Option ℤ × ℕ) Wrong → Result Asking Wrong → Result (List SourceSaid) Wrong → Result (Asking × Words) Wrong
+joined some settings asked sources = do
+  there ← some
+  setting ← settings
+  asking ← asked
+  all ← sources
+  Ok (asking, record { target = setting.0; assumed = setting.1; limit = setting.2; sources = all })
 
-abbrev pub asked_and_words : List (List ℕ) → Result Asking Wrong → Result Words WordsFault → Result (Asking × Words) Wrong
-asked_and_words others (Ok asked) (Ok said) = Ok (asked, said)
-asked_and_words others (Err wrong) (Ok said) = Err wrong
-asked_and_words others asked (Err fault) = Err (reported_after others asked fault)
-
-abbrev pub with_mode : Option Mode → List ℕ → List (List ℕ) → Result (Asking × Words) Wrong
-with_mode None word others = Err (UnknownMode word)
-with_mode (Some mode) word others = asked_and_words others (asked_said mode others) (words_said (filled others))
+-- what the words after a mode ask
+unfoldable pub others_said : Mode → List (List ℕ) → Result (Asking × Words) Wrong
+others_said mode words =
+    joined (some_of (sources_in words)) (settings_said (target_in words) (assumed_in words) (limit_in words))
+    (asked_by mode (year_read (year_in words)) (time_read (time_in words)) (label_read mode (label_in words))) (told (is_whole words) (sources_read 1 (sources_in words)))
 
 -- the mode and the words after it, or the first thing wrong with them
 unfoldable pub mode_words_said : List (List ℕ) → Result (Asking × Words) Wrong
 mode_words_said [] = Err NoMode
-mode_words_said (word ∷ others) = with_mode (mode_said word) word others
+mode_words_said (word ∷ words) = mode_said word or UnknownMode word >>= (λ mode. others_said mode words)

@@ -8,8 +8,8 @@ ghost use Rattle.instants_lines_words.specs.Wrong.{wrong_of};
 use crate::asked::Asked;
 use crate::filled::Parted;
 use crate::mode::Mode;
-use crate::number::number;
 use crate::wrong_words::WrongWords;
+use instants_words::pieces::number;
 
 const GREATEST_YEAR: u32 = 9999;
 
@@ -23,7 +23,7 @@ fn year(word: &str) -> Option<i32>
     if word.len() != YEAR_DIGITS {
         return None;
     }
-    let year = number(word.as_bytes(), GREATEST_YEAR, YEAR_DIGITS)?;
+    let year = number(word.as_bytes(), 0, GREATEST_YEAR, YEAR_DIGITS)?;
     Some(year as i32)
 }
 
@@ -31,8 +31,8 @@ fn year(word: &str) -> Option<i32>
 fn clock(hours: &[u8], minutes: &[u8]) -> Option<u16>
     ensures { result ≡ clock_minutes (number_said 0 23 2 hours.now) (number_said 0 59 2 minutes.now) }
 {
-    let hours = number(hours, 23, 2)?;
-    let minutes = number(minutes, 59, 2)?;
+    let hours = number(hours, 0, 23, 2)?;
+    let minutes = number(minutes, 0, 59, 2)?;
     Some((hours * 60 + minutes) as u16)
 }
 

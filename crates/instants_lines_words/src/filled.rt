@@ -113,7 +113,7 @@ pub fn part<'a, 'b>(words: &'b [&'a str]) -> Parted<'a, 'b>
         ≡ time_in (map (λ word. word.now) words.now) }
     ensures label { option_map (λ word. word.now) result.label
         ≡ label_in (map (λ word. word.now) words.now) }
-    ensures sources { spelled_out (map (λ word. word.now) result.sources.now)
+    ensures sources { map (λ word. word.now) result.sources.now
         ≡ sources_in (map (λ word. word.now) words.now) }
 {
     let (target, after_target) = prefix_setting(words);

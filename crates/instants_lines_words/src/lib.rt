@@ -16,7 +16,6 @@ mod asked_words;
 mod filled;
 pub mod laws;
 mod mode;
-mod number;
 mod spelled;
 mod words;
 mod words_fault;

@@ -1,16 +1,13 @@
 //! The first source that is wrong.
-ghost use Rattle.std.specs.Prelude.{◌≡◌, ◌<◌, ◌≤◌, ℕ, List, map, drop, length, is_some, option_map, IsOk, IfSome, IfNone, Err};
-ghost use Rattle.instants_words.specs.FirstSource.{source_said};
-ghost use Rattle.instants_words.specs.Sources.{SourceSaid, format_named, language_named, sources_said};
-ghost use Rattle.instants_lines_words.specs.Spelled.{spelled_out};
-ghost use Rattle.instants_lines_words.specs.Words.{wrong_source};
+ghost use Rattle.std.specs.Prelude.{◌≡◌, ◌<◌, ◌≤◌, ◌+◌, ◌∷◌, map, drop, length, is_some, IsOk, IfOk, IfErr, IfSome, IfNone, Err};
+ghost use Rattle.instants_words.specs.Sources.{SourceSaid, format_named, language_named};
+ghost use Rattle.instants_lines_words.specs.Words.{also, source_named, sources_read};
 ghost use Rattle.instants_lines_words.specs.Wrong.{wrong_of};
 
 use crate::wrong_words::WrongWords;
 use instants_formats::format_named;
-use instants_words::WordsFault;
 
-// Whether this is the name of a format.
+// Whether this is the name of a well-known format.
 fn is_format(name: &str) -> bool
     ensures { result ≡ is_some (format_named name.now) }
 {
@@ -24,63 +21,54 @@ pub fn is_language(name: &str) -> bool
     name == "v1" || name == "v2" || name == "v3" || name == "strftime"
 }
 
-// How many words say the source that the words begin with: none where they say none.
-fn source_len(words: &[&str]) -> usize
-    ensures within { result ≤ length words.now }
-    ensures said { 0 < result → (said : SourceSaid)
-        × (source_said (spelled_out (map (λ word. word.now) words.now))
-        ≡ Some (said, spelled_out (drop result (map (λ word. word.now) words.now)))) }
-    ensures none { result ≡ 0
-        → source_said (spelled_out (map (λ word. word.now) words.now)) ≡ None }
+// Whether one word says a source.
+fn is_named(word: &str) -> bool
+    ensures { result ≡ is_some (source_named word.now) }
 {
-    let Some((name, after)) = words.split_first() else {
-        return 0;
-    };
-    if is_format(name) || format_named(name).is_some() {
-        return 1;
+    if is_format(word) {
+        return true;
     }
-    if is_language(name) && !after.is_empty() {
-        return 2;
-    }
-    0
+    format_named(word).is_some()
 }
 
-// What is wrong with the words where the first of them says no source.
-fn reported_of<'a>(place: usize, words: &[&'a str]) -> WrongWords<'a>
-    requires { source_said (spelled_out (map (λ word. word.now) words.now)) ≡ None }
-    ensures { wrong_of result ≡ wrong_source place (spelled_out (map (λ word. word.now) words.now)) }
+// How many words say the first source, or what is wrong with the first word.
+fn source_len<'a>(place: usize, word: &'a str, after: &[&'a str]) -> Result<usize, WrongWords<'a>>
+    ensures within { IfOk result (λ len. (0 < len) × (len ≤ length after.now + 1)) }
+    ensures said { IfOk result (λ len. (said : SourceSaid)
+        × (sources_read place (word.now ∷ map (λ word. word.now) after.now) ≡ also said
+        (sources_read (place + 1) (drop len (word.now ∷ map (λ word. word.now) after.now))))) }
+    ensures wrong { IfErr result (λ wrong.
+        sources_read place (word.now ∷ map (λ word. word.now) after.now) ≡ Err (wrong_of wrong)) }
 {
-    let Some((name, _)) = words.split_first() else {
-        return WrongWords::NoSource;
-    };
-    if is_language(name) {
-        WrongWords::NoDescription {
-            place,
-            language: name,
+    if is_language(word) {
+        if after.is_empty() {
+            return Err(WrongWords::NoDescription {
+                place,
+                language: word,
+            });
         }
-    } else {
-        WrongWords::Source { place, word: name }
+        return Ok(2);
     }
+    if is_named(word) {
+        return Ok(1);
+    }
+    Err(WrongWords::Source { place, word })
 }
 
 /// What is wrong first with the sources that words say.
 pub fn wrong_source<'a>(words: &[&'a str]) -> Option<WrongWords<'a>>
-    ensures some { IfSome result (λ wrong. (place : ℕ)
-        × (sources_said 1 (spelled_out (map (λ word. word.now) words.now))
-        ≡ Err (WordsFault.Source place))
-        × (wrong_of wrong ≡ wrong_source 1 (spelled_out (map (λ word. word.now) words.now)))) }
-    ensures none { IfNone result
-        (IsOk (sources_said 1 (spelled_out (map (λ word. word.now) words.now)))) }
+    ensures some { IfSome result
+        (λ wrong. sources_read 1 (map (λ word. word.now) words.now) ≡ Err (wrong_of wrong)) }
+    ensures none { IfNone result (IsOk (sources_read 1 (map (λ word. word.now) words.now))) }
 {
     let mut at = 0;
     let mut count = 0;
-    while at < words.len() {
+    while let Some((word, after)) = words[at..].split_first() {
         count += 1;
-        let taken = source_len(&words[at..]);
-        if taken == 0 {
-            return Some(reported_of(count, &words[at..]));
+        match source_len(count, word, after) {
+            Ok(len) => at += len,
+            Err(wrong) => return Some(wrong),
         }
-        at += taken;
     }
     None
 }

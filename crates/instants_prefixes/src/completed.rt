@@ -5,12 +5,11 @@ ghost use Rattle.instants_prefixes.specs.Given as Gift;
 
 use crate::given::{Given, Years};
 use calendar::UtcOffset;
+use calendar_count::range::GREATEST_YEAR;
 use datetime_types::{OffsetDateTime, WallClock};
 use parsing_record::Parsed;
 
 const MINUTES_OF_DAY: u16 = 1440;
-
-const GREATEST_YEAR: i32 = 999_999;
 
 /// Whether no hour of an offset was read.
 pub fn lacks_offset(parsed: &Parsed) -> bool

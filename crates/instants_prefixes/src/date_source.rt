@@ -45,7 +45,9 @@ impl<'a> DateSource<'a> {
     ghost use Rattle.instants_prefixes.specs.DateSource.{grammar_in, IsWithin};
     ghost use Rattle.instants_prefixes.specs.Prefix.{prefix_at};
     ghost use Rattle.instants_prefixes.specs.Lacks.{lack};
-    ghost use Rattle.instants_prefixes.specs.Reading.{record_at};
+    ghost use Rattle.instants_prefixes.specs.Kinds.{is_of};
+    ghost use Rattle.instants_prefixes.specs.Reading.{record_at, stands_in};
+    ghost use Rattle.instants_prefixes.specs.declared.kind.Kind.TheVariants as kind;
 
     /// The source, with what is found of it.
     pub fn new(source: Source<'a>) -> DateSource<'a>
@@ -66,11 +68,12 @@ impl<'a> DateSource<'a> {
         &self.source
     }
 
-    /// Whether it may read numbers of Unix time.
+    /// Whether a component of Unix time may stand in it: where none does, it reads no number of Unix time.
     #[inline(always)]
     #[tactic(auto, using(crate::proofs::Unread::timeless_at))]
     pub fn may_read_unix_time(&self) -> bool
-        ensures { result ≡ false → (bytes : List ℕ)
+        ensures value { result ≡ stands_in (is_of kind.UnixTime) (grammar_in self.now) }
+        ensures reads_none { result ≡ false → (bytes : List ℕ)
             → (record_at (grammar_in self.now) bytes).unix_timestamp_nanos ≡ None }
     {
         self.contents.has_unix_time

@@ -2,7 +2,7 @@
 #![tactic(auto)]
 
 mod fault;
-mod pieces;
+pub mod pieces;
 mod sources;
 mod text_words;
 mod words;

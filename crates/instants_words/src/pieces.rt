@@ -19,9 +19,9 @@ fn are_digits(word: &[u8]) -> bool
     word.iter().all(u8::is_ascii_digit)
 }
 
-// A number from `least` to `greatest` that digits write, at most `most_digits` of them.
+/// A number from `least` to `greatest` that digits write, at most `most_digits` of them; no digits write 0.
 #[tactic(auto, unfolding(crate::specs::Pieces::number_said))]
-fn number(word: &[u8], least: u32, greatest: u32, most_digits: usize) -> Option<u32>
+pub fn number(word: &[u8], least: u32, greatest: u32, most_digits: usize) -> Option<u32>
     requires { most_digits ≤ 7 }
     ensures value { result ≡ number_said least greatest most_digits word.now }
     ensures bound { IfSome result (IsInRange least greatest) }
@@ -58,7 +58,7 @@ fn clock_offset(sign: u8, hours: &[u8], minutes: &[u8]) -> Option<UtcOffset>
 
 /// An offset `+HH:MM` or `-HH:MM`.
 #[tactic(auto, using(crate::proofs::WordLemmas::offset_said_six), unfolding(crate::specs::Pieces::offset_said))]
-pub(crate) fn offset(word: &[u8]) -> Option<UtcOffset>
+pub fn offset(word: &[u8]) -> Option<UtcOffset>
     ensures value { result ≡ offset_said word.now }
     ensures bound { IfSome result IsClockOffset }
 {
@@ -69,7 +69,7 @@ pub(crate) fn offset(word: &[u8]) -> Option<UtcOffset>
 }
 
 /// A limit from 1 to 1048576, in one to seven digits.
-pub(crate) fn limit(word: &[u8]) -> Option<usize>
+pub fn limit(word: &[u8]) -> Option<usize>
     ensures value { result ≡ limit_said word.now }
     ensures bound { IfSome result (IsInRange 1 1_048_576) }
 {
@@ -78,7 +78,7 @@ pub(crate) fn limit(word: &[u8]) -> Option<usize>
 }
 
 /// The offset that is assumed, or `-` for none.
-pub(crate) fn assumed(word: &str) -> Option<Option<UtcOffset>>
+pub fn assumed(word: &str) -> Option<Option<UtcOffset>>
     ensures value { result ≡ assumed_said word.now }
     ensures bound { IfSome result (λ assumed. IfSome assumed IsClockOffset) }
 {

@@ -358,7 +358,7 @@ impl<'a> Finder<'a> {
     }
 
     /// Why what one source reads at a place is in doubt, with what is given: `find` gives such a place. `None` where the source of
-    /// this number reads none there, where its date stands whole, and where no source has this number or the line no such place.
+    /// this number reads none there, where its date stands whole, and where no source has this number.
     pub fn doubt_of(
         &self,
         given: &Given,
