@@ -9,7 +9,6 @@ pub mod FastPrefix
 pub mod ReadPrefixes
 pub mod Turns
 pub mod Counts
-pub mod Firsts
 pub mod EndLemmas
 pub mod Extents
 pub mod PrefixesAt

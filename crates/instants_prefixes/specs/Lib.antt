@@ -6,7 +6,6 @@ pub mod Lengths
 pub mod Prefix
 pub mod Contents
 pub mod Ends
-pub mod Answered
 pub mod DateSource
 pub mod NoPrefix
 pub mod Lacks

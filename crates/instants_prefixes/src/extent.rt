@@ -1,16 +1,15 @@
 //! How much of a text the items of a source read.
-ghost use Rattle.std.specs.Prelude.{map, IfSome};
+ghost use Rattle.std.specs.Prelude.{◌≡◌, map, IfSome};
 ghost use Rattle.description_tree.specs.Description.{v3_tree};
 ghost use Rattle.parsing_components.specs.Component.{reads_component_v3};
 ghost use Rattle.instants_sources.specs.Grammar.{Described, written};
 ghost use Rattle.instants_prefixes.specs.Ends.{AreEnds, IsExtent, IsExtentOf, IsByTexts, LeavesRest};
-ghost use Rattle.instants_prefixes.specs.Lengths.{items_of, items_written};
+ghost use Rattle.instants_prefixes.specs.Lengths.{items_of, items_written, length_by};
 
 use crate::ends::Ends;
-use crate::nodes::length_read;
 use description::Description;
 use description_tree::FormatDescriptionV3;
-use parsing_record::{Node, NodeStep, ReadsNode};
+use parsing_record::{NoTally, Node, NodeStep, Parsed, ReadsNode, parse_nodes};
 use std::slice;
 
 /// How many bytes of a text are read by the items before the first that says something, by those up to the last that does,
@@ -34,6 +33,16 @@ pub(crate) fn extent_by_texts(ends: &Ends, read: usize) -> Option<Extent>
         up_to: read.saturating_sub(texts.back),
         written: read,
     })
+}
+
+// How many bytes of a text the nodes read, one after the other.
+fn length_read<N: ReadsNode>(nodes: &[N], text: &[u8]) -> usize
+    ensures { result ≡ length_by N.language text.now (map N.tree nodes.now) }
+{
+    match parse_nodes(nodes, text, &mut Parsed::new(), &mut NoTally) {
+        Ok(rest) => text.len().saturating_sub(rest.len()),
+        Err(_) => 0,
+    }
 }
 
 // By reading the text again.

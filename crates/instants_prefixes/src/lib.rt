@@ -12,7 +12,6 @@ mod kind;
 mod lacks;
 mod lengths;
 mod named;
-mod nodes;
 mod prefix;
 mod ruled_out;
 mod window;

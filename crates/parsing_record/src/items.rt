@@ -7,7 +7,7 @@ ghost use Rattle.parsing_components.specs.Reads.{putting, reading, reading_of_al
 
 use crate::node::ReadsNode;
 use crate::parsed::Parsed;
-use crate::reading::{read_node, read_nodes};
+use crate::reading::{parse_nodes, read_node};
 use crate::tally::{NoTally, Tally};
 use description_items::{BorrowedFormatItem, Component};
 use parsing_combinator::ParseFromDescription;
@@ -126,12 +126,7 @@ impl Parsed {
         ensures tally { T.grows tally.old tally.new
             (tried_in_all reads_component (listed (trees items.now)) self.old input.now) }
     {
-        let before = *self;
-        let answer = read_nodes(items, input, self, tally);
-        if answer.is_err() {
-            *self = before;
-        }
-        answer
+        parse_nodes(items, input, self, tally)
     }
 }
 

@@ -17,5 +17,6 @@ mod years;
 pub use node::ReadsNode;
 pub use parsed::Parsed;
 pub use parsing_components::{Node, NodeStep};
+pub use reading::parse_nodes;
 pub use tally::{ItemTally, NoTally, Tally};
 pub use tree::parse_tree;

@@ -1,7 +1,7 @@
 //! Reading by nodes, whatever kind they are of.
 ghost use Rattle.std.specs.Prelude.{map};
 ghost use Rattle.description_items.specs.Tree.{listed};
-ghost use Rattle.parsing_components.specs.Meaning.{Answers, optionally, first_of};
+ghost use Rattle.parsing_components.specs.Meaning.{Answers, Reads, optionally, first_of};
 ghost use Rattle.parsing_components.specs.Reads.{reads, reading, reading_of_all, each_reads, tried, tried_in_all};
 
 use crate::node::ReadsNode;
@@ -9,6 +9,28 @@ use crate::parsed::Parsed;
 use crate::tally::Tally;
 use parsing_combinator::ParseFromDescription;
 use parsing_components::NodeStep;
+
+/// Reads by the nodes, each after what the one before it read, tells the tally of each node that is begun, and returns the
+/// bytes after them. The first refusal counts, and changes nothing.
+#[inline(always)]
+pub fn parse_nodes<'a, N: ReadsNode, T: Tally>(
+    nodes: &[N],
+    input: &'a [u8],
+    parsed: &mut Parsed,
+    tally: &mut T,
+) -> Result<&'a [u8], ParseFromDescription>
+    ensures reads { Reads result parsed.old parsed.new
+        (reading_of_all N.language (listed (map N.tree nodes.now)) parsed.old input.now) }
+    ensures tally { T.grows tally.old tally.new
+        (tried_in_all N.language (listed (map N.tree nodes.now)) parsed.old input.now) }
+{
+    let before = *parsed;
+    let answer = read_nodes(nodes, input, parsed, tally);
+    if answer.is_err() {
+        *parsed = before;
+    }
+    answer
+}
 
 /// Reads by one node, and tells the tally; a refusal leaves what was read before it in the record.
 #[tactic(auto, unfolding(parsing_components::specs::Reads::reads, parsing_components::specs::Meaning::optionally, parsing_components::proofs::lemmas::Sizes::size))]
@@ -87,11 +109,11 @@ fn read_optional<'a, N: ReadsNode, T: Tally>(
     }
 }
 
-/// Reads by each node in turn; a refusal leaves what was read before it in the record.
+// Reads by each node in turn; a refusal leaves what was read before it in the record.
 #[tactic(auto, using(parsing_components::proofs::lemmas::Sizes::one_of_them))]
 #[cycle(reading)]
 #[inline(always)]
-pub(crate) fn read_nodes<'a, N: ReadsNode, T: Tally>(
+fn read_nodes<'a, N: ReadsNode, T: Tally>(
     nodes: &[N],
     input: &'a [u8],
     parsed: &mut Parsed,
