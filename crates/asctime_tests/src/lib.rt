@@ -3,7 +3,5 @@
 #![tactic(auto)]
 
 mod asctime;
-#[cfg(test)]
-mod rows;
 
 pub use asctime::{read_exact, read_fields};

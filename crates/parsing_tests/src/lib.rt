@@ -5,6 +5,8 @@
 #[cfg(test)]
 mod alternatives;
 #[cfg(test)]
+mod asctime;
+#[cfg(test)]
 mod bounds;
 #[cfg(test)]
 mod components;

@@ -1,5 +1,5 @@
 //! Texts of asctime, and their moments, as Python prints them.
-use crate::{read_exact, read_fields};
+use asctime_tests::{read_exact, read_fields};
 
 // A text, and its second of Unix time, where it names a moment.
 static ROWS: [(&str, Option<i64>); 5] = [
