@@ -1,28 +1,27 @@
 -- The prefix at a place: what is read there, and where it lies.
-use Rattle.std.proofs.Common.{◌≡◌, ◌+◌, ◌-◌, ◌≤◌, ℕ, Bool, true, false, List, [], ◌∷◌, length, take, drop, Option, Some, None, Ok, Err, refl, sym, ap, ◌∙◌, arith, length-drop}
-use Rattle.std.specs.Prelude.{if◌then◌else◌, ◌==◌}
+use Rattle.std.proofs.Common.{◌≡◌, ◌+◌, ◌-◌, ◌≤◌, ℕ, Bool, true, false, List, [], ◌∷◌, length, take, drop, Option, Some, None, Ok, Err, refl, sym, ap, ◌∙◌, subst, arith, length-drop}
+use Rattle.std.specs.Prelude.{if◌then◌else◌, ◌==◌, IfSome}
 use Rattle.std.specs.Char.{is_ascii_alphabetic, is_ascii_whitespace}
 use Rattle.std.specs.List.{prefix_len}
 use Rattle.std.proofs.lemmas.List.{length-take}
 use Rattle.std.proofs.lemmas.List.Sums.{prefix_len-le-length}
 use Rattle.base.specs.Bytes.{space}
 use Rattle.datetime_wall.specs.Wall.{Shown}
-use Rattle.description_items.specs.Tree.{Tree, listed}
 use Rattle.parsing_record.specs.Meaning.{Answer}
 use Rattle.parsing_record.specs.Record.{empty}
-use Rattle.parsing_record.specs.Reads.{Language, reading_of_all}
 use Rattle.instants_sources.specs.Grammar.{Grammar, Described}
 use Rattle.instants_sources.specs.Reading.{reading_of}
-use Rattle.instants_sources.specs.Written.{language_of}
 use Rattle.instants_edges.specs.Pieces.{blanks, trimmed_length, zone_length}
 use Rattle.instants_prefixes.specs.DateSource.{IsWithin}
-use Rattle.instants_prefixes.specs.Ends.{LeavesRest}
+use Rattle.instants_prefixes.specs.Ends.{LiesIn, LeavesRest}
 use Rattle.instants_prefixes.specs.Prefix.{prefix_at, prefix_in, with_lengths}
 use Rattle.instants_prefixes.specs.Given.{Given, moment_of}
-use Rattle.instants_prefixes.specs.Lengths.{Lengths, lengths, lengths_by, whole, length_by, items_written, before_first, up_to_last, with_text}
+use Rattle.instants_prefixes.specs.Lengths.{lengths, lengths_from, extent_of, whole}
 use Rattle.instants_prefixes.specs.Reading.{text_for, may_begin, prefix_named, prefix_of, followed, is_likely}
 use Rattle.instants_prefixes.specs.declared.prefix.Prefix.{Prefix}
-use Rattle.instants_prefixes.proofs.Extents.{read_within}
+use Rattle.instants_prefixes.specs.declared.extent.Extent.{Extent}
+use Rattle.instants_prefixes.proofs.Extents.{extent_within}
+use Rattle.instants_prefixes.proofs.Windows.{text_within}
 
 -- ---- what is read
 
@@ -44,9 +43,9 @@ begun_leaves true given grammar text m rest e = read_leaves given grammar text r
 begun_leaves false given grammar text m rest e = absurd cc
 
 -- a prefix that is named was read
-pub named_leaves : (given : Given) (grammar : Grammar) (text : List ℕ) (m : Shown) (rest : List ℕ) → prefix_named given grammar text ≡ Some (m, rest) → LeavesRest grammar text rest
+pub named_leaves : (given : Given) (grammar : Grammar) (text : List ℕ) (m : Shown) (rest : List ℕ) → Some (m, rest) ≡ prefix_named given grammar text → LeavesRest grammar text rest
 unfolding prefix_named
-named_leaves given grammar text m rest e = begun_leaves (may_begin grammar text) given grammar text m rest e
+named_leaves given grammar text m rest e = begun_leaves (may_begin grammar text) given grammar text m rest (sym e)
 
 -- ---- where it lies
 
@@ -68,39 +67,39 @@ unfolding zone_length
 zone_within [] = omega arith
 zone_within (first ∷ others) = letters_within (first == space) (prefix_len is_ascii_alphabetic others == 0) first others
 
--- the lengths lie within the text
-record AreWithin (text : List ℕ) (long : Lengths) : Type 0 where
-  begins : long.begins ≤ length text
-  ends : long.ends ≤ length text
-  zone : long.zone ≤ length text
-
-by_within : (language : Language) (text : List ℕ) (items : List Tree) → AreWithin text (lengths_by language text items)
-by_within language text items =
-    let read : (xs : List Tree) → length_by language text xs ≤ length text = λ xs. read_within text (reading_of_all language (listed xs) empty text) in
-    let start = length_by language text (before_first items) in
-    let up_to = length_by language text (up_to_last items) in
-    let written = length_by language text (with_text items) in
-    let ends = trimmed_length (take up_to text) in
-    let ends_here : ends ≤ length text = omega (arith, trimmed_within (take up_to text), length-take up_to text) in
+-- what an extent within the text gives lies within it
+extent_lies : (text rest : List ℕ) (moment : Shown) (extent : Extent) → LiesIn text extent → IsWithin text (with_lengths text moment rest (lengths_from text extent))
+extent_lies text rest moment extent (begins, up_to, written) =
+    let all = length text - length rest in
+    let ends = trimmed_length (take extent.up_to text) in
+    let ends_here : ends ≤ length text = omega (arith, trimmed_within (take extent.up_to text), length-take extent.up_to text) in
     record {
-      begins = omega (arith, read (before_first items), blanks_within (drop start text), length-drop start text);
+      begins = omega (arith, begins, blanks_within (drop extent.begins text), length-drop extent.begins text);
       ends = ends_here;
-      zone = omega (arith, ends_here, zone_within (drop ends (take written text)), length-drop ends (take written text), length-take written text);
+      zone = omega (arith, ends_here, zone_within (drop ends (take extent.written text)), length-drop ends (take extent.written text), length-take extent.written text);
+      all = omega (arith, trimmed_within (take all text), length-take all text);
     }
 
-whole_within : (text : List ℕ) (n : ℕ) → AreWithin text (whole (trimmed_length (take n text)))
-whole_within text n = let here = trimmed_within (take n text) in let long = length-take n text in record { begins = omega arith; ends = omega (arith, here, long); zone = omega (arith, here, long) }
-
-lengths_within : (grammar : Grammar) (text rest : List ℕ) → AreWithin text (lengths grammar text rest)
-unfolding lengths
-lengths_within (Described written) text rest = by_within (language_of written) text (items_written written)
-lengths_within _ text rest = whole_within text (length text - length rest)
+whole_lies : (text rest : List ℕ) (moment : Shown) → IsWithin text (with_lengths text moment rest (whole (trimmed_length (take (length text - length rest) text))))
+whole_lies text rest moment =
+    let all = length text - length rest in
+    let here : trimmed_length (take all text) ≤ length text = omega (arith, trimmed_within (take all text), length-take all text) in
+    record { begins = omega arith; ends = here; zone = here; all = here }
 
 pub prefix_within : (grammar : Grammar) (text : List ℕ) (moment : Shown) (rest : List ℕ) → IsWithin text (with_lengths text moment rest (lengths grammar text rest))
-prefix_within grammar text moment rest =
-    let here = lengths_within grammar text rest in
-    record { begins = here.begins; ends = here.ends; zone = here.zone; all = omega (arith, trimmed_within (take (length text - length rest) text), length-take (length text - length rest) text) }
+unfolding lengths
+prefix_within (Described written) text moment rest = extent_lies text rest moment (extent_of written text) (extent_within written text)
+prefix_within _ text moment rest = whole_lies text rest moment
 
--- the prefix lies within the bytes, and within the window
-pub within_bytes : (text bytes : List ℕ) (prefix : Prefix) → length text ≤ length bytes → IsWithin text prefix → IsWithin bytes prefix
-within_bytes text bytes prefix le h = record { begins = omega (arith, h.begins); ends = omega (arith, h.ends); zone = omega (arith, h.zone); all = omega (arith, h.all) }
+-- the prefix lies within the bytes
+within_in : (grammar : Grammar) (text bytes : List ℕ) (named : Option (Shown × List ℕ)) → length text ≤ length bytes → IfSome (prefix_in grammar text named) (IsWithin bytes)
+within_in grammar text bytes None le = tt
+within_in grammar text bytes (Some (moment, rest)) le =
+    let h = prefix_within grammar text moment rest in
+    record { begins = omega (arith, h.begins); ends = omega (arith, h.ends); zone = omega (arith, h.zone); all = omega (arith, h.all) }
+
+pub at_within : (given : Given) (grammar : Grammar) (bytes : List ℕ) (o : Option Prefix) → o ≡ prefix_at given grammar bytes → IfSome o (IsWithin bytes)
+unfolding prefix_at
+at_within given grammar bytes o e =
+    let P : Option Prefix → Type 0 = λ o. IfSome o (IsWithin bytes) in
+    subst P (sym e) (within_in grammar (text_for grammar bytes) bytes _ (omega (arith, text_within grammar bytes, length-take 256 bytes)))

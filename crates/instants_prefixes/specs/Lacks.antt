@@ -26,15 +26,15 @@ is_known (Near above) = true
 
 -- the year that is given takes the place of one that need not stand there
 abbrev pub takes_year : Given → Written → Bool
-takes_year given written = is_known given.years && not (always kind.YearPart written)
+takes_year given written = is_known given.years && not (always kind.Year written || always kind.IsoYear written || always kind.Century written)
 
--- a year by all of its digits, by its century and its last two, or given
+-- a year by all of its digits, given, or by its century and its last two
 abbrev pub has_year : Given → Written → Bool
-has_year given written = may kind.Year written || (may kind.Century written && may kind.LastTwo written) || takes_year given written
+has_year given written = may kind.Year written || takes_year given written || (may kind.Century written && may kind.LastTwo written)
 
 -- a year of the weeks of ISO 8601, likewise: one is given by its last two digits alone
 abbrev pub has_iso_year : Given → Written → Bool
-has_iso_year given written = may kind.IsoYear written || (may kind.LastTwo written && (may kind.Century written || takes_year given written))
+has_iso_year given written = may kind.IsoYear written || (takes_year given written && may kind.LastTwo written) || (may kind.Century written && may kind.LastTwo written)
 
 abbrev pub has_day : Written → Bool
 has_day written = may kind.Ordinal written || (may kind.Month written && may kind.Day written) || (may kind.Week written && may kind.Weekday written)
@@ -52,9 +52,13 @@ has_hour written = may kind.Hour24 written || (may kind.Hour12 written && may ki
 abbrev pub has_gap : Written → Bool
 has_gap written = (always kind.Second written && not (may kind.Minute written)) || (always kind.Subsecond written && not (may kind.Second written))
 
+-- a part of a time of day always stands there
+abbrev pub always_time : Written → Bool
+always_time written = (always kind.Hour24 written || always kind.Hour12 written) || (always kind.Half written || always kind.Minute written) || (always kind.Second written || always kind.Subsecond written)
+
 -- a time of day, or one that is given in place of one of which no part need stand there
 abbrev pub has_time : Given → Written → Bool
-has_time given written = (has_hour written && not (has_gap written)) || (is_some given.time && not (always kind.TimePart written))
+has_time given written = (has_hour written && not (has_gap written)) || (is_some given.time && not (always_time written))
 
 -- ---- what is lacking
 

@@ -1,5 +1,6 @@
 //! The moments of records, with what is given in place of what was not read.
 ghost use Rattle.std.specs.Prelude.{◌≡◌};
+ghost use Rattle.std.specs.Option.{option_or};
 ghost use Rattle.calendar_count.specs.Range.{IsYear};
 ghost use Rattle.instants_prefixes.specs.Given as Gift;
 
@@ -65,8 +66,14 @@ fn year_near(year: i32, last_two: u8) -> i32
 // A year, or the one nearest to it that has the last two digits which were read.
 fn give_near_year(parsed: &mut Parsed, year: i32)
     requires { IsYear year }
-    ensures { parsed.new
-        ≡ Gift.in_near_year year parsed.old.year_last_two parsed.old.iso_year_last_two parsed.old }
+    ensures { parsed.new ≡ record parsed.old {
+      year = option_or
+          (Gift.given_year year parsed.old.year_last_two parsed.old.iso_year_last_two)
+          parsed.old.year;
+      iso_year = option_or
+          (Gift.given_iso_year year parsed.old.year_last_two parsed.old.iso_year_last_two)
+          parsed.old.iso_year;
+    } }
 {
     let of_weeks = parsed.iso_year_last_two();
     match parsed.year_last_two() {

@@ -44,7 +44,8 @@ fn takes_year(given: &Given, description: &Description<'_>) -> bool
         Years::Unknown => false,
         Years::In(_) | Years::Near(_) => true,
     };
-    is_known && !always(Kind::YearPart, description)
+    let has_year = always(Kind::Year, description) || always(Kind::IsoYear, description);
+    is_known && !(has_year || always(Kind::Century, description))
 }
 
 // Whether a description has a year, or one is given.
@@ -52,15 +53,16 @@ fn has_year(given: &Given, description: &Description<'_>) -> bool
     ensures { result ≡ Lacks.has_year given.now (written description.now) }
 {
     let has_parts = may(Kind::Century, description) && may(Kind::LastTwo, description);
-    may(Kind::Year, description) || has_parts || takes_year(given, description)
+    may(Kind::Year, description) || takes_year(given, description) || has_parts
 }
 
 // Whether it has a year of the weeks of ISO 8601, or one is given by its last two digits.
 fn has_iso_year(given: &Given, description: &Description<'_>) -> bool
     ensures { result ≡ Lacks.has_iso_year given.now (written description.now) }
 {
-    let has_century = may(Kind::Century, description) || takes_year(given, description);
-    may(Kind::IsoYear, description) || (may(Kind::LastTwo, description) && has_century)
+    let takes_year = takes_year(given, description) && may(Kind::LastTwo, description);
+    let has_parts = may(Kind::Century, description) && may(Kind::LastTwo, description);
+    may(Kind::IsoYear, description) || takes_year || has_parts
 }
 
 // Whether it has a day of a year.
@@ -98,11 +100,21 @@ fn has_gap(description: &Description<'_>) -> bool
     no_minute || no_second
 }
 
+// Whether a part of a time of day always stands there.
+fn always_time(description: &Description<'_>) -> bool
+    ensures { result ≡ Lacks.always_time (written description.now) }
+{
+    let has_hour = always(Kind::Hour24, description) || always(Kind::Hour12, description);
+    let has_half = always(Kind::Half, description) || always(Kind::Minute, description);
+    let has_second = always(Kind::Second, description) || always(Kind::Subsecond, description);
+    has_hour || has_half || has_second
+}
+
 // Whether it has a time of day, or one is given.
 fn has_time(given: &Given, description: &Description<'_>) -> bool
     ensures { result ≡ Lacks.has_time given.now (written description.now) }
 {
-    let takes_time = given.time.is_some() && !always(Kind::TimePart, description);
+    let takes_time = given.time.is_some() && !always_time(description);
     (has_hour(description) && !has_gap(description)) || takes_time
 }
 
