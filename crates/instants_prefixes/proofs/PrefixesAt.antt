@@ -1,11 +1,10 @@
 -- The prefix at a place: what is read there, and where it lies.
-use Rattle.std.proofs.Common.{◌≡◌, ◌+◌, ◌-◌, ◌≤◌, ℕ, Bool, true, false, List, [], ◌∷◌, length, take, drop, Option, Some, None, Ok, Err, refl, sym, ap, ◌∙◌, subst, arith, length-drop}
-use Rattle.std.specs.Prelude.{if◌then◌else◌, ◌==◌, IfSome}
-use Rattle.std.specs.Char.{is_ascii_alphabetic, is_ascii_whitespace}
-use Rattle.std.specs.List.{prefix_len}
+use Rattle.std.proofs.Common.{◌≡◌, ◌-◌, ◌≤◌, ℕ, Bool, true, false, List, length, take, drop, Option, Some, None, Ok, Err, refl, sym, ap, ◌∙◌, subst, arith, length-drop}
+use Rattle.std.specs.Prelude.{if◌then◌else◌, IfSome, option_map}
+use Rattle.std.specs.Char.{is_ascii_whitespace}
+use Rattle.std.proofs.lemmas.Bool.Decides.{nat_tests}
 use Rattle.std.proofs.lemmas.List.{length-take}
 use Rattle.std.proofs.lemmas.List.Sums.{prefix_len-le-length}
-use Rattle.base.specs.Bytes.{space}
 use Rattle.datetime_wall.specs.Wall.{Shown}
 use Rattle.parsing_record.specs.Meaning.{Answer}
 use Rattle.parsing_record.specs.Record.{empty}
@@ -17,7 +16,7 @@ use Rattle.instants_prefixes.specs.Ends.{LiesIn, LeavesRest}
 use Rattle.instants_prefixes.specs.Prefix.{prefix_at, prefix_in, with_lengths}
 use Rattle.instants_prefixes.specs.Given.{Given, moment_of}
 use Rattle.instants_prefixes.specs.Lengths.{lengths, lengths_from, extent_of, whole}
-use Rattle.instants_prefixes.specs.Reading.{text_for, may_begin, prefix_named, prefix_of, followed, is_likely}
+use Rattle.instants_prefixes.specs.Reading.{text_for, may_begin, prefix_named, prefix_of, is_likely}
 use Rattle.instants_prefixes.specs.declared.prefix.Prefix.{Prefix}
 use Rattle.instants_prefixes.specs.declared.extent.Extent.{Extent}
 use Rattle.instants_prefixes.proofs.Extents.{extent_within}
@@ -29,10 +28,8 @@ pub prefix_at_is : (given : Given) (grammar : Grammar) (bytes text : List ℕ) (
 unfolding prefix_at
 prefix_at_is given grammar bytes text o is named = rw (sym is, sym named) refl
 
-likely_rest : (b : Bool) (o : Option Shown) (m : Shown) (left rest : List ℕ) → (if b then followed left o else None) ≡ Some (m, rest) → left ≡ rest
-likely_rest true (Some moment) m left rest e = let both : ◌≡◌ {A = Shown × List ℕ} (moment, left) (m, rest) = cc in ap (λ (x : Shown × List ℕ). x.1) both
-likely_rest true None m left rest e = absurd cc
-likely_rest false o m left rest e = absurd cc
+likely_rest : (b : Bool) (o : Option Shown) (m : Shown) (left rest : List ℕ) → (if b then option_map {U = Shown × List ℕ} (λ moment. (moment, left)) o else None) ≡ Some (m, rest) → left ≡ rest
+likely_rest b o m left rest e = grind arith
 
 read_leaves : (given : Given) (grammar : Grammar) (text rest : List ℕ) (m : Shown) (a : Answer) → reading_of grammar empty text ≡ a → prefix_of given a ≡ Some (m, rest) → LeavesRest grammar text rest
 read_leaves given grammar text rest m (Ok read) is e = (read.0, is ∙ ap (λ left. Ok (read.0, left)) (likely_rest (is_likely read.0.unix_timestamp_nanos) (moment_of given given.years read.0) m read.1 rest e))
@@ -57,15 +54,9 @@ trimmed_within : (bytes : List ℕ) → trimmed_length bytes ≤ length bytes
 unfolding trimmed_length
 trimmed_within bytes = omega arith
 
-letters_within : (b c : Bool) (first : ℕ) (others : List ℕ) → (if b then (if c then 0 else 1 + prefix_len is_ascii_alphabetic others) else prefix_len is_ascii_alphabetic (first ∷ others)) ≤ length (first ∷ others)
-letters_within true true first others = omega arith
-letters_within true false first others = omega (arith, prefix_len-le-length is_ascii_alphabetic others)
-letters_within false c first others = prefix_len-le-length is_ascii_alphabetic (first ∷ others)
-
 zone_within : (bytes : List ℕ) → zone_length bytes ≤ length bytes
 unfolding zone_length
-zone_within [] = omega arith
-zone_within (first ∷ others) = letters_within (first == space) (prefix_len is_ascii_alphabetic others == 0) first others
+zone_within bytes = grind (arith, nat_tests, prefix_len-le-length {X = ℕ})
 
 -- what an extent within the text gives lies within it
 extent_lies : (text rest : List ℕ) (moment : Shown) (extent : Extent) → LiesIn text extent → IsWithin text (with_lengths text moment rest (lengths_from text extent))

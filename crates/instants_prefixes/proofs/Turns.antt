@@ -1,12 +1,10 @@
 -- Items that are read one after the other, taken apart.
-use Rattle.std.proofs.Common.{◌≡◌, ◌+◌, ℕ, Bool, true, false, List, [], ◌∷◌, ◌++◌, length, take, drop, Option, Some, None, Ok, Err, refl, sym, ap, ◌∙◌, arith, length-drop, take-append-drop}
-use Rattle.std.specs.Prelude.{bytes_eq, option_map, if◌then◌else◌}
+use Rattle.std.proofs.Common.{◌≡◌, ◌+◌, ℕ, List, [], ◌∷◌, ◌++◌, length, take, drop, Option, Some, None, Ok, Err, refl, sym, ap, ◌∙◌, arith, take-append-drop}
+use Rattle.std.specs.Prelude.{option_map}
 use Rattle.std.specs.Borrow.{Bor}
-use Rattle.std.proofs.lemmas.List.{length-take}
+use Rattle.std.proofs.lemmas.Grind.{common_steps}
 use Rattle.std.proofs.lemmas.Slice.Eq.{bytes_eq-Decides}
 use Rattle.description_items.specs.Tree.{Tree, Trees, Literal, Compound, none, also, listed}
-use Rattle.parsing_combinator.specs.Fault.{literal}
-use Rattle.parsing_combinator.specs.Readings.{then_read}
 use Rattle.parsing_components.specs.declared.fields.Record.{Record}
 use Rattle.parsing_components.specs.declared.node.NodeStep.{NodeStep}
 use Rattle.parsing_components.specs.declared.node.NodeStep.TheVariants as steps
@@ -51,15 +49,9 @@ module _ (language : Language) where
 
   -- ---- texts
 
-  literal_read : (b : Bool) (text bytes : List ℕ) (r : Record) (read : Record × List ℕ) → (b ≡ true → take (length text) bytes ≡ text) → then_read (if b then Ok (tt {0}, drop (length text) bytes) else Err literal) (λ _ rest. Ok (r, rest)) ≡ Ok read → length bytes ≡ length text + length read.1
-  literal_read true text bytes r read same e =
-      let is : (r, drop (length text) bytes) ≡ read = cc in
-      omega (arith, ap length (same refl), length-take (length text) bytes, length-drop (length text) bytes, ap (λ (x : Record × List ℕ). length x.1) is)
-  literal_read false text bytes r read same e = absurd cc
-
   text_read : (text bytes : List ℕ) (r : Record) (read : Record × List ℕ) → reading language (Literal text) r bytes ≡ Ok read → length bytes ≡ length text + length read.1
   unfolding reads literally
-  text_read text bytes r read e = literal_read (bytes_eq (take (length text) bytes) text) text bytes r read (bytes_eq-Decides (take (length text) bytes) text).0 e
+  text_read text bytes r read e = let same = bytes_eq-Decides (take (length text) bytes) text in grind (arith, common_steps)
 
   -- texts read as many bytes as they have
   pub texts_read : (items : List Tree) (long : ℕ) (r : Record) (text : List ℕ) (read : Record × List ℕ) → text_length items ≡ Some long → reading_of_all language (listed items) r text ≡ Ok read → length text ≡ long + length read.1

@@ -1,6 +1,6 @@
 -- A source that lacks a part names nothing.
 use Rattle.std.proofs.Common.{◌≡◌, ◌&&◌, ◌||◌, ◌⊎◌, inl, inr, ℕ, ℤ, Bool, false, not, List, Option, Some, None, Ok, Err, refl, ap, ◌∙◌, arith}
-use Rattle.std.specs.Prelude.{is_some, option_and_then, if◌then◌else◌}
+use Rattle.std.specs.Prelude.{is_some, option_map, option_and_then, if◌then◌else◌}
 use Rattle.std.specs.Option.{option_or}
 use Rattle.std.proofs.lemmas.Bool.{or_parts}
 use Rattle.std.proofs.lemmas.Bool.Decides.{nat_tests}
@@ -14,8 +14,8 @@ use Rattle.parsing_record.specs.Record.{empty}
 use Rattle.instants_sources.specs.Grammar.{Grammar, Described, Written}
 use Rattle.instants_sources.specs.Written.{reads_written}
 use Rattle.instants_prefixes.specs.Given.{Given, Years, Unknown, lacks_year, lacks_time, given_iso_year, moment_in, moment_of, with_offset, with_time, completed}
-use Rattle.instants_prefixes.specs.Lacks.{Lack, Year, Day, Time, Offset, may, is_known, takes_year, has_year, has_iso_year, has_day, has_date, has_time, has_offset, lack}
-use Rattle.instants_prefixes.specs.Reading.{prefix_named, prefix_of, followed, is_likely}
+use Rattle.instants_prefixes.specs.Lacks.{Lack, Year, Day, Time, Offset, may, is_known, takes_year, has_year, has_iso_year, has_day, has_date, has_time, lack}
+use Rattle.instants_prefixes.specs.Reading.{prefix_named, prefix_of, is_likely}
 use Rattle.instants_prefixes.specs.declared.kind.Kind.TheVariants as kind
 use Rattle.instants_prefixes.proofs.Le.{Le, none_le, le_refl, le_trans, left_le, right_le, or_le, and_le, not_le, le_false}
 use Rattle.instants_prefixes.proofs.Says.{holds}
@@ -96,7 +96,7 @@ module _ (given : Given) (written : Written) (r : Record) (reads : Holds written
         let gaps = or_le (and_le (reads.always kind.Second) (not_le (reads.may kind.Minute))) (and_le (reads.always kind.Subsecond) (not_le (reads.may kind.Second))) in
         without_time whole unix (λ leap. ap (λ (x : Record). named_time leap (time_parts x)) same ∙ untimed r (le_false (and_le hours (not_le gaps)) parts.0) leap)
 
-    unplaced_in : has_offset given written ≡ false → moment_in given year r ≡ None
+    unplaced_in : (may kind.OffsetHour written || is_some given.offset) ≡ false → moment_in given year r ≡ None
     unplaced_in e = let parts = or_parts _ _ e in without_offset whole unix (unplaced whole (with_no_offset given.offset r parts.1 (le_false (reads.may kind.OffsetHour) parts.0)))
 
 -- ---- the first of them
@@ -107,14 +107,14 @@ lacks_one unix year day iso week time offset what e = (grind arith, grind arith)
 
 -- what a description reads names nothing
 read_none : (given : Given) (written : Written) (text : List ℕ) (a : Answer) → reads_written written empty text ≡ a → ((r : Record) → Holds written r → moment_of given given.years r ≡ None) → prefix_of given a ≡ None
-read_none given written text (Ok read) is none = where_so (is_likely read.0.unix_timestamp_nanos) _ (λ _. ap (followed read.1) (none read.0 (read_holds written text read is)))
+read_none given written text (Ok read) is none = where_so (is_likely read.0.unix_timestamp_nanos) _ (λ _. ap (option_map (λ m. (m, read.1))) (none read.0 (read_holds written text read is)))
 read_none given written text (Err f) is none = refl
 
 -- a source that lacks something names nothing
 pub finds_nothing : (given : Given) (grammar : Grammar) (what : Lack) → lack given grammar ≡ Some what → (text : List ℕ) → prefix_named given grammar text ≡ None
 unfolding prefix_named lack
 finds_nothing given (Described written) what e text =
-    let one = lacks_one (may kind.UnixTime written) (has_year given written) (has_day written) (has_iso_year given written) (may kind.IsoWeek written && may kind.Weekday written) (has_time given written) (has_offset given written) what e in
+    let one = lacks_one (may kind.UnixTime written) (has_year given written) (has_day written) (has_iso_year given written) (may kind.IsoWeek written && may kind.Weekday written) (has_time given written) (may kind.OffsetHour written || is_some given.offset) what e in
     read_none given written text (reads_written written empty text) refl (λ r reads. each_year given given.years r None (λ year known.
     elim one.1 [
       | inl date ↦ undated_in given written r reads one.0 year known date

@@ -44,26 +44,17 @@ has_date given written = (has_year given written && has_day written) || (has_iso
 
 -- ---- times of day
 
--- an hour of the whole day, or one of a half day and which half
-abbrev pub has_hour : Written → Bool
-has_hour written = may kind.Hour24 written || (may kind.Hour12 written && may kind.Half written)
-
--- seconds without minutes, or a fraction without seconds, name no time
-abbrev pub has_gap : Written → Bool
-has_gap written = (always kind.Second written && not (may kind.Minute written)) || (always kind.Subsecond written && not (may kind.Second written))
-
 -- a part of a time of day always stands there
 abbrev pub always_time : Written → Bool
 always_time written = (always kind.Hour24 written || always kind.Hour12 written) || (always kind.Half written || always kind.Minute written) || (always kind.Second written || always kind.Subsecond written)
 
--- a time of day, or one that is given in place of one of which no part need stand there
+-- an hour of the whole day, or one of a half day and which half, neither with seconds that have no minutes nor with a fraction that has no seconds; or a time that is given in place of one of which no part need stand there
 abbrev pub has_time : Given → Written → Bool
-has_time given written = (has_hour written && not (has_gap written)) || (is_some given.time && not (always_time written))
+has_time given written =
+    ((may kind.Hour24 written || (may kind.Hour12 written && may kind.Half written)) && not ((always kind.Second written && not (may kind.Minute written)) || (always kind.Subsecond written && not (may kind.Second written))))
+    || (is_some given.time && not (always_time written))
 
 -- ---- what is lacking
-
-abbrev pub has_offset : Given → Written → Bool
-has_offset given written = may kind.OffsetHour written || is_some given.offset
 
 -- what a description lacks to name a moment, the first of these
 abbrev pub lack_in : Given → Written → Option Lack
@@ -72,7 +63,7 @@ lack_in given written =
     else if not (has_year given written || has_iso_year given written) then Some Year
     else if not (has_date given written) then Some Day
     else if not (has_time given written) then Some Time
-    else if not (has_offset given written) then Some Offset
+    else if not (may kind.OffsetHour written || is_some given.offset) then Some Offset
     else None
 
 -- the well-known formats have all that a moment needs

@@ -65,39 +65,15 @@ fn has_iso_year(given: &Given, description: &Description<'_>) -> bool
     may(Kind::IsoYear, description) || takes_year || has_parts
 }
 
-// Whether it has a day of a year.
-fn has_day(description: &Description<'_>) -> bool
-    ensures { result ≡ Lacks.has_day (written description.now) }
-{
-    let has_date = may(Kind::Month, description) && may(Kind::Day, description);
-    let has_week = may(Kind::Week, description) && may(Kind::Weekday, description);
-    may(Kind::Ordinal, description) || has_date || has_week
-}
-
 // Whether it has a date.
 fn has_date(given: &Given, description: &Description<'_>) -> bool
     ensures { result ≡ Lacks.has_date given.now (written description.now) }
 {
-    let has_week = may(Kind::IsoWeek, description) && may(Kind::Weekday, description);
-    let has_day = has_year(given, description) && has_day(description);
-    has_day || (has_iso_year(given, description) && has_week)
-}
-
-// Whether it has an hour.
-fn has_hour(description: &Description<'_>) -> bool
-    ensures { result ≡ Lacks.has_hour (written description.now) }
-{
-    let has_half = may(Kind::Hour12, description) && may(Kind::Half, description);
-    may(Kind::Hour24, description) || has_half
-}
-
-// Whether it has seconds without minutes, or a fraction without seconds.
-fn has_gap(description: &Description<'_>) -> bool
-    ensures { result ≡ Lacks.has_gap (written description.now) }
-{
-    let no_minute = always(Kind::Second, description) && !may(Kind::Minute, description);
-    let no_second = always(Kind::Subsecond, description) && !may(Kind::Second, description);
-    no_minute || no_second
+    let has_month = may(Kind::Month, description) && may(Kind::Day, description);
+    let has_week = may(Kind::Week, description) && may(Kind::Weekday, description);
+    let has_day = may(Kind::Ordinal, description) || has_month || has_week;
+    let has_iso_week = may(Kind::IsoWeek, description) && may(Kind::Weekday, description);
+    (has_year(given, description) && has_day) || (has_iso_year(given, description) && has_iso_week)
 }
 
 // Whether a part of a time of day always stands there.
@@ -110,19 +86,16 @@ fn always_time(description: &Description<'_>) -> bool
     has_hour || has_half || has_second
 }
 
-// Whether it has a time of day, or one is given.
+// Whether it has a time of day, without seconds that have no minutes and without a fraction that has no seconds, or one is given.
 fn has_time(given: &Given, description: &Description<'_>) -> bool
     ensures { result ≡ Lacks.has_time given.now (written description.now) }
 {
+    let has_half = may(Kind::Hour12, description) && may(Kind::Half, description);
+    let has_hour = may(Kind::Hour24, description) || has_half;
+    let no_minute = always(Kind::Second, description) && !may(Kind::Minute, description);
+    let no_second = always(Kind::Subsecond, description) && !may(Kind::Second, description);
     let takes_time = given.time.is_some() && !always_time(description);
-    (has_hour(description) && !has_gap(description)) || takes_time
-}
-
-// Whether it has an hour of an offset, or an offset is given.
-fn has_offset(given: &Given, description: &Description<'_>) -> bool
-    ensures { result ≡ Lacks.has_offset given.now (written description.now) }
-{
-    may(Kind::OffsetHour, description) || given.offset.is_some()
+    (has_hour && !(no_minute || no_second)) || takes_time
 }
 
 // What a description lacks to name a moment with what is given, the first of these.
@@ -141,7 +114,7 @@ fn lack_in(given: &Given, description: &Description<'_>) -> Option<Lack>
     if !has_time(given, description) {
         return Some(Lack::Time);
     }
-    if !has_offset(given, description) {
+    if !(may(Kind::OffsetHour, description) || given.offset.is_some()) {
         return Some(Lack::Offset);
     }
     None
