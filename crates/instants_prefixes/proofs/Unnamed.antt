@@ -13,7 +13,7 @@ use Rattle.parsing_components.specs.declared.fields.Record.{Record}
 use Rattle.parsing_record.specs.Record.{empty}
 use Rattle.instants_sources.specs.Grammar.{Grammar, Described, Written}
 use Rattle.instants_sources.specs.Written.{reads_written}
-use Rattle.instants_prefixes.specs.Given.{Given, Years, Unknown, lacks_year, lacks_time, given_iso_year, moment_in, moment_of, with_offset, with_time, completed}
+use Rattle.instants_prefixes.specs.Given.{Given, Years, Unknown, lacks_year, lacks_time, given_years, moment_in, moment_of, with_offset, with_time, completed}
 use Rattle.instants_prefixes.specs.Lacks.{Lack, Year, Day, Time, Offset, may, is_known, takes_year, has_year, has_iso_year, has_day, has_date, has_time, lack}
 use Rattle.instants_prefixes.specs.Reading.{prefix_named, prefix_of, is_likely}
 use Rattle.instants_prefixes.specs.declared.kind.Kind.TheVariants as kind
@@ -34,7 +34,7 @@ filtered : (o : Option ℤ) (lacks : Bool) (p : ℤ → Bool) (f : ℤ → Optio
 filtered o lacks p f = record { up = λ e. grind (arith, nat_tests) }
 
 -- a year of ISO 8601 is given where its last two digits were read
-filtered_iso : (o : Option ℤ) (lacks : Bool) (p : ℤ → Bool) (civil week : Option ℕ) → Le (is_some (option_and_then (λ y. given_iso_year y civil week) (option_and_then (λ y. if lacks && p y then Some y else None) o))) ((is_some o && lacks) && is_some week)
+filtered_iso : (o : Option ℤ) (lacks : Bool) (p : ℤ → Bool) (civil week : Option ℕ) → Le (is_some (option_and_then (λ y. (given_years y civil week).1) (option_and_then (λ y. if lacks && p y then Some y else None) o))) ((is_some o && lacks) && is_some week)
 filtered_iso o lacks p civil week = record { up = λ e. grind (arith, nat_tests) }
 
 year_le : (y : YearParts) → Le (is_some (year_of y)) (is_some y.year || (is_some y.century && is_some y.last_two))

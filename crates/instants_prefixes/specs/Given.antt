@@ -51,22 +51,18 @@ year_near year last_two = let first = year -ℤ pos 50 in first +ℤ int_rem_euc
 abbrev pub in_calendar : ℤ → Option ℤ
 in_calendar year = if is_up_to greatest_year year then Some year else None
 
--- the year that is given, and where the last two digits of one year were read, the year nearest to it that has them: one of the calendar
-abbrev pub given_year : ℤ → Option ℕ → Option ℕ → Option ℤ
-given_year year None None = Some year
-given_year year (Some last_two) None = in_calendar (year_near year last_two)
-given_year year last_two (Some other) = None
+-- the year that is given, and where the last two digits of one year were read, the year nearest to it that has them: one of the calendar, and one of the weeks of ISO 8601
+abbrev pub given_years : ℤ → Option ℕ → Option ℕ → Option ℤ × Option ℤ
+given_years year None None = (Some year, None)
+given_years year (Some last_two) None = (in_calendar (year_near year last_two), None)
+given_years year None (Some last_two) = (None, in_calendar (year_near year last_two))
+given_years year (Some one) (Some other) = (None, None)
 
--- or one of the weeks of ISO 8601
-abbrev pub given_iso_year : ℤ → Option ℕ → Option ℕ → Option ℤ
-given_iso_year year None (Some last_two) = in_calendar (year_near year last_two)
-given_iso_year year other last_two = None
-
--- a year of the calendar
+-- a year of either kind
 abbrev pub with_year : Option ℤ → Record → Record
 with_year year r =
     let given = option_and_then (λ y. if lacks_year r && is_up_to greatest_year y then Some y else None) year in
-    record r { year = option_or (option_and_then (λ y. given_year y r.year_last_two r.iso_year_last_two) given) r.year; iso_year = option_or (option_and_then (λ y. given_iso_year y r.year_last_two r.iso_year_last_two) given) r.iso_year }
+    record r { year = option_or (option_and_then (λ y. (given_years y r.year_last_two r.iso_year_last_two).0) given) r.year; iso_year = option_or (option_and_then (λ y. (given_years y r.year_last_two r.iso_year_last_two).1) given) r.iso_year }
 
 -- the record with what is given in place of what was not read
 abbrev pub completed : Option ℤ → Option ℤ → Option ℕ → Record → Record

@@ -56,17 +56,13 @@ has_time given written =
 
 -- ---- what is lacking
 
--- what a description lacks to name a moment, the first of these
-abbrev pub lack_in : Given → Written → Option Lack
-lack_in given written =
+-- what a description lacks to name a moment, the first of these; the well-known formats have all that a moment needs
+unfoldable pub lack : Given → Grammar → Option Lack
+lack given (Described written) =
     if may kind.UnixTime written then None
     else if not (has_year given written || has_iso_year given written) then Some Year
     else if not (has_date given written) then Some Day
     else if not (has_time given written) then Some Time
     else if not (may kind.OffsetHour written || is_some given.offset) then Some Offset
     else None
-
--- the well-known formats have all that a moment needs
-unfoldable pub lack : Given → Grammar → Option Lack
-lack given (Described written) = lack_in given written
 lack given _ = None

@@ -98,10 +98,15 @@ fn has_time(given: &Given, description: &Description<'_>) -> bool
     (has_hour && !(no_minute || no_second)) || takes_time
 }
 
-// What a description lacks to name a moment with what is given, the first of these.
-fn lack_in(given: &Given, description: &Description<'_>) -> Option<Lack>
-    ensures { result ≡ Lacks.lack_in given.now (written description.now) }
+/// What a source lacks to name a moment with what is given, the first of these.
+#[tactic(auto, unfolding(crate::specs::Lacks::lack))]
+pub(crate) fn lack_of(source: &Source<'_>, given: &Given) -> Option<Lack>
+    ensures { result ≡ Lacks.lack given.now (grammar_of source.now) }
 {
+    let description = match source {
+        Source::Items(described) | Source::V3(described) => described.description(),
+        Source::Rfc2822 | Source::Rfc3339 | Source::Iso8601 => return None,
+    };
     if may(Kind::UnixTime, description) {
         return None;
     }
@@ -118,17 +123,4 @@ fn lack_in(given: &Given, description: &Description<'_>) -> Option<Lack>
         return Some(Lack::Offset);
     }
     None
-}
-
-/// What a source lacks to name a moment with what is given.
-#[tactic(auto, unfolding(crate::specs::Lacks::lack))]
-pub(crate) fn lack_of(source: &Source<'_>, given: &Given) -> Option<Lack>
-    ensures { result ≡ Lacks.lack given.now (grammar_of source.now) }
-{
-    match source {
-        Source::Items(described) | Source::V3(described) => {
-            lack_in(given, described.description())
-        }
-        Source::Rfc2822 | Source::Rfc3339 | Source::Iso8601 => None,
-    }
 }
