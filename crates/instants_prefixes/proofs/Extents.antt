@@ -1,128 +1,77 @@
 -- How much of a text is read by items at the start of others.
-use Rattle.std.proofs.Common.{◌≡◌, ◌+◌, ◌-◌, ◌≤◌, ℕ, List, ◌++◌, length, take, drop, map, Ok, Err, sym, ap, refl, ◌∙◌, subst, arith, take-append-drop, length-drop, length-append}
-use Rattle.std.specs.List.{prefix_len, suffix_len}
-use Rattle.std.proofs.lemmas.List.{take-map, length-take-le, take_all}
+use Rattle.std.proofs.Common.{◌≡◌, ◌-◌, ◌≤◌, ℕ, List, [], ◌∷◌, length, take, drop, map, Option, Some, None, Ok, Err, refl, ◌∙◌, arith, length-drop}
+use Rattle.std.specs.Prelude.{option_map}
+use Rattle.std.specs.List.{prefix_len}
+use Rattle.std.proofs.lemmas.List.{take-map, take_all}
 use Rattle.std.proofs.lemmas.List.Sums.{prefix_len-le-length}
-use Rattle.description_items.specs.Tree.{Tree, listed}
-use Rattle.parsing_combinator.specs.Tame.{EndsWith, Tame}
-use Rattle.parsing_components.specs.Component.{reads_component_v3}
-use Rattle.parsing_components.proofs.lemmas.Tame.{component_tame, component_tame_v3}
-use Rattle.parsing_record.specs.Meaning.{Answer}
+use Rattle.description_items.specs.Tree.{Tree, Literal, listed}
 use Rattle.parsing_components.specs.declared.fields.Record.{Record}
+use Rattle.parsing_components.specs.Component.{reads_component_v3}
+use Rattle.parsing_record.specs.Meaning.{Answer}
 use Rattle.parsing_record.specs.Record.{empty}
 use Rattle.parsing_record.specs.Reads.{Language, reading_of_all}
-use Rattle.parsing_record.proofs.lemmas.Tame.{IsTameLanguage, in_turn_tame}
 use Rattle.instants_sources.specs.Grammar.{Described, Written, Items, V3}
 use Rattle.instants_sources.specs.Written.{language_of}
-use Rattle.instants_prefixes.specs.Ends.{AreTexts, AreTextsOf, AreEnds, IsExtent, IsExtentOf, IsByTexts, LiesIn, LeavesAfter, LeavesRest, lengths_from}
-use Rattle.instants_prefixes.specs.Lengths.{is_silent, is_text, length_read, length_by, before_first, up_to_last, with_text, items_written, lengths}
+use Rattle.instants_prefixes.specs.Ends.{text_length, AreEnds, by_texts, LiesIn, LeavesRest}
+use Rattle.instants_prefixes.specs.Lengths.{is_silent, is_text, last_place, text_place, length_read, length_by, extent_by, extent_of, items_written}
 use Rattle.instants_prefixes.specs.declared.ends.Ends.{Ends}
+use Rattle.instants_prefixes.specs.declared.ends.Texts.{Texts}
 use Rattle.instants_prefixes.specs.declared.extent.Extent.{Extent}
-use Rattle.instants_prefixes.proofs.Turns.{split, texts_read, by_items}
-
-pub last_length : (items : List Tree) → length (up_to_last items) ≡ length items - suffix_len is_silent items
-last_length items = length-take-le (length items - suffix_len is_silent items) items (omega arith)
-
-written_is : (items : List Tree) (ends : Ends) → AreEnds items ends → take ends.written items ≡ with_text items
-written_is items ends are =
-    let last = are.last ∙ sym (last_length items) in
-    ap (λ n. take n items) (are.written ∙ ap (λ n. n + prefix_len is_text (drop n items)) last)
+use Rattle.instants_prefixes.proofs.Turns.{more_texts, split_at, texts_read, by_items}
 
 -- the counts are within the items
 pub first_within : (items : List Tree) (ends : Ends) → AreEnds items ends → ends.first ≤ length items
 first_within items ends are = omega (arith, are.first, prefix_len-le-length is_silent items)
 
-pub last_within : (items : List Tree) (ends : Ends) → AreEnds items ends → ends.last ≤ length items
-last_within items ends are = omega (arith, are.last)
-
 pub written_within : (items : List Tree) (ends : Ends) → AreEnds items ends → ends.written ≤ length items
-written_within items ends are =
-    let last = last_within items ends are in
-    omega (arith, are.written, prefix_len-le-length is_text (drop ends.last items), length-drop ends.last items, last)
+written_within items ends are = omega (arith, are.written, prefix_len-le-length is_text (drop (last_place items) items), length-drop (last_place items) items)
 
 -- by reading again
-pub reading_again : {X : Type 0} (language : Language) (tree : X → Tree) (nodes : List X) (ends : Ends) (text : List ℕ) (begins up_to written : ℕ) → AreEnds (map tree nodes) ends → begins ≡ length_by language text (map tree (take ends.first nodes)) → up_to ≡ length_by language text (map tree (take ends.last nodes))
-    → written ≡ length_by language text (map tree (take ends.written nodes)) → IsExtent language (map tree nodes) text (record { begins = begins; up_to = up_to; written = written })
-reading_again language tree nodes ends text begins up_to written are b u w =
-    let items = map tree nodes in
-    record {
-      begins = b ∙ ap (length_by language text) (sym (take-map tree ends.first nodes) ∙ ap (λ n. take n items) are.first);
-      up_to = u ∙ ap (length_by language text) (sym (take-map tree ends.last nodes) ∙ ap (λ n. take n items) are.last);
-      written = w ∙ ap (length_by language text) (sym (take-map tree ends.written nodes) ∙ written_is items ends are);
-    }
+pub reading_again : {X : Type 0} (language : Language) (tree : X → Tree) (nodes : List X) (ends : Ends) (text : List ℕ) → AreEnds (map tree nodes) ends
+    → record { begins = length_by language text (map tree (take ends.first nodes)); up_to = length_by language text (map tree (take ends.last nodes)); written = length_by language text (map tree (take ends.written nodes)) } ≡ extent_by language text (map tree nodes)
+reading_again language tree nodes ends text are = rw (are.first, are.last, are.written) (simp take-map)
 
 -- ---- by the lengths of texts
 
-ends_within : (text rest : List ℕ) → EndsWith text rest → length rest ≤ length text
-ends_within text rest (prefix, is) = omega (arith, ap length is, length-append prefix rest)
+all_texts : (items : List Tree) (long : ℕ) → text_length items ≡ Some long → prefix_len is_text items ≡ length items
+all_texts [] long are = refl
+all_texts (Literal text ∷ items) long are =
+    let (rest, others, sum) = more_texts text (text_length items) long are in
+    omega (arith, all_texts items rest others)
+all_texts (t ∷ items) long are = absurd cc
 
-tame_within : (language : Language) → IsTameLanguage language → (items : List Tree) (text : List ℕ) (read : Record × List ℕ) → reading_of_all language (listed items) empty text ≡ Ok read → length read.1 ≤ length text
-tame_within language tame items text read e =
-    let P : Answer → Type 0 = λ a. Tame text a in
-    ends_within text read.1 (subst P e (in_turn_tame language tame (listed items) empty text))
+texts_extent : (language : Language) (items : List Tree) (ends : Ends) (texts : Texts) (text rest : List ℕ) (set : Record) → AreEnds items ends → ends.texts ≡ Some texts → reading_of_all language (listed items) empty text ≡ Ok (set, rest) → by_texts (length text - length rest) texts ≡ extent_by language text items
+texts_extent language items ends texts text rest set are is e =
+    let (prefix, back) = are.texts texts is in
+    let front = split_at language (prefix_len is_silent items) items empty text (set, rest) e in
+    let whole = split_at language (last_place items) items empty text (set, rest) e in
+    let read = texts_read language _ texts.prefix empty text front.between prefix front.first in
+    let left = texts_read language _ texts.back whole.between.0 whole.between.1 (set, rest) back whole.others in
+    let begins : texts.prefix ≡ length text - length front.between.1 = omega (arith, read) in
+    let up_to : (length text - length rest) - texts.back ≡ length text - length whole.between.1 = omega (arith, left) in
+    let all : take (text_place items) items ≡ items = take_all (text_place items) items (omega (arith, all_texts (drop (last_place items) items) texts.back back, length-drop (last_place items) items)) in
+    rw (front.first, whole.first, all, e, begins, up_to) refl
 
--- the texts before the first item
-prefix_length : (language : Language) (items : List Tree) (text rest : List ℕ) (long : ℕ) → AreTexts (before_first items) long → LeavesAfter language items text rest → length_by language text (before_first items) ≡ long
-prefix_length language items text rest long are (set, e) =
-    let count = prefix_len is_silent items in
-    let apart : reading_of_all language (listed (take count items ++ drop count items)) empty text ≡ Ok (set, rest) = ap (λ xs. reading_of_all language (listed xs) empty text) (take-append-drop count items) ∙ e in
-    let turns = split language (take count items) (drop count items) empty text (set, rest) apart in
-    let texts = texts_read language (take count items) long empty text turns.between are turns.first in
-    ap (length_read text) turns.first ∙ omega (arith, ap length texts.0, length-drop long text, texts.1)
-
--- the texts after the last
-back_length : (language : Language) → IsTameLanguage language → (items : List Tree) (text rest : List ℕ) (long : ℕ) → AreTexts (drop (length items - suffix_len is_silent items) items) long → LeavesAfter language items text rest → length_by language text (up_to_last items) ≡ (length text - length rest) - long
-back_length language tame items text rest long are (set, e) =
-    let count = length items - suffix_len is_silent items in
-    let apart : reading_of_all language (listed (take count items ++ drop count items)) empty text ≡ Ok (set, rest) = ap (λ xs. reading_of_all language (listed xs) empty text) (take-append-drop count items) ∙ e in
-    let turns = split language (take count items) (drop count items) empty text (set, rest) apart in
-    let texts = texts_read language (drop count items) long turns.between.0 turns.between.1 (set, rest) are turns.others in
-    let within = tame_within language tame (take count items) text turns.between turns.first in
-    let left : length rest ≡ length turns.between.1 - long = ap length texts.0 ∙ length-drop long turns.between.1 in
-    ap (length_read text) turns.first ∙ omega (arith, left, texts.1, within)
-
--- all are written
-all_written : (items : List Tree) (long : ℕ) → AreTexts (drop (length items - suffix_len is_silent items) items) long → with_text items ≡ items
-all_written items long are =
-    let count = length items - suffix_len is_silent items in
-    let all : prefix_len is_text (drop count items) ≡ length items - count = are.0 ∙ length-drop count items in
-    let last = last_length items in
-    ap (λ n. take (n + prefix_len is_text (drop n items)) items) last ∙ take_all (count + prefix_len is_text (drop count items)) items (omega (arith, all))
-
-texts_extent : (language : Language) → IsTameLanguage language → (items : List Tree) (ends : Ends) (text rest : List ℕ) (read : ℕ) (extent : Extent) → AreEnds items ends → LeavesAfter language items text rest → read ≡ length text - length rest → IsByTexts ends read extent → IsExtent language items text extent
-texts_extent language tame items ends text rest read extent are leaves sum by =
-    let texts : AreTextsOf items by.texts = are.texts by.texts by.are in
-    record {
-      begins = by.begins ∙ sym (prefix_length language items text rest by.texts.prefix texts.prefix leaves);
-      up_to = by.up_to ∙ ap (λ n. n - by.texts.back) sum ∙ sym (back_length language tame items text rest by.texts.back texts.back leaves);
-      written = by.written ∙ sum ∙ sym (ap (length_by language text) (all_written items by.texts.back texts.back) ∙ ap (length_read text) leaves.1);
-    }
-
-described_after : (written : Written) (text rest : List ℕ) → LeavesRest (Described written) text rest → LeavesAfter (language_of written) (items_written written) text rest
-described_after (Items items) text rest leaves = leaves
-described_after (V3 tree) text rest (set, e) = (set, by_items reads_component_v3 tree empty text ∙ e)
-
-is_tame : (written : Written) → IsTameLanguage (language_of written)
-is_tame (Items items) = component_tame
-is_tame (V3 tree) = component_tame_v3
+written_read : (written : Written) (text rest : List ℕ) → LeavesRest (Described written) text rest → (set : Record) × (reading_of_all (language_of written) (listed (items_written written)) empty text ≡ Ok (set, rest))
+written_read (Items items) text rest leaves = leaves
+written_read (V3 tree) text rest (set, e) = (set, by_items reads_component_v3 tree empty text ∙ e)
 
 -- by the lengths of texts in a text of which a description leaves the rest
-pub described_extent : (written : Written) (ends : Ends) (text rest : List ℕ) (read : ℕ) (extent : Extent) → AreEnds (items_written written) ends → LeavesRest (Described written) text rest → read ≡ length text - length rest → IsByTexts ends read extent → IsExtentOf written text extent
-described_extent written ends text rest read extent are leaves sum by =
-    texts_extent (language_of written) (is_tame written) (items_written written) ends text rest read extent are (described_after written text rest leaves) sum by
+pub described_extent : (written : Written) (ends : Ends) (text rest : List ℕ) (extent : Extent) → AreEnds (items_written written) ends → LeavesRest (Described written) text rest → Some extent ≡ option_map (by_texts (length text - length rest)) ends.texts → extent ≡ extent_of written text
+described_extent written ends text rest extent are leaves e =
+    elim ends.texts as (λ o. ends.texts ≡ o → extent ≡ extent_of written text) [
+      | None ↦ λ is. let none : ◌≡◌ {A = Option Extent} (Some extent) None = rw is at e in absurd cc
+      | Some texts ↦ λ is.
+          let some : ◌≡◌ {A = Option Extent} (Some extent) (Some (by_texts (length text - length rest) texts)) = rw is at e in
+          let (set, all) = written_read written text rest leaves in
+          let same : extent ≡ by_texts (length text - length rest) texts = cc in
+          same ∙ texts_extent (language_of written) (items_written written) ends texts text rest set are is all
+    ] refl
 
--- the extent lies within the text
-pub read_within : (text : List ℕ) (a : Answer) → length_read text a ≤ length text
+-- an extent lies within the text
+read_within : (text : List ℕ) (a : Answer) → length_read text a ≤ length text
 read_within text (Ok read) = omega arith
 read_within text (Err f) = omega arith
 
-pub extent_within : (written : Written) (text : List ℕ) (extent : Extent) → IsExtentOf written text extent → LiesIn text extent
-extent_within written text extent is =
-    let read : (items : List Tree) → length_by (language_of written) text items ≤ length text = λ items. read_within text (reading_of_all (language_of written) (listed items) empty text) in
-    let items = items_written written in
-    record { begins = omega (arith, is.begins, read (before_first items)); up_to = omega (arith, is.up_to, read (up_to_last items)); written = omega (arith, is.written, read (with_text items)) }
-
--- the lengths by it are those of the description
-pub lengths_are : (written : Written) (text rest : List ℕ) (extent : Extent) → IsExtentOf written text extent → lengths_from text extent ≡ lengths (Described written) text rest
-unfolding lengths
-lengths_are written text rest extent is = rw (is.begins, is.up_to, is.written) refl
+pub extent_within : (written : Written) (text : List ℕ) → LiesIn text (extent_of written text)
+extent_within written text = (read_within text _, read_within text _, read_within text _)

@@ -1,7 +1,6 @@
-pub mod Preserves
-pub mod Always
+pub mod Le
 pub mod Says
-pub mod Spared
+pub mod Told
 pub mod NamedAlone
 pub mod Stands
 pub mod Completing

@@ -1,5 +1,5 @@
 -- Bytes at which no date begins, as their first ones show.
-use Rattle.std.proofs.Common.{◌≡◌, ◌⊎◌, inl, inr, ℕ, Bool, false, eqb, List, get_or, None, refl, sym, ap, ◌∙◌}
+use Rattle.std.proofs.Common.{◌≡◌, ◌⊎◌, ℕ, Bool, false, eqb, List, get_or, None, refl, sym, ap, ◌∙◌, arith}
 use Rattle.std.specs.Result.{result_ok}
 use Rattle.std.specs.Char.{is_ascii_digit}
 use Rattle.base.specs.Bytes.{hyphen}
@@ -14,8 +14,7 @@ use Rattle.instants_prefixes.proofs.Windows.{text_byte}
 
 -- a test that no byte passes that is not there
 still_fails : (p : ℕ → Bool) (there byte : ℕ) → p 0 ≡ false → (there ≡ byte) ⊎ (there ≡ 0) → p byte ≡ false → p there ≡ false
-still_fails p there byte none (inl same) e = ap p same ∙ e
-still_fails p there byte none (inr zero_there) e = ap p zero_there ∙ none
+still_fails p there byte none same e = grind arith
 
 pub hyphen_due : (bytes : List ℕ) → eqb (get_or bytes 4 0) hyphen ≡ false → HasNoPrefix bytes Rfc3339
 hyphen_due bytes e given =

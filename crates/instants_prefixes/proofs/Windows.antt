@@ -1,5 +1,6 @@
 -- The bytes that a source is given, and that nothing else counts.
-use Rattle.std.proofs.Common.{◌≡◌, ◌⊎◌, inl, inr, ◌≤◌, ℕ, zero, suc, List, [], ◌∷◌, length, take, get_or, refl, sym, ap, ◌∙◌, arith}
+use Rattle.std.proofs.Common.{◌≡◌, ◌⊎◌, ◌≤◌, ℕ, List, [], length, take, get_or, sym, ap, arith}
+use Rattle.std.proofs.lemmas.Grind.{common_steps}
 use Rattle.std.proofs.lemmas.List.{length-take}
 use Rattle.instants_edges.proofs.TextPrefixes.{IsPrefix, iso_is_prefix, mail_is_prefix}
 use Rattle.instants_sources.specs.Grammar.{Grammar, Rfc2822, Iso8601}
@@ -22,40 +23,17 @@ text_prefix _ bytes = all_of_it (take 256 bytes)
 pub text_within : (grammar : Grammar) (bytes : List ℕ) → length (text_for grammar bytes) ≤ length (take 256 bytes)
 text_within grammar bytes = let (count, within, is) = text_prefix grammar bytes in omega (arith, ap length is, length-take count (take 256 bytes))
 
--- a byte of a prefix is that of the bytes, or none stands there
 taken_byte : (count : ℕ) (bytes : List ℕ) (place : ℕ) → (get_or (take count bytes) place 0 ≡ get_or bytes place 0) ⊎ (get_or (take count bytes) place 0 ≡ 0)
-taken_byte zero bytes place = inr refl
-taken_byte (suc count) [] place = inr refl
-taken_byte (suc count) (byte ∷ others) zero = inl refl
-taken_byte (suc count) (byte ∷ others) (suc place) = taken_byte count others place
+taken_byte count bytes place = grind (arith, common_steps)
 
--- so it is of a text
+-- a byte of a text is that of the bytes, or none stands there
 pub text_byte : (grammar : Grammar) (bytes : List ℕ) (place : ℕ) → (get_or (text_for grammar bytes) place 0 ≡ get_or bytes place 0) ⊎ (get_or (text_for grammar bytes) place 0 ≡ 0)
 text_byte grammar bytes place =
     let (count, within, is) = text_prefix grammar bytes in
-    let there = ap (λ xs. get_or xs place 0) is in
-    elim (taken_byte count (take 256 bytes) place) [
-      | inl same ↦ elim (taken_byte 256 bytes place) [ inl also ↦ inl (there ∙ same ∙ also) | inr none ↦ inr (there ∙ same ∙ none) ]
-      | inr none ↦ inr (there ∙ none)
-    ]
-
-nothing_taken : (count : ℕ) → take {A = ℕ} count [] ≡ []
-nothing_taken zero = refl
-nothing_taken (suc count) = refl
-
-first_taken : (count : ℕ) (bytes : List ℕ) → (take count bytes ≡ []) ⊎ (get_or (take count bytes) 0 0 ≡ get_or bytes 0 0)
-first_taken zero bytes = inl refl
-first_taken (suc count) [] = inl refl
-first_taken (suc count) (byte ∷ others) = inr refl
+    let one = taken_byte count (take 256 bytes) place in
+    let other = taken_byte 256 bytes place in
+    grind arith
 
 -- a text is empty or begins with the first byte
 pub first_of_text : (grammar : Grammar) (bytes : List ℕ) → (text_for grammar bytes ≡ []) ⊎ (get_or (text_for grammar bytes) 0 0 ≡ get_or bytes 0 0)
-first_of_text grammar bytes =
-    let (count, within, is) = text_prefix grammar bytes in
-    elim (first_taken count (take 256 bytes)) [
-      | inl none ↦ inl (is ∙ none)
-      | inr same ↦ elim (first_taken 256 bytes) [
-        | inl none ↦ inl (is ∙ ap (take count) none ∙ nothing_taken count)
-        | inr also ↦ inr (ap (λ xs. get_or xs 0 0) is ∙ same ∙ also)
-      ]
-    ]
+first_of_text grammar bytes = let (count, within, is) = text_prefix grammar bytes in grind (arith, common_steps)

@@ -1,7 +1,7 @@
 -- What is given once for dates that lack it, and the moment of what was read with it.
-use Rattle.std.specs.Prelude.{ℕ, Bool, ◌&&◌, ◌/◌, ◌%◌, Option, None, Some, nat_le, nat_lt, unsigned_abs, if◌then◌else◌, ℤ, pos, ◌+ℤ◌, ◌-ℤ◌, int_div, int_rem}
+use Rattle.std.specs.Prelude.{ℕ, Bool, ◌&&◌, ◌/◌, ◌%◌, Option, None, Some, option_map, option_and_then, nat_le, nat_lt, unsigned_abs, if◌then◌else◌, ℤ, pos, ◌+ℤ◌, ◌-ℤ◌, int_div, int_rem}
 use Rattle.std.specs.Int.{int_rem_euclid}
-use Rattle.std.specs.Option.{is_none}
+use Rattle.std.specs.Option.{is_none, option_or}
 use Rattle.std.specs.Result.{result_ok}
 use Rattle.calendar_count.specs.Calendar.{day_at}
 use Rattle.calendar_count.specs.Range.{greatest_year}
@@ -33,37 +33,36 @@ lacks_time r = (is_none r.hour_24 && is_none r.hour_12 && is_none r.hour_12_is_p
 
 -- the hour and the minute of an offset
 abbrev pub with_offset : Option ℤ → Record → Record
-with_offset None r = r
-with_offset (Some offset) r =
-    if lacks_offset r then record r { offset_hour = Some (int_div offset (pos 3600)); offset_minute = Some (int_rem (int_div offset (pos 60)) (pos 60)) } else r
+with_offset offset r =
+    let given = option_and_then (λ o. if lacks_offset r then Some o else None) offset in
+    record r { offset_hour = option_or (option_map (λ o. int_div o (pos 3600)) given) r.offset_hour; offset_minute = option_or (option_map (λ o. int_rem (int_div o (pos 60)) (pos 60)) given) r.offset_minute }
 
 -- a minute of a day
 abbrev pub with_time : Option ℕ → Record → Record
-with_time None r = r
-with_time (Some minutes) r = if lacks_time r && nat_lt minutes 1440 then record r { hour_24 = Some (minutes / 60); minute = Some (minutes % 60) } else r
+with_time time r =
+    let given = option_and_then (λ n. if lacks_time r && nat_lt n 1440 then Some n else None) time in
+    record r { hour_24 = option_or (option_map (λ n. n / 60) given) r.hour_24; minute = option_or (option_map (λ n. n % 60) given) r.minute }
 
 -- of the years with these last two digits the one that is nearest to a year, the earlier of two equally near ones
 abbrev pub year_near : ℤ → ℕ → ℤ
 year_near year last_two = let first = year -ℤ pos 50 in first +ℤ int_rem_euclid (pos last_two -ℤ first) (pos 100)
 
--- a year that the calendar has, and such a year of the weeks of ISO 8601
-abbrev pub in_year : ℤ → Record → Record
-in_year year r = if is_up_to greatest_year year then record r { year = Some year } else r
+-- a year that the calendar has
+abbrev pub in_calendar : ℤ → Option ℤ
+in_calendar year = if is_up_to greatest_year year then Some year else None
 
-abbrev pub in_iso_year : ℤ → Record → Record
-in_iso_year year r = if is_up_to greatest_year year then record r { iso_year = Some year } else r
+-- the year that is given, and where the last two digits of one year were read, the year nearest to it that has them: one of the calendar, and one of the weeks of ISO 8601
+abbrev pub given_years : ℤ → Option ℕ → Option ℕ → Option ℤ × Option ℤ
+given_years year None None = (Some year, None)
+given_years year (Some last_two) None = (in_calendar (year_near year last_two), None)
+given_years year None (Some last_two) = (None, in_calendar (year_near year last_two))
+given_years year (Some one) (Some other) = (None, None)
 
--- the year that is given, and where the last two digits of one year were read, the year nearest to it that has them
-abbrev pub in_near_year : ℤ → Option ℕ → Option ℕ → Record → Record
-in_near_year year None None r = in_year year r
-in_near_year year (Some last_two) None r = in_year (year_near year last_two) r
-in_near_year year None (Some last_two) r = in_iso_year (year_near year last_two) r
-in_near_year year (Some one) (Some other) r = r
-
--- a year of the calendar
+-- a year of either kind
 abbrev pub with_year : Option ℤ → Record → Record
-with_year None r = r
-with_year (Some year) r = if lacks_year r && is_up_to greatest_year year then in_near_year year r.year_last_two r.iso_year_last_two r else r
+with_year year r =
+    let given = option_and_then (λ y. if lacks_year r && is_up_to greatest_year y then Some y else None) year in
+    record r { year = option_or (option_and_then (λ y. (given_years y r.year_last_two r.iso_year_last_two).0) given) r.year; iso_year = option_or (option_and_then (λ y. (given_years y r.year_last_two r.iso_year_last_two).1) given) r.iso_year }
 
 -- the record with what is given in place of what was not read
 abbrev pub completed : Option ℤ → Option ℤ → Option ℕ → Record → Record

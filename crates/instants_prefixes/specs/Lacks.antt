@@ -26,15 +26,15 @@ is_known (Near above) = true
 
 -- the year that is given takes the place of one that need not stand there
 abbrev pub takes_year : Given → Written → Bool
-takes_year given written = is_known given.years && not (always kind.YearPart written)
+takes_year given written = is_known given.years && not (always kind.Year written || always kind.IsoYear written || always kind.Century written)
 
--- a year by all of its digits, by its century and its last two, or given
+-- a year by all of its digits, given, or by its century and its last two
 abbrev pub has_year : Given → Written → Bool
-has_year given written = may kind.Year written || (may kind.Century written && may kind.LastTwo written) || takes_year given written
+has_year given written = may kind.Year written || takes_year given written || (may kind.Century written && may kind.LastTwo written)
 
 -- a year of the weeks of ISO 8601, likewise: one is given by its last two digits alone
 abbrev pub has_iso_year : Given → Written → Bool
-has_iso_year given written = may kind.IsoYear written || (may kind.LastTwo written && (may kind.Century written || takes_year given written))
+has_iso_year given written = may kind.IsoYear written || (takes_year given written && may kind.LastTwo written) || (may kind.Century written && may kind.LastTwo written)
 
 abbrev pub has_day : Written → Bool
 has_day written = may kind.Ordinal written || (may kind.Month written && may kind.Day written) || (may kind.Week written && may kind.Weekday written)
@@ -44,34 +44,25 @@ has_date given written = (has_year given written && has_day written) || (has_iso
 
 -- ---- times of day
 
--- an hour of the whole day, or one of a half day and which half
-abbrev pub has_hour : Written → Bool
-has_hour written = may kind.Hour24 written || (may kind.Hour12 written && may kind.Half written)
+-- a part of a time of day always stands there
+abbrev pub always_time : Written → Bool
+always_time written = (always kind.Hour24 written || always kind.Hour12 written) || (always kind.Half written || always kind.Minute written) || (always kind.Second written || always kind.Subsecond written)
 
--- seconds without minutes, or a fraction without seconds, name no time
-abbrev pub has_gap : Written → Bool
-has_gap written = (always kind.Second written && not (may kind.Minute written)) || (always kind.Subsecond written && not (may kind.Second written))
-
--- a time of day, or one that is given in place of one of which no part need stand there
+-- an hour of the whole day, or one of a half day and which half, neither with seconds that have no minutes nor with a fraction that has no seconds; or a time that is given in place of one of which no part need stand there
 abbrev pub has_time : Given → Written → Bool
-has_time given written = (has_hour written && not (has_gap written)) || (is_some given.time && not (always kind.TimePart written))
+has_time given written =
+    ((may kind.Hour24 written || (may kind.Hour12 written && may kind.Half written)) && not ((always kind.Second written && not (may kind.Minute written)) || (always kind.Subsecond written && not (may kind.Second written))))
+    || (is_some given.time && not (always_time written))
 
 -- ---- what is lacking
 
-abbrev pub has_offset : Given → Written → Bool
-has_offset given written = may kind.OffsetHour written || is_some given.offset
-
--- what a description lacks to name a moment, the first of these
-abbrev pub lack_in : Given → Written → Option Lack
-lack_in given written =
+-- what a description lacks to name a moment, the first of these; the well-known formats have all that a moment needs
+unfoldable pub lack : Given → Grammar → Option Lack
+lack given (Described written) =
     if may kind.UnixTime written then None
     else if not (has_year given written || has_iso_year given written) then Some Year
     else if not (has_date given written) then Some Day
     else if not (has_time given written) then Some Time
-    else if not (has_offset given written) then Some Offset
+    else if not (may kind.OffsetHour written || is_some given.offset) then Some Offset
     else None
-
--- the well-known formats have all that a moment needs
-unfoldable pub lack : Given → Grammar → Option Lack
-lack given (Described written) = lack_in given written
 lack given _ = None

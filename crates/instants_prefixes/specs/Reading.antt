@@ -1,5 +1,5 @@
 -- What a source reads at the start of bytes, and the moment that it names.
-use Rattle.std.specs.Prelude.{ℕ, ℤ, ◌^◌, ◌&&◌, nat_le, nat_lt, Bool, true, false, List, take, get_or, Option, None, Some, Ok, Err, unsigned_abs, if◌then◌else◌}
+use Rattle.std.specs.Prelude.{ℕ, ℤ, ◌^◌, ◌&&◌, nat_le, nat_lt, Bool, true, false, List, take, get_or, Option, None, Some, option_map, Ok, Err, unsigned_abs, if◌then◌else◌}
 use Rattle.std.specs.Char.{is_ascii_alphanumeric}
 use Rattle.datetime_wall.specs.Wall.{Shown}
 use Rattle.description_items.specs.declared.component.Component.{Component}
@@ -58,14 +58,9 @@ abbrev pub is_likely : Option ℤ → Bool
 is_likely None = true
 is_likely (Some nanoseconds) = nat_le (10 ^ 17) (unsigned_abs nanoseconds) && nat_lt (unsigned_abs nanoseconds) (10 ^ 19)
 
--- a moment, and what stands after its prefix
-abbrev pub followed : List ℕ → Option Shown → Option (Shown × List ℕ)
-followed rest None = None
-followed rest (Some moment) = Some (moment, rest)
-
 -- the moment of a record that was read, whose number of Unix time, if it has one, is likely
 abbrev pub prefix_of : Given → Answer → Option (Shown × List ℕ)
-prefix_of given (Ok read) = if is_likely read.0.unix_timestamp_nanos then followed read.1 (moment_of given given.years read.0) else None
+prefix_of given (Ok read) = if is_likely read.0.unix_timestamp_nanos then option_map (λ moment. (moment, read.1)) (moment_of given given.years read.0) else None
 prefix_of given (Err fault) = None
 
 -- the moment that a prefix of a text names by a source, and what stands after that prefix: what is given takes the place of what the prefix lacks

@@ -62,31 +62,8 @@ fn year_near(year: i32, last_two: u8) -> i32
     first + (i32::from(last_two) - first).rem_euclid(100)
 }
 
-// A year, or the one nearest to it that has the last two digits which were read.
-fn give_near_year(parsed: &mut Parsed, year: i32)
-    requires { IsYear year }
-    ensures { parsed.new
-        ≡ Gift.in_near_year year parsed.old.year_last_two parsed.old.iso_year_last_two parsed.old }
-{
-    let of_weeks = parsed.iso_year_last_two();
-    match parsed.year_last_two() {
-        Some(last_two) => {
-            if of_weeks.is_none() {
-                parsed.set_year(year_near(year, last_two));
-            }
-        }
-        None => match of_weeks {
-            Some(last_two) => {
-                parsed.set_iso_year(year_near(year, last_two));
-            }
-            None => {
-                parsed.set_year(year);
-            }
-        },
-    }
-}
-
-// A year where none was read; one that the calendar does not have is none.
+// A year where none was read, or the one nearest to it that has the last two digits which were read; one that the calendar
+// does not have is none.
 fn give_year(parsed: &mut Parsed, year: Option<i32>)
     ensures { parsed.new ≡ Gift.with_year year parsed.old }
 {
@@ -94,9 +71,15 @@ fn give_year(parsed: &mut Parsed, year: Option<i32>)
         return;
     };
     let is_year = year >= -GREATEST_YEAR && year <= GREATEST_YEAR;
-    if lacks_year(parsed) && is_year {
-        give_near_year(parsed, year);
+    if !is_year || !lacks_year(parsed) {
+        return;
     }
+    let _ = match (parsed.year_last_two(), parsed.iso_year_last_two()) {
+        (None, None) => parsed.set_year(year),
+        (Some(last_two), None) => parsed.set_year(year_near(year, last_two)),
+        (None, Some(last_two)) => parsed.set_iso_year(year_near(year, last_two)),
+        (Some(_), Some(_)) => None,
+    };
 }
 
 // An offset where no hour of one was read.

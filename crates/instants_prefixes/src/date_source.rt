@@ -91,8 +91,7 @@ impl<'a> DateSource<'a> {
     #[inline(never)]
     #[tactic(auto, using(crate::proofs::PrefixesAt::prefix_at_is))]
     fn read_any(&self, bytes: &[u8], given: &Given) -> Option<Prefix>
-        ensures prefix { result ≡ prefix_at given.now (grammar_in self.now) bytes.now }
-        ensures within { IfSome result (IsWithin bytes.now) }
+        ensures { result ≡ prefix_at given.now (grammar_in self.now) bytes.now }
     {
         let text = text_for(&self.source, bytes);
         match prefix_named(&self.source, text, given) {
@@ -105,9 +104,8 @@ impl<'a> DateSource<'a> {
     // inlines a large function where it is called once alone, so each caller has one of its own.
     #[inline]
     fn planned<const AT_ONCE: bool>(&self, bytes: &[u8], given: &Given) -> Option<Prefix>
-        ensures prefix { IfSome result
+        ensures { IfSome result
             (λ prefix. Some prefix ≡ prefix_at given.now (grammar_in self.now) bytes.now) }
-        ensures within { IfSome result (IsWithin bytes.now) }
     {
         if self.contents.has_unix_time {
             return None;
@@ -128,6 +126,7 @@ impl<'a> DateSource<'a> {
     /// The prefix of bytes that a plan reads as a date, where texts alone stand around what it says: `None` says nothing of the
     /// bytes. The fields that were read stay where they are, since the caller gets no memory for a prefix that it asks for.
     #[inline(always)]
+    #[tactic(auto, using(crate::proofs::PrefixesAt::at_within))]
     pub fn read_planned(&self, bytes: &[u8], given: &Given) -> Option<Prefix>
         ensures prefix { IfSome result
             (λ prefix. Some prefix ≡ prefix_at given.now (grammar_in self.now) bytes.now) }
@@ -139,7 +138,7 @@ impl<'a> DateSource<'a> {
     /// The prefix of bytes that the source reads as a date, with what is given where the date lacks it. It lies within the
     /// first 256 bytes.
     #[inline(never)]
-    #[tactic(auto, unfolding(crate::specs::Prefix::prefix_at))]
+    #[tactic(auto, unfolding(crate::specs::Prefix::prefix_at), using(crate::proofs::PrefixesAt::at_within))]
     pub fn read(&self, bytes: &[u8], given: &Given) -> Option<Prefix>
         ensures prefix { result ≡ prefix_at given.now (grammar_in self.now) bytes.now }
         ensures within { IfSome result (IsWithin bytes.now) }

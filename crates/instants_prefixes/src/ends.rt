@@ -2,7 +2,7 @@
 ghost use Rattle.std.specs.Prelude.{◌≡◌, ◌≤◌, ◌-◌, length, map, take, drop, is_some, IfSome};
 ghost use Rattle.std.specs.List.{prefix_len, suffix_len};
 ghost use Rattle.description_items.specs.Tree.{Literal};
-ghost use Rattle.instants_prefixes.specs.Ends.{AreTexts, AreEnds, items_in};
+ghost use Rattle.instants_prefixes.specs.Ends.{text_length, AreEnds, items_in};
 ghost use Rattle.instants_prefixes.specs.Lengths.{is_silent, is_text, items_of};
 ghost use Rattle.description_tree.specs.Description.{v3_tree};
 ghost use Rattle.instants_sources.specs.Grammar.{grammar_of};
@@ -81,9 +81,8 @@ fn texts_at_start<N: Node>(nodes: &[N]) -> usize
 }
 
 // How long the items are together, where all are texts.
-#[tactic(auto, using(crate::proofs::Counts::no_more))]
 fn length_of_texts<N: Node>(nodes: &[N]) -> Option<usize>
-    ensures { IfSome result (λ long. AreTexts (map N.tree nodes.now) long) }
+    ensures { IfSome result (λ long. text_length (map N.tree nodes.now) ≡ Some long) }
 {
     let mut long = 0usize;
     for node in nodes {
@@ -97,8 +96,10 @@ fn length_of_texts<N: Node>(nodes: &[N]) -> Option<usize>
 fn texts_beside<N: Node>(nodes: &[N], first: usize, last: usize) -> Option<Texts>
     requires first { first ≤ length nodes.now }
     requires last { last ≤ length nodes.now }
-    ensures prefix { IfSome result (λ texts. AreTexts (map N.tree (take first nodes.now)) texts.prefix) }
-    ensures back { IfSome result (λ texts. AreTexts (map N.tree (drop last nodes.now)) texts.back) }
+    ensures prefix { IfSome result
+        (λ texts. text_length (map N.tree (take first nodes.now)) ≡ Some texts.prefix) }
+    ensures back { IfSome result
+        (λ texts. text_length (map N.tree (drop last nodes.now)) ≡ Some texts.back) }
 {
     let prefix = length_of_texts(&nodes[..first])?;
     let back = length_of_texts(&nodes[last..])?;

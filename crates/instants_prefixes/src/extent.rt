@@ -1,10 +1,10 @@
 //! How much of a text the items of a source read.
-ghost use Rattle.std.specs.Prelude.{◌≡◌, map, IfSome};
+ghost use Rattle.std.specs.Prelude.{◌≡◌, map, option_map};
 ghost use Rattle.description_tree.specs.Description.{v3_tree};
 ghost use Rattle.parsing_components.specs.Component.{reads_component_v3};
 ghost use Rattle.instants_sources.specs.Grammar.{Described, written};
-ghost use Rattle.instants_prefixes.specs.Ends.{AreEnds, IsExtent, IsExtentOf, IsByTexts, LeavesRest};
-ghost use Rattle.instants_prefixes.specs.Lengths.{items_of, items_written, length_by};
+ghost use Rattle.instants_prefixes.specs.Ends.{AreEnds, by_texts, LeavesRest};
+ghost use Rattle.instants_prefixes.specs.Lengths.{items_of, items_written, length_by, extent_by, extent_of};
 
 use crate::ends::Ends;
 use description::Description;
@@ -25,7 +25,7 @@ pub(crate) struct Extent {
 /// these don't tell it.
 #[inline(always)]
 pub(crate) fn extent_by_texts(ends: &Ends, read: usize) -> Option<Extent>
-    ensures { IfSome result (λ extent. IsByTexts ends.now read extent) }
+    ensures { result ≡ option_map (by_texts read) ends.now.texts }
 {
     let texts = ends.texts?;
     Some(Extent {
@@ -49,7 +49,7 @@ fn length_read<N: ReadsNode>(nodes: &[N], text: &[u8]) -> usize
 #[inline(never)]
 fn by_reading<N: ReadsNode>(nodes: &[N], ends: &Ends, text: &[u8]) -> Extent
     requires { AreEnds (map N.tree nodes.now) ends.now }
-    ensures { IsExtent N.language (map N.tree nodes.now) text.now result }
+    ensures { result ≡ extent_by N.language text.now (map N.tree nodes.now) }
 {
     Extent {
         begins: length_read(&nodes[..ends.first], text),
@@ -62,7 +62,7 @@ fn by_reading<N: ReadsNode>(nodes: &[N], ends: &Ends, text: &[u8]) -> Extent
 #[tactic(auto, using(crate::proofs::Turns::compound_items, crate::proofs::Turns::single_items))]
 fn by_reading_tree(tree: &FormatDescriptionV3<'_>, ends: &Ends, text: &[u8]) -> Extent
     requires { AreEnds (items_of (v3_tree tree.now)) ends.now }
-    ensures { IsExtent reads_component_v3 (items_of (v3_tree tree.now)) text.now result }
+    ensures { result ≡ extent_by reads_component_v3 text.now (items_of (v3_tree tree.now)) }
 {
     let node = tree.inner();
     match node.step() {
@@ -81,7 +81,7 @@ pub(crate) fn extent_of(
 ) -> Extent
     requires ends { AreEnds (items_written (written description.now)) ends.now }
     requires read { LeavesRest (Described (written description.now)) text.now rest.now }
-    ensures { IsExtentOf (written description.now) text.now result }
+    ensures { result ≡ extent_of (written description.now) text.now }
 {
     if let Some(extent) = extent_by_texts(ends, text.len().saturating_sub(rest.len())) {
         return extent;

@@ -44,7 +44,8 @@ fn takes_year(given: &Given, description: &Description<'_>) -> bool
         Years::Unknown => false,
         Years::In(_) | Years::Near(_) => true,
     };
-    is_known && !always(Kind::YearPart, description)
+    let has_year = always(Kind::Year, description) || always(Kind::IsoYear, description);
+    is_known && !(has_year || always(Kind::Century, description))
 }
 
 // Whether a description has a year, or one is given.
@@ -52,71 +53,60 @@ fn has_year(given: &Given, description: &Description<'_>) -> bool
     ensures { result ≡ Lacks.has_year given.now (written description.now) }
 {
     let has_parts = may(Kind::Century, description) && may(Kind::LastTwo, description);
-    may(Kind::Year, description) || has_parts || takes_year(given, description)
+    may(Kind::Year, description) || takes_year(given, description) || has_parts
 }
 
 // Whether it has a year of the weeks of ISO 8601, or one is given by its last two digits.
 fn has_iso_year(given: &Given, description: &Description<'_>) -> bool
     ensures { result ≡ Lacks.has_iso_year given.now (written description.now) }
 {
-    let has_century = may(Kind::Century, description) || takes_year(given, description);
-    may(Kind::IsoYear, description) || (may(Kind::LastTwo, description) && has_century)
-}
-
-// Whether it has a day of a year.
-fn has_day(description: &Description<'_>) -> bool
-    ensures { result ≡ Lacks.has_day (written description.now) }
-{
-    let has_date = may(Kind::Month, description) && may(Kind::Day, description);
-    let has_week = may(Kind::Week, description) && may(Kind::Weekday, description);
-    may(Kind::Ordinal, description) || has_date || has_week
+    let takes_year = takes_year(given, description) && may(Kind::LastTwo, description);
+    let has_parts = may(Kind::Century, description) && may(Kind::LastTwo, description);
+    may(Kind::IsoYear, description) || takes_year || has_parts
 }
 
 // Whether it has a date.
 fn has_date(given: &Given, description: &Description<'_>) -> bool
     ensures { result ≡ Lacks.has_date given.now (written description.now) }
 {
-    let has_week = may(Kind::IsoWeek, description) && may(Kind::Weekday, description);
-    let has_day = has_year(given, description) && has_day(description);
-    has_day || (has_iso_year(given, description) && has_week)
+    let has_month = may(Kind::Month, description) && may(Kind::Day, description);
+    let has_week = may(Kind::Week, description) && may(Kind::Weekday, description);
+    let has_day = may(Kind::Ordinal, description) || has_month || has_week;
+    let has_iso_week = may(Kind::IsoWeek, description) && may(Kind::Weekday, description);
+    (has_year(given, description) && has_day) || (has_iso_year(given, description) && has_iso_week)
 }
 
-// Whether it has an hour.
-fn has_hour(description: &Description<'_>) -> bool
-    ensures { result ≡ Lacks.has_hour (written description.now) }
+// Whether a part of a time of day always stands there.
+fn always_time(description: &Description<'_>) -> bool
+    ensures { result ≡ Lacks.always_time (written description.now) }
 {
-    let has_half = may(Kind::Hour12, description) && may(Kind::Half, description);
-    may(Kind::Hour24, description) || has_half
+    let has_hour = always(Kind::Hour24, description) || always(Kind::Hour12, description);
+    let has_half = always(Kind::Half, description) || always(Kind::Minute, description);
+    let has_second = always(Kind::Second, description) || always(Kind::Subsecond, description);
+    has_hour || has_half || has_second
 }
 
-// Whether it has seconds without minutes, or a fraction without seconds.
-fn has_gap(description: &Description<'_>) -> bool
-    ensures { result ≡ Lacks.has_gap (written description.now) }
-{
-    let no_minute = always(Kind::Second, description) && !may(Kind::Minute, description);
-    let no_second = always(Kind::Subsecond, description) && !may(Kind::Second, description);
-    no_minute || no_second
-}
-
-// Whether it has a time of day, or one is given.
+// Whether it has a time of day, without seconds that have no minutes and without a fraction that has no seconds, or one is given.
 fn has_time(given: &Given, description: &Description<'_>) -> bool
     ensures { result ≡ Lacks.has_time given.now (written description.now) }
 {
-    let takes_time = given.time.is_some() && !always(Kind::TimePart, description);
-    (has_hour(description) && !has_gap(description)) || takes_time
+    let has_half = may(Kind::Hour12, description) && may(Kind::Half, description);
+    let has_hour = may(Kind::Hour24, description) || has_half;
+    let no_minute = always(Kind::Second, description) && !may(Kind::Minute, description);
+    let no_second = always(Kind::Subsecond, description) && !may(Kind::Second, description);
+    let takes_time = given.time.is_some() && !always_time(description);
+    (has_hour && !(no_minute || no_second)) || takes_time
 }
 
-// Whether it has an hour of an offset, or an offset is given.
-fn has_offset(given: &Given, description: &Description<'_>) -> bool
-    ensures { result ≡ Lacks.has_offset given.now (written description.now) }
+/// What a source lacks to name a moment with what is given, the first of these.
+#[tactic(auto, unfolding(crate::specs::Lacks::lack))]
+pub(crate) fn lack_of(source: &Source<'_>, given: &Given) -> Option<Lack>
+    ensures { result ≡ Lacks.lack given.now (grammar_of source.now) }
 {
-    may(Kind::OffsetHour, description) || given.offset.is_some()
-}
-
-// What a description lacks to name a moment with what is given, the first of these.
-fn lack_in(given: &Given, description: &Description<'_>) -> Option<Lack>
-    ensures { result ≡ Lacks.lack_in given.now (written description.now) }
-{
+    let description = match source {
+        Source::Items(described) | Source::V3(described) => described.description(),
+        Source::Rfc2822 | Source::Rfc3339 | Source::Iso8601 => return None,
+    };
     if may(Kind::UnixTime, description) {
         return None;
     }
@@ -129,21 +119,8 @@ fn lack_in(given: &Given, description: &Description<'_>) -> Option<Lack>
     if !has_time(given, description) {
         return Some(Lack::Time);
     }
-    if !has_offset(given, description) {
+    if !(may(Kind::OffsetHour, description) || given.offset.is_some()) {
         return Some(Lack::Offset);
     }
     None
-}
-
-/// What a source lacks to name a moment with what is given.
-#[tactic(auto, unfolding(crate::specs::Lacks::lack))]
-pub(crate) fn lack_of(source: &Source<'_>, given: &Given) -> Option<Lack>
-    ensures { result ≡ Lacks.lack given.now (grammar_of source.now) }
-{
-    match source {
-        Source::Items(described) | Source::V3(described) => {
-            lack_in(given, described.description())
-        }
-        Source::Rfc2822 | Source::Rfc3339 | Source::Iso8601 => None,
-    }
 }

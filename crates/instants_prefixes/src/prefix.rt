@@ -1,7 +1,7 @@
 //! A prefix of bytes that is read as a date.
 ghost use Rattle.std.specs.Prelude.{◌≡◌, ◌≤◌, ◌+◌, ◌-◌, length, take, drop};
 ghost use Rattle.instants_edges.specs.Pieces as Pieces;
-ghost use Rattle.instants_prefixes.specs.Ends.{lengths_from, LiesIn};
+ghost use Rattle.instants_prefixes.specs.Ends.{LiesIn};
 ghost use Rattle.instants_prefixes.specs.Prefix.{with_lengths};
 ghost use Rattle.instants_prefixes.specs.Lengths as Lengths;
 
@@ -46,7 +46,7 @@ impl Prefix {
     #[inline(always)]
     pub(crate) fn of_extent(extent: Extent, text: &[u8], moment: Named, rest: &[u8]) -> Prefix
         requires { LiesIn text.now extent }
-        ensures { result ≡ with_lengths text.now moment rest.now (lengths_from text.now extent) }
+        ensures { result ≡ with_lengths text.now moment rest.now (Lengths.lengths_from text.now extent) }
     {
         let ends = trimmed_length(&text[..extent.up_to]);
         let read = text.len().saturating_sub(rest.len());

@@ -14,4 +14,4 @@ slice_bounds-length_read-end-3 g c =
     sym (length-take-le c.args.ends.now.written nodes (omega (arith, written_within (map g.N.Node.tree nodes) c.args.ends.now c.requires, length-map nodes g.N.Node.tree)))
 
 pub returns : goal.returns
-returns g c = reading_again g.N.Node.language g.N.Node.tree c.args.nodes.now c.args.ends.now c.args.text.now c.length_read.result c.length_read-2.result c.length_read-3.result c.requires c.length_read.ensures c.length_read-2.ensures c.length_read-3.ensures
+returns g c = rw (c.length_read.ensures, c.length_read-2.ensures, c.length_read-3.ensures) (reading_again g.N.Node.language g.N.Node.tree c.args.nodes.now c.args.ends.now c.args.text.now c.requires)

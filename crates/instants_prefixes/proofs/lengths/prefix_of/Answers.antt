@@ -7,4 +7,4 @@ pub extent_of-extent-requires-clause-read : goal.extent_of-extent-requires-claus
 extent_of-extent-requires-clause-read c = rw c.description.ensures (elim c.in-Items.is [ inl e ↦ (rw e at c.requires.read) | inr e ↦ (rw e at c.requires.read) ])
 
 pub of_extent-requires : goal.of_extent-requires
-of_extent-requires c = extent_within (written c.description.result.now) c.args.text.now c.extent_of-extent.result c.extent_of-extent.ensures
+of_extent-requires c = rw c.extent_of-extent.ensures (extent_within (written c.description.result.now) c.args.text.now)

@@ -1,4 +1,4 @@
-use Rattle.std.proofs.Common.{◌+◌, ◌-◌, length, drop, sym, ap, ◌∙◌}
+use Rattle.std.proofs.Common.{◌+◌, ◌-◌, length, drop, map, sym, ap, ◌∙◌}
 use Rattle.std.specs.List.{prefix_len}
 use Rattle.std.proofs.lemmas.List.{take_rest, drop-map}
 use Rattle.instants_prefixes.specs.Lengths.{is_silent, is_text}
@@ -17,7 +17,7 @@ returns g c =
       ends = record {
         first = first;
         last = last;
-        written = ap (λ n. end + n) texts;
+        written = ap (λ n. end + n) texts ∙ ap (λ n. n + prefix_len is_text (drop n (map tree nodes))) last;
         texts = texts_of tree nodes c.silent_at_start-first.result end c.texts_beside.result first last c.texts_beside.ensures.prefix c.texts_beside.ensures.back;
       };
     }
