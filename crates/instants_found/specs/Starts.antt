@@ -17,13 +17,9 @@ index_of Fourth = 3
 abbrev pub CannotStand : ℕ → ℕ → Grammar → Type 0
 CannotStand place byte grammar = (bytes : List ℕ) → get_or bytes place 0 ≡ byte → HasNoPrefix bytes grammar
 
--- no prefix that one of the sources reads has it there
-abbrev pub NoneHas : ℕ → List Grammar → ℕ → Type 0
-NoneHas place sources byte = All (CannotStand place byte) sources
-
 -- what is marked in a table are all bytes that can stand at this place of a prefix of a source
 abbrev pub AreMarked : ℕ → List Grammar → List Bool → Type 0
-AreMarked place sources marked = (byte : ℕ) → get_or marked byte true ≡ false → NoneHas place sources byte
+AreMarked place sources marked = (byte : ℕ) → get_or marked byte true ≡ false → All (CannotStand place byte) sources
 
 -- none of the sources from a number on reads a prefix of these bytes
 abbrev pub HaveNoPrefix : List ℕ → List Grammar → ℕ → Type 0

@@ -6,9 +6,9 @@ ghost use Rattle.instants_sources.specs.Grammar.{grammar_of};
 ghost use Rattle.instants_found.specs.Found.{found, found_in, looked_at};
 ghost use Rattle.instants_found.specs.Doubts.{doubt_of};
 ghost use Rattle.instants_found.specs.Finder.{limit_of, sources_of};
-ghost use Rattle.instants_found.specs.Keys.{IsKeyedBy, NeedsFour};
+ghost use Rattle.instants_found.specs.Keys.{IsKeyedBy};
 ghost use Rattle.instants_found.specs.Marks.{AreMarks};
-ghost use Rattle.instants_found.specs.Starts.{HasNoDate, IsNoDate, MarkPlaces};
+ghost use Rattle.instants_found.specs.Starts.{CannotStand, HasNoDate, IsNoDate, MarkPlaces};
 ghost use Rattle.instants_found.specs.Within.{IsWithin};
 ghost use Rattle.instants_found.specs.declared.found.Finding.TheVariants.{There};
 
@@ -170,7 +170,7 @@ impl<'a> Finder<'a> {
         requires some { 4 ≤ length line.now }
         requires end { length line.now ≤ from + 4 }
         requires within { from ≤ length line.now }
-        requires long { All NeedsFour (sources_of self.now) }
+        requires long { All (CannotStand 3 0) (sources_of self.now) }
         ensures none { IfNone result
             (HasNoDate (sources_of self.now) line.now from (length line.now)) }
         ensures within { IfSome result (λ start. (from ≤ start) × (start < length line.now)) }
