@@ -1,11 +1,11 @@
 -- Bytes that begin in no form of a list, by their first byte.
 use Rattle.std.proofs.Common.{◌≡◌, ℕ, ◌<◌, ◌==◌, false, List, [], ◌∷◌, length, get_or, refl, arith}
+use Rattle.std.specs.Prelude.{codes}
 use Rattle.std.specs.Char.{is_ascii_digit, is_ascii_lowercase, to_ascii_lowercase}
 use Rattle.std.proofs.Math.Bool.{and-false}
 use Rattle.std.proofs.lemmas.Bool.Decides.{nat_tests}
 use Rattle.instants_edges.specs.Edge.{is_sign}
 use Rattle.instants_edges.specs.Words.{fits, begin_so, begun, word, signs, names_of_utc, halves, clocks}
-use Rattle.instants_edges.specs.Beside.{inside}
 
 -- a form is no longer than what begins in it
 pub too_short : (form bytes : List ℕ) → length bytes < length form → begin_so form bytes ≡ false
@@ -33,7 +33,7 @@ unfolding word begin_so
 no_utc [] u g z = refl
 no_utc (byte ∷ bytes) u g z = rw (u, g, z) refl
 
-pub no_utc_inside : (bytes : List ℕ) → IsNo 117 bytes → IsNo 103 bytes → IsNo 122 bytes → word inside bytes ≡ 0
+pub no_utc_inside : (bytes : List ℕ) → IsNo 117 bytes → IsNo 103 bytes → IsNo 122 bytes → word (codes "utc" ∷ codes "gmt" ∷ codes "z" ∷ []) bytes ≡ 0
 unfolding word begin_so
 no_utc_inside [] u g z = refl
 no_utc_inside (byte ∷ bytes) u g z = rw (u, g, z) refl

@@ -3,6 +3,7 @@ pub mod Edges
 pub mod Texts
 pub mod FirstBytes
 pub mod Numbers
+pub mod Anywhere
 pub mod NoClocks
 pub mod Zones
 pub mod TextPrefixes

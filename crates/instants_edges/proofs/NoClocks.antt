@@ -1,15 +1,15 @@
 -- Without a colon before a place no clock is there.
-use Rattle.std.proofs.Common.{◌≡◌, ℕ, ◌+◌, ◌-◌, ◌<◌, ◌≤◌, ◌==◌, false, not, List, [], ◌∷◌, length, take, drop, get_or, refl, subst, inl, inr, arith}
+use Rattle.std.proofs.Common.{◌≡◌, ℕ, zero, suc, ◌+◌, ◌-◌, ◌<◌, ◌≤◌, ◌==◌, false, not, List, [], ◌∷◌, length, take, drop, get_or, refl, subst, inl, inr, arith}
 use Rattle.std.specs.Prelude.{codes}
-use Rattle.std.specs.List.{prefix_len, range_with_len}
+use Rattle.std.specs.List.{prefix_len}
 use Rattle.std.proofs.Math.Bool.{and-false}
 use Rattle.std.proofs.lemmas.Bool.{cases_lt}
 use Rattle.std.proofs.lemmas.List.{get_or-drop, get_or-take, get_or_past, length-take}
-use Rattle.std.proofs.lemmas.List.Folds.{list_any_none}
 use Rattle.base.specs.Bytes.{colon}
 use Rattle.instants_edges.specs.Words.{fits, begin_so}
 use Rattle.instants_edges.specs.Beside.{begins_seconds, has_clock_before}
 use Rattle.instants_edges.specs.Colons.{HasNoColon}
+use Rattle.instants_edges.proofs.Anywhere.{any_never}
 use Rattle.instants_edges.proofs.FirstBytes.{no_other}
 
 -- sixteen bytes more without one
@@ -24,12 +24,13 @@ none_among line seen at place le is none here = λ k lt.
           subst P same (here (k - at) (omega (arith, high, le, is, lt)))
     ]
 
-no_seconds : (bytes : List ℕ) → (get_or bytes 2 0 == colon) ≡ false → begin_so (codes "99:99:99") bytes ≡ false
+-- bytes that begin in a form have in each place what its mark there stands for
+begun_at : (form bytes : List ℕ) (k : ℕ) → fits (get_or form k 0) (get_or bytes k 0) ≡ false → k < length form → begin_so form bytes ≡ false
 unfolding begin_so
-no_seconds [] other = refl
-no_seconds (a ∷ []) other = and-false (fits 57 a)
-no_seconds (a ∷ b ∷ []) other = rw (and-false (fits 57 b)) (and-false (fits 57 a))
-no_seconds (a ∷ b ∷ c ∷ bytes) other = rw (no_other colon c refl other, and-false (fits 57 b)) (and-false (fits 57 a))
+begun_at [] bytes k other lt = absurd (omega (arith, lt))
+begun_at (mark ∷ form) [] k other lt = refl
+begun_at (mark ∷ form) (byte ∷ bytes) zero other lt = rw other refl
+begun_at (mark ∷ form) (byte ∷ bytes) (suc k) other lt = rw (begun_at form bytes k other (omega (arith, lt))) (and-false (fits mark byte))
 
 none_cut : (line : List ℕ) (place n k : ℕ) → HasNoColon line place → (get_or (take n (take place line)) k 0 == colon) ≡ false
 none_cut line place n k none =
@@ -44,9 +45,7 @@ none_cut line place n k none =
 pub no_colon_no_clock : (line : List ℕ) (place : ℕ) → HasNoColon line place → has_clock_before line place ≡ false
 unfolding has_clock_before
 no_colon_no_clock line place none =
-    let long : ℕ = prefix_len (λ byte. not (byte == 34)) (take place line) in
-    let before : List ℕ = take long (take place line) in
-    list_any_none (begins_seconds before) (range_with_len 0 (length before)) (λ k d lt.
-    let at : ℕ = get_or (range_with_len 0 (length before)) k d in
-    let other : (get_or (drop at before) 2 0 == colon) ≡ false = rw (get_or-drop at before 2 0) (none_cut line place long (at + 2) none) in
-    rw (no_seconds (drop at before) other) refl)
+    let before : List ℕ = take (prefix_len (λ byte. not (byte == 34)) (take place line)) (take place line) in
+    any_never (begins_seconds before) 0 (length before) (λ at.
+    let other = none_cut line place (prefix_len (λ byte. not (byte == 34)) (take place line)) (at + 2) none in
+    rw (begun_at (codes "99:99:99") (drop at before) 2 (rw (get_or-drop at before 2 0) (no_other colon (get_or before (at + 2) 0) refl other)) (omega arith)) refl)

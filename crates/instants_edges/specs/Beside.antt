@@ -2,17 +2,17 @@
 use Rattle.std.specs.Prelude.{ℕ, ◌+◌, ◌-◌, ◌*◌, ◌/◌, ◌%◌, ◌==◌, ◌&&◌, ◌||◌, not, nat_lt, nat_le, min, max, Bool, false, List, [], ◌∷◌, ◌++◌, length, take, drop, filter, take_while, count_by, get_or, codes, Option, None, Some, if◌then◌else◌, ℤ, pos, neg_ℤ}
 use Rattle.std.specs.Char.{is_ascii_digit, is_ascii_alphabetic, is_ascii_alphanumeric, is_ascii_uppercase, is_ascii_hexdigit, to_ascii_lowercase}
 use Rattle.std.specs.List.{list_any, prefix_len, suffix_len, range_with_len}
-use Rattle.std.specs.Option.{option_or}
+use Rattle.std.specs.Option.{option_map_or, option_or}
 use Rattle.std.specs.Ordering.{int_eq}
 use Rattle.std.specs.Str.Parse.{digits_value}
 use Rattle.base.specs.Bytes.{space, colon, hyphen, left_bracket}
-use Rattle.instants_edges.specs.Edge.{is_edge, is_sign, is_one_of, is_parameter, escape, byte_before}
+use Rattle.instants_edges.specs.Edge.{is_edge, is_sign, is_one_of, is_parameter, byte_before}
 use Rattle.instants_edges.specs.Text.{comma}
 use Rattle.instants_edges.specs.Words.{begin_so, begun, word, signs, signed, hours, hours_and_minutes, names_of_utc, other_names, halves, clocks}
 
--- at one of so many places from one on
+-- at one of the places from one up to another
 abbrev pub is_any : (ℕ → Bool) → ℕ → ℕ → Bool
-is_any is place count = list_any is (range_with_len place count)
+is_any is from to = list_any is (range_with_len from (to - from))
 
 -- ---- between a date and a word
 
@@ -28,7 +28,7 @@ fraction_length bytes = if get_or bytes 0 0 == comma && is_ascii_digit (get_or b
 abbrev pub sequence_length : List ℕ → ℕ
 sequence_length bytes =
     let long = prefix_len is_parameter (drop 2 bytes) in
-    if get_or bytes 0 0 == escape && get_or bytes 1 0 == left_bracket && is_ascii_alphabetic (get_or (drop 2 bytes) long 0) then long + 3 else 0
+    if get_or bytes 0 0 == 27 && get_or bytes 1 0 == left_bracket && is_ascii_alphabetic (get_or (drop 2 bytes) long 0) then long + 3 else 0
 
 -- what stands after a colour and a fraction
 abbrev pub near : List ℕ → List ℕ
@@ -93,29 +93,23 @@ offset_after bytes =
     let apart = drop (gap (near bytes)) (near bytes) in
     option_or (said_directly (near bytes)) (option_or (said hours_and_minutes apart) (said_by_name apart))
 
--- an offset is said, and another one than the one given
-abbrev pub is_another : Option ℤ → ℤ → Bool
-is_another None given = false
-is_another (Some said) given = not (int_eq said given)
-
--- the names of UTC that are looked for inside of what is read
-abbrev pub inside : List (List ℕ)
-inside = codes "utc" ∷ codes "gmt" ∷ codes "z" ∷ []
-
 -- here stand a sign and four digits after no word: an offset that was read as a year, or a year with a sign
 abbrev pub is_signed_year : List ℕ → ℕ → Bool
 is_signed_year line place =
     is_sign (get_or line place 0) && begin_so (codes "9999") (drop 1 (drop place line)) && not (is_ascii_alphanumeric (byte_before line place 1))
 
--- here UTC is named
+-- here UTC is named, as it is looked for inside of what is read
 abbrev pub is_utc : List ℕ → ℕ → Bool
-is_utc line place = not (word inside (drop place line) == 0) && is_edge line place
+is_utc line place = not (word (codes "utc" ∷ codes "gmt" ∷ codes "z" ∷ []) (drop place line) == 0) && is_edge line place
+
+-- one of these stands here; UTC counts only where another offset is given
+abbrev pub says_offset : List ℕ → Bool → ℕ → Bool
+says_offset line counts place = is_signed_year line place || (counts && is_utc line place)
 
 -- the line says another offset after a date that is read from a place up to another, or there is one inside of what is read, or UTC is named there
 unfoldable pub has_another_offset : List ℕ → ℕ → ℕ → ℤ → Bool
 has_another_offset line start ends given =
-    is_another (offset_after (after line ends)) given || is_any (is_signed_year line) start (ends - start) ||
-    (not (int_eq given (pos 0)) && is_any (is_utc line) start (ends - start))
+    option_map_or (λ said. not (int_eq said given)) (offset_after (after line ends)) false || is_any (says_offset line (not (int_eq given (pos 0)))) start ends
 
 -- ---- a time of day
 
@@ -132,7 +126,7 @@ is_clock line place = not (begun clocks (drop place line) == 0) && is_edge line 
 
 -- it says a clock within sixteen bytes before a date or after it
 unfoldable pub has_clock_beside : List ℕ → ℕ → ℕ → Bool
-has_clock_beside line begins ends = is_any (is_clock line) (begins - 16) (min begins 16) || is_any (is_clock line) ends 16
+has_clock_beside line begins ends = is_any (is_clock line) (begins - 16) begins || is_any (is_clock line) ends (ends + 16)
 
 -- ---- a year
 
@@ -168,7 +162,7 @@ is_year_before line begins year far =
 
 -- it says another year, after a date or up to eleven bytes before it
 unfoldable pub has_another_year : List ℕ → ℕ → ℕ → ℤ → Bool
-has_another_year line begins ends year = is_year_after year (after line ends) || is_any (is_year_before line begins year) 5 (min 7 (begins - 4))
+has_another_year line begins ends year = is_year_after year (after line ends) || is_any (is_year_before line begins year) 5 (min 12 (begins + 1))
 
 -- ---- a clock before a date
 

@@ -29,8 +29,8 @@ pub(crate) fn byte_before(line: &[u8], place: usize, far: usize) -> u8
 
 /// The byte after the one at a place, and 0 where the line has none.
 #[inline(always)]
+#[tactic(auto, using(std::proofs::lemmas::List::get_or_past))]
 pub(crate) fn byte_after(line: &[u8], place: usize) -> u8
-    requires { place ≤ length line.now }
     ensures { result ≡ get_or line.now (place + 1) 0 }
 {
     if place < line.len() {

@@ -1,5 +1,5 @@
 //! Times of day beside a date and before it.
-ghost use Rattle.std.specs.Prelude.{◌≡◌, ◌≤◌, ◌<◌, ◌==◌, not, IsTrue, length};
+ghost use Rattle.std.specs.Prelude.{◌≡◌, ◌≤◌, ◌==◌, not, length};
 ghost use Rattle.std.specs.List.{prefix_len, suffix_len};
 ghost use Rattle.instants_edges.specs.Words as Words;
 ghost use Rattle.instants_edges.specs.Beside as Beside;
@@ -37,8 +37,7 @@ pub fn has_half_after(line: &[u8], ends: usize) -> bool
 #[inline(always)]
 #[tactic(auto, using(std::proofs::lemmas::Bool::Decides::nat_tests, crate::proofs::FirstBytes::no_clock))]
 fn begins_clock(bytes: &[u8]) -> bool
-    ensures value { result ≡ not (Words.begun Words.clocks bytes.now == 0) }
-    ensures within { IsTrue result → 0 < length bytes.now }
+    ensures { result ≡ not (Words.begun Words.clocks bytes.now == 0) }
 {
     byte_at(bytes, 0).is_ascii_digit() && begun(&CLOCKS, bytes) != 0
 }
@@ -51,14 +50,26 @@ fn is_clock(line: &[u8], place: usize) -> bool
     begins_clock(rest_from(line, place)) && is_edge(line, place)
 }
 
+// Whether one does at a place from one up to another.
+#[tactic(auto, using(crate::proofs::Anywhere::any_more, crate::proofs::Anywhere::any_none))]
+fn has_clock(line: &[u8], from: usize, to: usize) -> bool
+    ensures { result ≡ Beside.is_any (Beside.is_clock line.now) from to }
+{
+    for place in from..to {
+        if is_clock(line, place) {
+            return true;
+        }
+    }
+    false
+}
+
 /// Whether a line says a clock within sixteen bytes before a date or after it, which begins and ends at these places.
 #[tactic(auto, unfolding(crate::specs::Beside::has_clock_beside))]
 pub fn has_clock_beside(line: &[u8], begins: usize, ends: usize) -> bool
     requires { ends ≤ length line.now }
     ensures { result ≡ Beside.has_clock_beside line.now begins ends }
 {
-    (begins.saturating_sub(16)..begins).any(|place| is_clock(line, place))
-        || (ends..ends + 16).any(|place| is_clock(line, place))
+    has_clock(line, begins.saturating_sub(16), begins) || has_clock(line, ends, ends + 16)
 }
 
 // Whether a byte may stand in an address of IPv6 or of hardware.
@@ -113,12 +124,18 @@ fn quote_place(bytes: &[u8]) -> usize
 
 // Whether they do before a place and the first quotation mark, looked for byte by byte.
 #[inline(never)]
+#[tactic(auto, using(crate::proofs::Anywhere::any_more, crate::proofs::Anywhere::any_none), unfolding(crate::specs::Beside::has_clock_before))]
 fn has_seconds(line: &[u8], place: usize) -> bool
     ensures { result ≡ Beside.has_clock_before line.now place }
 {
     let bytes = first_bytes(line, place);
     let before = first_bytes(bytes, quote_place(bytes));
-    (0..before.len()).any(|place| begins_seconds(before, place))
+    for place in 0..before.len() {
+        if begins_seconds(before, place) {
+            return true;
+        }
+    }
+    false
 }
 
 /// Whether a clock with seconds stands before a place, and before the first quotation mark. Most lines have no colon there.

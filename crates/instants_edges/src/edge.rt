@@ -28,31 +28,22 @@ fn parameters_before(line: &[u8], place: usize) -> usize
         .count()
 }
 
-// Whether what stands before the byte before a place begins a control sequence.
+// Whether what stands before the byte before a place begins a control sequence. Few do, so it is a call of its own.
 #[inline(never)]
 fn follows_escape(line: &[u8], place: usize) -> bool
-    requires { place ≤ length line.now }
     ensures { result ≡ Edge.follows_escape line.now place }
 {
     let long = parameters_before(line, place.saturating_sub(1));
     byte_before(line, place, long + 2) == b'[' && byte_before(line, place, long + 3) == ESCAPE
 }
 
-// Whether a control sequence ends at a place. Few do, so the rest is a call of its own.
-#[inline(always)]
-fn ends_sequence(line: &[u8], place: usize) -> bool
-    requires { place ≤ length line.now }
-    ensures { result ≡ Edge.ends_sequence line.now place }
-{
-    byte_before(line, place, 1).is_ascii_alphabetic() && follows_escape(line, place)
-}
-
 // Whether a place stands between the minutes of a clock and its seconds.
 #[inline(always)]
 #[tactic(auto, using(std::proofs::lemmas::Bool::Decides::nat_tests))]
 fn is_inside_clock(line: &[u8], place: usize) -> bool
-    requires { place ≤ length line.now }
-    ensures { result ≡ Edge.is_inside_clock line.now place }
+    ensures { result ≡ Edge.is_inside_clock
+        (Edge.byte_before line.now place 3) (Edge.byte_before line.now place 2) (Edge.byte_before line.now place 1)
+        (get_or line.now place 0) (get_or line.now (place + 1) 0) }
 {
     byte_at(line, place) == b':'
         && byte_after(line, place).is_ascii_digit()
@@ -63,15 +54,15 @@ fn is_inside_clock(line: &[u8], place: usize) -> bool
 
 /// Whether no word and no clock goes on over a place of a line. Most places are told by the bytes on either side.
 #[inline(always)]
+#[tactic(auto, using(std::proofs::lemmas::Bool::Decides::nat_tests, crate::proofs::Edges::edge_is))]
 pub fn is_edge(line: &[u8], place: usize) -> bool
-    requires { place ≤ length line.now }
     ensures { result ≡ Edge.is_edge line.now place }
 {
     let before = byte_before(line, place, 1);
     let after = byte_at(line, place);
     if before.is_ascii_alphanumeric() {
         if after.is_ascii_alphanumeric() {
-            return ends_sequence(line, place);
+            return before.is_ascii_alphabetic() && follows_escape(line, place);
         }
         if after == b'.' {
             return !byte_after(line, place).is_ascii_digit();

@@ -124,27 +124,6 @@ fn offset_after(bytes: &[u8]) -> Option<i32>
     said_directly(near).or_else(|| said(&HOURS_AND_MINUTES, apart).or_else(|| said_by_name(apart)))
 }
 
-// Whether an offset is said, and another one than the one given.
-fn is_another(said: Option<i32>, given: UtcOffset) -> bool
-    ensures { result ≡ Beside.is_another said given }
-{
-    match said {
-        Some(said) => said != given.whole_seconds(),
-        None => false,
-    }
-}
-
-// Whether UTC is named at the start, as it is looked for inside of what is read.
-#[inline(always)]
-#[tactic(auto, using(std::proofs::lemmas::Bool::Decides::nat_tests, crate::proofs::FirstBytes::no_utc_inside))]
-fn is_utc_inside(bytes: &[u8]) -> bool
-    ensures value { result ≡ not (Words.word Beside.inside bytes.now == 0) }
-    ensures within { IsTrue result → 0 < length bytes.now }
-{
-    matches!(byte_at(bytes, 0).to_ascii_lowercase(), b'u' | b'g' | b'z')
-        && word(&NAMES_INSIDE, bytes) != 0
-}
-
 // Whether a sign and four digits stand at a place after no word.
 #[inline(always)]
 fn is_signed_year(line: &[u8], place: usize) -> bool
@@ -155,26 +134,37 @@ fn is_signed_year(line: &[u8], place: usize) -> bool
         && !byte_before(line, place, 1).is_ascii_alphanumeric()
 }
 
-// Whether they do at a place from one up to another.
-fn has_signed_year(line: &[u8], start: usize, ends: usize) -> bool
-    ensures { result ≡ Beside.is_any (Beside.is_signed_year line.now) start (ends - start) }
-{
-    (start..ends).any(|place| is_signed_year(line, place))
-}
-
-// Whether UTC is named at a place.
+// Whether UTC is named at a place, as it is looked for inside of what is read.
 #[inline(always)]
+#[tactic(auto, using(std::proofs::lemmas::Bool::Decides::nat_tests, crate::proofs::FirstBytes::no_utc_inside))]
 fn is_utc(line: &[u8], place: usize) -> bool
     ensures { result ≡ Beside.is_utc line.now place }
 {
-    is_utc_inside(rest_from(line, place)) && is_edge(line, place)
+    let bytes = rest_from(line, place);
+    matches!(byte_at(bytes, 0).to_ascii_lowercase(), b'u' | b'g' | b'z')
+        && word(&NAMES_INSIDE, bytes) != 0
+        && is_edge(line, place)
 }
 
-// Whether it is at a place from one up to another.
-fn has_utc(line: &[u8], start: usize, ends: usize) -> bool
-    ensures { result ≡ Beside.is_any (Beside.is_utc line.now) start (ends - start) }
+// Whether one of these stands at a place. UTC counts only where it is said to.
+#[inline(always)]
+fn says_offset(line: &[u8], counts: bool, place: usize) -> bool
+    ensures { result ≡ Beside.says_offset line.now counts place }
 {
-    (start..ends).any(|place| is_utc(line, place))
+    is_signed_year(line, place) || (counts && is_utc(line, place))
+}
+
+// Whether one does at a place from one up to another.
+#[tactic(auto, using(crate::proofs::Anywhere::any_more, crate::proofs::Anywhere::any_none))]
+fn has_offset(line: &[u8], start: usize, ends: usize, counts: bool) -> bool
+    ensures { result ≡ Beside.is_any (Beside.says_offset line.now counts) start ends }
+{
+    for place in start..ends {
+        if says_offset(line, counts, place) {
+            return true;
+        }
+    }
+    false
 }
 
 /// Whether a line says another offset than the one given, after a date that is read from a place up to another, or inside
@@ -184,7 +174,6 @@ pub fn has_another_offset(line: &[u8], start: usize, ends: usize, given: UtcOffs
     requires ends { ends ≤ length line.now }
     ensures { result ≡ Beside.has_another_offset line.now start ends given }
 {
-    is_another(offset_after(after(line, ends)), given)
-        || has_signed_year(line, start, ends)
-        || (given.whole_seconds() != 0 && has_utc(line, start, ends))
+    matches!(offset_after(after(line, ends)), Some(said) if said != given.whole_seconds())
+        || has_offset(line, start, ends, given.whole_seconds() != 0)
 }

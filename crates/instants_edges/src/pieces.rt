@@ -28,7 +28,7 @@ pub fn trimmed_length(bytes: &[u8]) -> usize
 }
 
 /// The length of the word of letters at the start, with the space before it if there is one; 0 where no such word is.
-#[tactic(auto, using(crate::proofs::Zones::zone_direct))]
+#[tactic(auto, using(std::proofs::lemmas::List::take_rest, std::proofs::lemmas::Bool::Decides::nat_tests), unfolding(crate::specs::Pieces::zone_length))]
 pub fn zone_length(bytes: &[u8]) -> usize
     ensures value { result ≡ Pieces.zone_length bytes.now }
     ensures within { result ≤ length bytes.now }

@@ -84,12 +84,27 @@ fn is_year_before(line: &[u8], begins: usize, year: i32, far: usize) -> bool
         && is_edge(line, place)
 }
 
+// Whether one stands so far before a date, from five bytes on.
+#[tactic(auto, using(crate::proofs::Prefixes::passed, crate::proofs::Anywhere::any_more, crate::proofs::Anywhere::any_none))]
+fn has_year_before(line: &[u8], begins: usize, year: i32, to: usize) -> bool
+    requires { begins ≤ length line.now }
+    ensures { result ≡ Beside.is_any (Beside.is_year_before line.now begins year) 5 to }
+{
+    for far in 5..to {
+        if is_year_before(line, begins, year, far) {
+            return true;
+        }
+    }
+    false
+}
+
 /// Whether a line says another year beside a date that begins and ends at these places.
+#[tactic(auto, using(crate::proofs::Prefixes::passed), unfolding(crate::specs::Beside::has_another_year))]
 pub fn has_another_year(line: &[u8], begins: usize, ends: usize, year: i32) -> bool
     requires begins { begins ≤ length line.now }
     requires ends { ends ≤ length line.now }
     ensures { result ≡ Beside.has_another_year line.now begins ends year }
 {
     is_year_after(year, after(line, ends))
-        || (5..12.min(begins + 1)).any(|far| is_year_before(line, begins, year, far))
+        || has_year_before(line, begins, year, 12.min(begins + 1))
 }

@@ -1,139 +1,79 @@
 -- What is found is the longest date at the first place.
-use Rattle.std.proofs.Common.{◌≡◌, ◌<◌, ◌≤◌, ◌⊎◌, inl, inr, ℕ, zero, suc, true, false, List, [], ◌∷◌, length, min, Option, Some, None, refl, sym, subst, arith}
-use Rattle.std.specs.Prelude.{if◌then◌else◌}
+use Rattle.std.proofs.Common.{◌≡◌, ◌<◌, ◌≤◌, inl, inr, ℕ, zero, suc, true, false, List, length, min, Option, Some, None, refl, subst, arith}
+use Rattle.std.specs.Prelude.{option_map, if◌then◌else◌}
+use Rattle.std.specs.Option.{option_or}
 use Rattle.std.proofs.lemmas.Bool.{cases_lt}
 use Rattle.instants_edges.specs.Edge.{is_edge}
 use Rattle.instants_prefixes.specs.declared.given.Given.{Given}
 use Rattle.instants_sources.specs.Grammar.{Grammar}
-use Rattle.instants_found.specs.Candidate.{candidates, longest}
-use Rattle.instants_found.specs.Found.{at_place, found, found_in, looked_at, of_candidates, finding}
-use Rattle.instants_found.specs.IsFound.{IsReadAt, NoneBefore, IsLongest, IsFound}
+use Rattle.instants_found.specs.Candidate.{longest}
+use Rattle.instants_found.specs.Found.{at_place, first_found, found, found_in, looked_at, finding}
+use Rattle.instants_found.specs.IsFound.{IsReadAt, NoneBefore, IsNoShorter, IsFound}
 use Rattle.instants_found.specs.declared.candidate.Candidate.{Candidate}
 use Rattle.instants_found.specs.declared.found.Finding.{Finding}
-use Rattle.instants_found.specs.declared.found.Finding.TheVariants.{Doubtful, There}
-use Rattle.instants_found.proofs.Longest.{IsRead, IsBestOf, SomeRead, best_of, never_read, some_read}
-use Rattle.instants_found.proofs.NoDates.{NothingBefore, found_here, found_nothing}
-
--- ---- one place
+use Rattle.instants_found.proofs.Longest.{IsBestOf, best_of}
+use Rattle.instants_found.proofs.ReadAt.{lies_near}
 
 module _ (given : Given) (sources : List Grammar) (line : List ℕ) where
-  -- read at a place, or by one of all sources there
-  read_there : (place number : ℕ) (date : Candidate) → IsReadAt given sources line place number date → IsRead given line place 0 sources number date
-  read_there place number date read = record { far = number; grammar = read.grammar; is = omega arith; source = read.source; reads = read.reads }
+  -- ---- one place
 
-  there_read : (place number : ℕ) (date : Candidate) → place < length line → is_edge line place ≡ true → IsRead given line place 0 sources number date → IsReadAt given sources line place number date
-  there_read place number date within edge read =
-      let same : read.far ≡ number = omega (arith, read.is) in
-      record { grammar = read.grammar; source = rw same at read.source; within = within; edge = edge; reads = read.reads }
+  -- what is found at a place is the longest date that is read there, or none is
+  abbrev IsThere : ℕ → Option Finding → Type 0
+  IsThere place None = (number : ℕ) (date : Candidate) → IsReadAt given sources line place number date → ⊥
+  IsThere place (Some found) =
+      (date : Candidate) × (number : ℕ) × IsReadAt given sources line place number date × ((other : Candidate) (later : ℕ) → IsReadAt given sources line place later other → IsNoShorter number date later other) × (found ≡ finding place date)
 
-  nothing_there : (place : ℕ) (dates : List Candidate) → of_candidates place dates ≡ None → dates ≡ []
-  nothing_there place [] e = refl
-  nothing_there place (one ∷ others) e = absurd cc
+  few : (place number : ℕ) (date : Candidate) → IsReadAt given sources line place number date → number < length sources
+  few place number date read = (lies_near given sources line place number date read.reads).2
 
-  -- no source reads a date at a place where nothing is found
-  none_read : (place number : ℕ) (date : Candidate) → at_place given sources line place ≡ None → IsReadAt given sources line place number date → ⊥
+  by_best : (place : ℕ) → place < length line → is_edge line place ≡ true → (o : Option Candidate) → IsBestOf given sources line place (length sources) o → IsThere place (option_map (finding place) o)
+  by_best place within edge None none = λ number date read. none date number (few place number date read) read.reads
+  by_best place within edge (Some date) it = (date, it.number, record { within = within; edge = edge; reads = it.read }, λ other later read. it.best other later (few place later other read) read.reads, refl)
+
+  there : (place : ℕ) → place < length line → IsThere place (at_place given sources line place)
   unfolding at_place
-  none_read place number date none read =
-      never_read given line place 0 sources number date (read_there place number date read) (nothing_there place (candidates given line place 0 sources) (rw read.edge at none))
-
-  -- what is found at a place that is no place inside a word
-  pub edge_there : (place : ℕ) (date : Finding) → at_place given sources line place ≡ Some date → (is_edge line place ≡ true) × (of_candidates place (candidates given line place 0 sources) ≡ Some date)
-  unfolding at_place
-  edge_there place date e =
-      elim (is_edge line place) as (λ b. is_edge line place ≡ b → (if b then of_candidates place (candidates given line place 0 sources) else None) ≡ Some date → (is_edge line place ≡ true) × (of_candidates place (candidates given line place 0 sources) ≡ Some date)) [
-        | true ↦ λ t h. (t, h)
-        | false ↦ λ t h. absurd cc
-      ] refl e
-
-  pub something_there : (place : ℕ) (dates : List Candidate) (date : Finding) → of_candidates place dates ≡ Some date → (one : Candidate) × (others : List Candidate) × (dates ≡ one ∷ others) × (finding place (longest dates) ≡ date)
-  something_there place [] date e = absurd cc
-  something_there place (one ∷ others) date e = (one, others, refl, cc)
+  there place within =
+      elim (is_edge line place) as (λ b. is_edge line place ≡ b → IsThere place (if b then option_map (finding place) (longest given sources line place (length sources)) else None)) [
+        | true ↦ λ edge. by_best place within edge (longest given sources line place (length sources)) (best_of given sources line place (length sources))
+        | false ↦ λ edge number date read. let on = read.edge in absurd cc
+      ] refl
 
   -- ---- the first place
 
-  none_before : (place : ℕ) → place ≤ length line → NothingBefore given sources line place → NoneBefore given sources line place
-  none_before place within nothing = λ earlier number date lt read. none_read earlier number date (nothing earlier lt) read
+  module _ (limit : ℕ) where
+    -- so it is of the first so many places
+    abbrev IsSo : ℕ → Option Finding → Type 0
+    IsSo count None = NoneBefore given sources line count
+    IsSo count (Some found) = IsFound limit given sources line (Some found)
 
-  pub record IsFirstPlace (to : ℕ) : Type 0 where
-    pub place : ℕ
-    pub date : Finding
-    pub before : place < to
-    pub least : NothingBefore given sources line place
-    pub has : at_place given sources line place ≡ Some date
+    place_more : (n : ℕ) → n < limit → (o : Option Finding) → NoneBefore given sources line n → IsThere n o → IsSo (suc n) o
+    place_more n near None none here = λ earlier number date lt read.
+        elim (cases_lt earlier n) [
+          | inl low ↦ none earlier number date low read
+          | inr high ↦
+              let same : earlier ≡ n = omega (arith, lt, high) in
+              let P : ℕ → Type 0 = λ place. IsReadAt given sources line place number date in
+              here number date (subst P same read)
+        ]
+    place_more n near (Some found) none (date, number, here, best, is) = (n, date, record { number = number; near = near; here = here; least = none; longest = best }, is)
 
-  pub first_or_none : (to : ℕ) → NothingBefore given sources line to ⊎ IsFirstPlace to
-  first_or_none zero = inl (λ place lt. absurd (omega (arith, lt)))
-  first_or_none (suc n) =
-      elim (first_or_none n) [
-        | inl none ↦
-            elim (at_place given sources line n) as (λ o. at_place given sources line n ≡ o → NothingBefore given sources line (suc n) ⊎ IsFirstPlace (suc n)) [
-              | None ↦ λ e.
-                  inl (λ place lt.
-                  elim (cases_lt place n) [
-                    | inl low ↦ none place low
-                    | inr high ↦
-                        let same : n ≡ place = omega (arith, lt, high) in
-                        let P : ℕ → Type 0 = λ k. at_place given sources line k ≡ None in
-                        subst P same e
-                  ])
-              | Some date ↦ λ e. inr (record { place = n; date = date; before = omega arith; least = none; has = e })
-            ] refl
-        | inr it ↦ inr (record { place = it.place; date = it.date; before = omega (arith, it.before); least = it.least; has = it.has })
-      ]
+    either : (n : ℕ) → n < limit → (o here : Option Finding) → IsSo n o → IsThere n here → IsSo (suc n) (option_or o here)
+    either n near None here none it = place_more n near here none it
+    either n near (Some found) here is it = is
 
-  -- what is found there is the longest, or in doubt
-  of_place : (limit place : ℕ) (date : Finding) → place < limit → place < length line → is_edge line place ≡ true → NoneBefore given sources line place → SomeRead given line place 0 sources
-      → (o : Option Candidate) → IsBestOf given line place 0 sources o → finding place o ≡ date → IsFound limit given sources line (Some date)
-  of_place limit place date near within edge least some None best is =
-      let doubt : Doubtful place ≡ date = is in
-      let P : Finding → Type 0 = λ f. IsFound limit given sources line (Some f) in
-      subst P doubt (record {
-        number = some.number;
-        date = some.date;
-        near = near;
-        here = there_read place some.number some.date within edge some.here;
-        least = least;
-        none = λ other later read whole. best other later (read_there place later other read) whole;
-      })
-  of_place limit place date near within edge least some (Some one) best is =
-      let there : There one.date ≡ date = is in
-      let P : Finding → Type 0 = λ f. IsFound limit given sources line (Some f) in
-      let long : IsLongest limit given sources line one = record {
-        place = place;
-        number = best.number;
-        near = near;
-        here = there_read place best.number one within edge best.here;
-        least = least;
-        whole = best.whole;
-        longest = λ other later read whole. best.longest other later (read_there place later other read) whole;
-      } in
-      subst P there (one, long, refl)
+    so_far : (n : ℕ) → n ≤ min limit (length line) → IsSo n (first_found given sources line n)
+    unfolding first_found
+    so_far zero le = λ earlier number date lt read. absurd (omega (arith, lt))
+    so_far (suc n) le = either n (omega (arith, le)) (first_found given sources line n) (at_place given sources line n) (so_far n (omega (arith, le))) (there n (omega (arith, le)))
 
-  at_first : (limit : ℕ) → IsFirstPlace (min limit (length line)) → IsFound limit given sources line (found_in limit given sources line)
-  at_first limit it =
-      let there = found_here limit given sources line it.place it.date it.before it.least (sym it.has) in
-      let edge = edge_there it.place it.date it.has in
-      let (one, others, are, is) = something_there it.place (candidates given line it.place 0 sources) it.date edge.1 in
-      let P : Option Finding → Type 0 = λ f. IsFound limit given sources line f in
-      subst P there (of_place limit it.place it.date (omega (arith, it.before)) (omega (arith, it.before)) edge.0 (none_before it.place (omega (arith, it.before)) it.least)
-      (some_read given line it.place 0 sources one others are) (longest (candidates given line it.place 0 sources)) (best_of given line it.place 0 sources) is)
+    whole_line : (o : Option Finding) → IsSo (min limit (length line)) o → IsFound limit given sources line o
+    whole_line None none = λ earlier number date lt read. let within = read.within in none earlier number date (omega (arith, lt, within)) read
+    whole_line (Some found) is = is
 
-  nowhere : (limit : ℕ) → NothingBefore given sources line (min limit (length line)) → IsFound limit given sources line (found_in limit given sources line)
-  nowhere limit nothing =
-      let none = found_nothing limit given sources line nothing in
-      let P : Option Finding → Type 0 = λ f. IsFound limit given sources line f in
-      let before : NoneBefore given sources line limit = λ earlier number date lt read.
-      none_read earlier number date (nothing earlier (omega (arith, lt, read.within))) read in
-      subst P (sym none) before
-
-  pub is_found : (limit : ℕ) → IsFound limit given sources line (found_in limit given sources line)
-  is_found limit =
-      elim (first_or_none (min limit (length line))) [
-        | inl nothing ↦ nowhere limit nothing
-        | inr it ↦ at_first limit it
-      ]
+    pub is_found : IsFound limit given sources line (found_in limit given sources line)
+    is_found = whole_line (found_in limit given sources line) (so_far (min limit (length line)) (omega arith))
 
 -- of the bytes that are looked at
-pub first_found : (limit : ℕ) (given : Given) (sources : List Grammar) (line : List ℕ) → IsFound limit given sources (looked_at limit line) (found limit given sources line)
+pub first_found_is : (limit : ℕ) (given : Given) (sources : List Grammar) (line : List ℕ) → IsFound limit given sources (looked_at limit line) (found limit given sources line)
 unfolding found
-first_found limit given sources line = is_found given sources (looked_at limit line) limit
+first_found_is limit given sources line = is_found given sources (looked_at limit line) limit

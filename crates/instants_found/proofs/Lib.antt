@@ -1,13 +1,12 @@
 pub mod Needless
-pub mod Steps
 pub mod ReadAt
+pub mod Longest
 pub mod LaneLemmas
 pub mod NoStart
 pub mod NoDates
 pub mod Next
 pub mod SourceKeys
 pub mod KeyLemmas
-pub mod Longest
 pub mod FirstFound
 pub mod DoubtOf
 pub mod NearFound

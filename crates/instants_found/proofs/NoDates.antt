@@ -1,40 +1,39 @@
 -- Places at which no date begins.
-use Rattle.std.proofs.Common.{◌≡◌, ◌<◌, ◌≤◌, ◌+◌, ℕ, zero, suc, Bool, true, false, List, [], ◌∷◌, length, min, get_or, drop, take, Option, Some, None, refl, sym, ◌∙◌, ap, subst, inl, inr, arith}
-use Rattle.std.specs.Prelude.{All, if◌then◌else◌}
+use Rattle.std.proofs.Common.{◌≡◌, ◌<◌, ◌≤◌, ◌+◌, ℕ, zero, suc, Bool, true, false, List, [], ◌∷◌, length, get_or, drop, Option, Some, None, refl, sym, ◌∙◌, ap, subst, inl, inr, arith}
+use Rattle.std.specs.Prelude.{All, option_map, if◌then◌else◌}
+use Rattle.std.specs.Option.{option_or}
 use Rattle.std.proofs.lemmas.Bool.{cases_lt}
-use Rattle.std.proofs.lemmas.List.{get_or-drop, length-take}
-use Rattle.std.proofs.lemmas.List.Elements.{All-head, All-tail, All-weaker}
+use Rattle.std.proofs.lemmas.List.{get_or-drop}
+use Rattle.std.proofs.lemmas.List.Elements.{All-weaker}
+use Rattle.std.proofs.lemmas.Option.{slice_get_cases}
 use Rattle.instants_edges.specs.Edge.{is_edge}
-use Rattle.instants_prefixes.specs.Prefix.{prefix_at}
 use Rattle.instants_prefixes.specs.declared.given.Given.{Given}
 use Rattle.instants_prefixes.specs.NoPrefix.{HasNoPrefix}
 use Rattle.instants_sources.specs.Grammar.{Grammar}
-use Rattle.instants_found.specs.Candidate.{candidate, candidates}
-use Rattle.instants_found.specs.Found.{at_place, found_in}
-use Rattle.instants_found.specs.Starts.{CannotStand, AreMarked, IsNoDate, HasNoDate}
+use Rattle.instants_found.specs.Candidate.{longest}
+use Rattle.instants_found.specs.Found.{at_place, finding, first_found}
+use Rattle.instants_found.specs.Starts.{CannotStand, AreMarked, HaveNoPrefix, IsNoDate, HasNoDate}
 use Rattle.instants_found.specs.declared.found.Finding.{Finding}
-use Rattle.instants_found.proofs.Steps.{GiveFromPlace, place_has, place_has_none, places_end}
+use Rattle.instants_found.proofs.Longest.{none_after}
 
 -- ---- one place
-
-pub no_candidate : (given : Given) (line : List ℕ) (start number : ℕ) (grammar : Grammar) → HasNoPrefix (drop start line) grammar → candidate given line start number grammar ≡ None
-unfolding candidate prefix_at
-no_candidate given line start number grammar none = rw (none given) refl
-
-pub no_candidates : (given : Given) (line : List ℕ) (start number : ℕ) (sources : List Grammar) → All (HasNoPrefix (drop start line)) sources → candidates given line start number sources ≡ []
-unfolding candidates
-no_candidates given line start number [] none = refl
-no_candidates given line start number (grammar ∷ others) none =
-    rw (no_candidate given line start number grammar (All-head (HasNoPrefix (drop start line)) grammar others none)) (no_candidates given line start (number + 1) others (All-tail (HasNoPrefix (drop start line)) grammar others none))
 
 if_edge : {A : Type 0} (b : Bool) (x : Option A) → x ≡ None → (if b then x else None) ≡ None
 if_edge true x h = h
 if_edge false x h = refl
 
 -- no source reads a prefix there
+pub none_there : (sources : List Grammar) (line : List ℕ) (start : ℕ) → HaveNoPrefix (drop start line) sources 0 → IsNoDate sources line start
+unfolding at_place longest
+none_there sources line start none = λ given. if_edge (is_edge line start) _ (ap (option_map (finding start)) (none_after given line start sources 0 (length sources) (omega arith) none))
+
 pub no_prefix_there : (sources : List Grammar) (line : List ℕ) (start : ℕ) → All (HasNoPrefix (drop start line)) sources → IsNoDate sources line start
-unfolding at_place
-no_prefix_there sources line start none = λ given. if_edge (is_edge line start) _ (rw (no_candidates given line start 0 sources none) refl)
+no_prefix_there sources line start none =
+    none_there sources line start (λ number le.
+    elim (slice_get_cases sources number).1 [
+      | inl (grammar, lt, is, there) ↦ rw is (let P : Grammar → Type 0 = HasNoPrefix (drop start line) in subst P there (none number grammar lt))
+      | inr (past, is) ↦ rw is tt
+    ])
 
 -- no source reads a date that begins with the byte there
 pub none_starts : (sources : List Grammar) (starts : List Bool) (line : List ℕ) (start : ℕ) → AreMarked 0 sources starts → get_or starts (get_or line start 0) true ≡ false → IsNoDate sources line start
@@ -55,49 +54,46 @@ none_more sources line from mid to first second = λ place low high. elim (cases
 pub none_here : (sources : List Grammar) (line : List ℕ) (from : ℕ) → IsNoDate sources line from → HasNoDate sources line from (from + 1)
 none_here sources line from none = λ place low high. let same : from ≡ place = omega (arith, low, high) in let P : ℕ → Type 0 = λ n. IsNoDate sources line n in subst P same none
 
--- nothing is found at the places before this one, with what is given
-abbrev pub NothingBefore : Given → List Grammar → List ℕ → ℕ → Type 0
-NothingBefore given sources line to = (place : ℕ) → place < to → at_place given sources line place ≡ None
+-- ---- the first place at which something is found
 
--- .. so that the places from it on give what all give
-nothing_gives : (given : Given) (sources : List Grammar) (line bytes : List ℕ) (to : ℕ) → to ≤ length bytes → NothingBefore given sources line to → GiveFromPlace given sources line bytes to
-nothing_gives given sources line bytes zero within none = refl
-nothing_gives given sources line bytes (suc n) within none =
-    let before = nothing_gives given sources line bytes n (omega (arith, within)) (λ place lt. none place (omega (arith, lt))) in
-    let here : None ≡ at_place given sources line n = sym (none n (omega arith)) in
-    let next = place_has_none given sources line bytes n (omega (arith, within)) before here in
-    let same : n + 1 ≡ suc n = omega arith in
-    let P : ℕ → Type 0 = λ k. GiveFromPlace given sources line bytes k in
-    subst P same next
+module _ (given : Given) (sources : List Grammar) (line : List ℕ) where
+  abbrev pub NoneUpTo : ℕ → Type 0
+  NoneUpTo place = first_found given sources line place ≡ None
 
--- what is found at the first place at which something is is found in the line
-pub found_here : (limit : ℕ) (given : Given) (sources : List Grammar) (line : List ℕ) (place : ℕ) (date : Finding) → place < min limit (length line) → NothingBefore given sources line place
-    → Some date ≡ at_place given sources line place → Some date ≡ found_in limit given sources line
-found_here limit given sources line place date within none here =
-    let long = length-take limit line in
-    place_has given sources line (take limit line) place date (omega (arith, within, long)) (nothing_gives given sources line (take limit line) place (omega (arith, within, long)) none) here
+  pub none_next : (place : ℕ) → NoneUpTo place → None ≡ at_place given sources line place → NoneUpTo (place + 1)
+  unfolding first_found
+  none_next place none here = let next : place + 1 ≡ suc place = omega arith in rw (next, none) (sym here)
 
--- and where nothing is nothing is found in the line
-pub found_nothing : (limit : ℕ) (given : Given) (sources : List Grammar) (line : List ℕ) → NothingBefore given sources line (min limit (length line)) → found_in limit given sources line ≡ None
-found_nothing limit given sources line none =
-    let long = length-take limit line in
-    let end = min limit (length line) in
-    sym (places_end given sources line (take limit line) end (omega (arith, long)) (nothing_gives given sources line (take limit line) end (omega (arith, long)) none))
+  pub none_further : (from to : ℕ) → from ≤ to → NoneUpTo from → HasNoDate sources line from to → NoneUpTo to
+  unfolding first_found
+  none_further from zero le none after = refl
+  none_further from (suc n) le none after =
+      elim (cases_lt n from) [
+        | inl lt ↦ let same : from ≡ suc n = omega (arith, lt, le) in subst NoneUpTo same none
+        | inr ge ↦ rw (none_further from n ge none (λ place low high. after place low (omega (arith, high)))) (after n ge (omega arith) given)
+      ]
 
--- nothing before a place, there, and from the next one on
-pub nothing_more : (given : Given) (sources : List Grammar) (line : List ℕ) (place to : ℕ) → NothingBefore given sources line place → None ≡ at_place given sources line place → HasNoDate sources line (place + 1) to → NothingBefore given sources line to
-nothing_more given sources line place to before here after = λ other lt.
-    elim (cases_lt other place) [
-      | inl low ↦ before other low
-      | inr high ↦
-          elim (cases_lt place other) [
-            | inl later ↦ after other (omega (arith, later)) lt given
-            | inr le ↦
-                let same : place ≡ other = omega (arith, high, le) in
-                let P : ℕ → Type 0 = λ k. at_place given sources line k ≡ None in
-                subst P same (sym here)
-          ]
-    ]
+  none_first : (first other : Option Finding) → option_or first other ≡ None → first ≡ None
+  none_first None other none = refl
+  none_first (Some date) other none = absurd cc
+
+  pub none_earlier : (from to : ℕ) → from ≤ to → NoneUpTo to → NoneUpTo from
+  unfolding first_found
+  none_earlier from zero le none = let same : 0 ≡ from = omega (arith, le) in subst NoneUpTo same refl
+  none_earlier from (suc n) le none =
+      elim (cases_lt n from) [
+        | inl lt ↦ let same : suc n ≡ from = omega (arith, lt, le) in subst NoneUpTo same none
+        | inr ge ↦ none_earlier from n ge (none_first (first_found given sources line n) (at_place given sources line n) none)
+      ]
+
+  pub found_here : (place to : ℕ) (date : Finding) → place < to → NoneUpTo place → Some date ≡ at_place given sources line place → Some date ≡ first_found given sources line to
+  unfolding first_found
+  found_here place zero date lt none here = absurd (omega (arith, lt))
+  found_here place (suc n) date lt none here =
+      elim (cases_lt place n) [
+        | inl low ↦ rw (sym (found_here place n date low none here)) refl
+        | inr high ↦ let same : place ≡ n = omega (arith, lt, high) in rw (← same, none) here
+      ]
 
 -- within a table it is no matter what stands after it
 pub either_default : (xs : List Bool) (i : ℕ) → i < length xs → get_or xs i true ≡ get_or xs i false

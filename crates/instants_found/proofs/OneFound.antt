@@ -1,15 +1,16 @@
 -- No two things are found in a line.
-use Rattle.std.proofs.Common.{◌≡◌, ◌<◌, ◌≤◌, ◌⊎◌, ℕ, List, Option, Some, None, refl, sym, ap, subst, ◌∙◌, inl, inr, arith}
-use Rattle.std.proofs.lemmas.Bool.{cases_lt}
+use Rattle.std.proofs.Common.{◌≡◌, ◌<◌, ◌≤◌, ◌⊎◌, ℕ, Bool, true, false, List, Option, Some, None, refl, sym, ap, subst, ◌∙◌, inl, inr, arith}
+use Rattle.std.specs.Prelude.{if◌then◌else◌}
+use Rattle.std.proofs.lemmas.Bool.{cases_lt, false≢true}
 use Rattle.instants_prefixes.specs.declared.given.Given.{Given}
 use Rattle.instants_sources.specs.Grammar.{Grammar}
-use Rattle.instants_found.specs.Found.{found, looked_at}
-use Rattle.instants_found.specs.IsFound.{IsReadAt, NoneBefore, IsLongest, IsDoubtful, IsFound}
+use Rattle.instants_found.specs.Candidate.{is_whole}
+use Rattle.instants_found.specs.Found.{found, looked_at, finding}
+use Rattle.instants_found.specs.IsFound.{IsReadAt, IsLongest, IsFound}
 use Rattle.instants_found.specs.declared.candidate.Candidate.{Candidate}
 use Rattle.instants_found.specs.declared.found.Finding.{Finding}
 use Rattle.instants_found.specs.declared.found.Finding.TheVariants.{Doubtful, There}
-use Rattle.instants_found.specs.declared.found.Found.{Found}
-use Rattle.instants_found.proofs.FirstFound.{first_found}
+use Rattle.instants_found.proofs.FirstFound.{first_found_is}
 
 -- of two dates neither is longer than the other
 same_number : (one other number later : ℕ) → (other < one) ⊎ ((other ≡ one) × (number ≤ later)) → (one < other) ⊎ ((one ≡ other) × (later ≤ number)) → number ≡ later
@@ -20,45 +21,35 @@ same_number one other number later (inr (same, le)) (inr (same_too, ge)) = omega
 
 module _ (limit : ℕ) (given : Given) (sources : List Grammar) (line : List ℕ) where
   -- there is one least place
-  same_place : (one other number another : ℕ) (date dated : Candidate) → IsReadAt given sources line one number date → NoneBefore given sources line one → IsReadAt given sources line other another dated → NoneBefore given sources line other → one ≡ other
-  same_place one other number another date dated here least there least_there =
+  same_place : (one other : ℕ) (date dated : Candidate) → IsLongest limit given sources line one date → IsLongest limit given sources line other dated → one ≡ other
+  same_place one other date dated here there =
       elim (cases_lt one other) [
-        | inl lt ↦ absurd (least_there one number date lt here)
-        | inr le ↦ elim (cases_lt other one) [ inl lt ↦ absurd (least other another dated lt there) | inr ge ↦ omega (arith, le, ge) ]
+        | inl lt ↦ absurd (there.least one here.number date lt here.here)
+        | inr le ↦ elim (cases_lt other one) [ inl lt ↦ absurd (here.least other there.number dated lt there.here) | inr ge ↦ omega (arith, le, ge) ]
       ]
 
-  moved : (one other number : ℕ) (date : Candidate) → other ≡ one → IsReadAt given sources line other number date → IsReadAt given sources line one number date
-  moved one other number date same read = let P : ℕ → Type 0 = λ place. IsReadAt given sources line place number date in subst P same read
-
   same_date : (place one other : ℕ) (date dated : Candidate) → one ≡ other → IsReadAt given sources line place one date → IsReadAt given sources line place other dated → date ≡ dated
-  same_date place one other date dated same here there = cc (same, here.source, here.reads, there.source, there.reads)
+  same_date place one other date dated same here there = cc (same, here.reads, there.reads)
 
-  one_longest : (date dated : Candidate) → IsLongest limit given sources line date → IsLongest limit given sources line dated → date ≡ dated
-  one_longest date dated one other =
-      let place = same_place one.place other.place one.number other.number date dated one.here one.least other.here other.least in
-      let there = moved one.place other.place other.number dated (sym place) other.here in
-      let here = moved other.place one.place one.number date place one.here in
-      let number = same_number date.reach dated.reach one.number other.number (one.longest dated other.number there other.whole) (other.longest date one.number here one.whole) in
-      same_date one.place one.number other.number date dated number one.here there
-
-  no_doubt : (date : Candidate) (place : ℕ) → IsLongest limit given sources line date → IsDoubtful limit given sources line place → ⊥
-  no_doubt date place long doubt =
-      let same = same_place long.place place long.number doubt.number date doubt.date long.here long.least doubt.here doubt.least in
-      doubt.none date long.number (moved place long.place long.number date same long.here) long.whole
+  -- and one date there, if one stands whole
+  one_date : (place : ℕ) (date dated : Candidate) (a b : Bool) → is_whole date ≡ a → is_whole dated ≡ b → IsLongest limit given sources line place date → IsLongest limit given sources line place dated
+      → (if a then There date.date else Doubtful place) ≡ (if b then There dated.date else Doubtful place)
+  one_date place date dated true true whole standing here there =
+      let (_, one) = here.longest dated there.number there.here standing in
+      let (_, other) = there.longest date here.number here.here whole in
+      ap (λ (c : Candidate). There c.date) (same_date place here.number there.number date dated (same_number date.reach dated.reach here.number there.number one other) here.here there.here)
+  one_date place date dated true false whole standing here there = let (is, _) = there.longest date here.number here.here whole in absurd (false≢true (sym standing ∙ is))
+  one_date place date dated false true whole standing here there = let (is, _) = here.longest dated there.number there.here standing in absurd (false≢true (sym whole ∙ is))
+  one_date place date dated false false whole standing here there = refl
 
   only_one : (one other : Option Finding) → IsFound limit given sources line one → IsFound limit given sources line other → one ≡ other
   only_one None None none none_there = refl
-  only_one None (Some (Doubtful place)) none doubt = absurd (none place doubt.number doubt.date doubt.near doubt.here)
-  only_one None (Some (There date)) none (candidate, long, is) = absurd (none long.place long.number candidate long.near long.here)
-  only_one (Some (Doubtful place)) None doubt none = absurd (none place doubt.number doubt.date doubt.near doubt.here)
-  only_one (Some (Doubtful place)) (Some (Doubtful other)) doubt there =
-      ap (λ (n : ℕ). Some (Doubtful n)) (same_place place other doubt.number there.number doubt.date there.date doubt.here doubt.least there.here there.least)
-  only_one (Some (Doubtful place)) (Some (There date)) doubt (candidate, long, is) = absurd (no_doubt candidate place long doubt)
-  only_one (Some (There date)) None (candidate, long, is) none = absurd (none long.place long.number candidate long.near long.here)
-  only_one (Some (There date)) (Some (Doubtful place)) (candidate, long, is) doubt = absurd (no_doubt candidate place long doubt)
-  only_one (Some (There date)) (Some (There dated)) (candidate, long, is) (other, long_there, is_there) =
-      let same : date ≡ dated = sym is ∙ ap (λ (c : Candidate). c.date) (one_longest candidate other long long_there) ∙ is_there in
-      ap (λ (d : Found). Some (There d)) same
+  only_one None (Some found) none (place, date, long, is) = absurd (none place long.number date long.near long.here)
+  only_one (Some found) None (place, date, long, is) none = absurd (none place long.number date long.near long.here)
+  only_one (Some one) (Some other) (place, date, here, is) (at, dated, there, is_there) =
+      let same = same_place at place dated date there here in
+      let P : ℕ → Type 0 = λ n. IsLongest limit given sources line n dated in
+      ap (λ (f : Finding). Some f) (is ∙ one_date place date dated (is_whole date) (is_whole dated) refl refl here (subst P same there) ∙ ap (λ n. finding n dated) (sym same) ∙ sym is_there)
 
 pub only_found : (limit : ℕ) (given : Given) (sources : List Grammar) (line : List ℕ) (finding : Option Finding) → IsFound limit given sources (looked_at limit line) finding → finding ≡ found limit given sources line
-only_found limit given sources line finding is = only_one limit given sources (looked_at limit line) finding (found limit given sources line) is (first_found limit given sources line)
+only_found limit given sources line finding is = only_one limit given sources (looked_at limit line) finding (found limit given sources line) is (first_found_is limit given sources line)

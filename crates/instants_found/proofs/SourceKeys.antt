@@ -1,8 +1,8 @@
 -- What sources need, by their first bytes.
-use Rattle.std.proofs.Common.{◌≡◌, ◌∙◌, ℕ, true, List, take, get_or, Option, Some, None, refl, subst, arith}
+use Rattle.std.proofs.Common.{◌≡◌, ◌∙◌, ℕ, true, List, take, Option, Some, None, refl, subst, arith}
 use Rattle.std.specs.Prelude.{IfSome}
 use Rattle.std.specs.Option.{ForSome}
-use Rattle.std.proofs.lemmas.List.{get_or-take, get_or_past}
+use Rattle.std.proofs.lemmas.List.{get_or-take}
 use Rattle.base.specs.Bytes.{hyphen}
 use Rattle.parsing_item_layouts.specs.FirstBytes.{AreOf, rule_out}
 use Rattle.parsing_item_layouts.specs.declared.first_bytes.FirstBytes.{FirstBytes}
@@ -11,7 +11,7 @@ use Rattle.instants_prefixes.specs.Reading.{window, text_for}
 use Rattle.instants_sources.specs.Grammar.{Described, Rfc3339, Written}
 use Rattle.instants_sources.specs.Written.{reads_written}
 use Rattle.instants_found.specs.Starts.{CannotStand}
-use Rattle.instants_found.specs.Keys.{IsKeyOf, IsRuledOutAt, RuleOutShort, NeedsKey, NeedsFour}
+use Rattle.instants_found.specs.Keys.{IsKeyOf, IsRuledOutAt, NeedsKey}
 use Rattle.instants_found.specs.declared.key.Key.{Key}
 use Rattle.instants_prefixes.proofs.RuledOut.{described_due, hyphen_due}
 
@@ -39,9 +39,6 @@ module _ (written : Written) (f : FirstBytes) (are : AreOf (reads_written writte
   pub described_key : (key : Key) → IsKeyOf f key → NeedsKey key (Described written)
   described_key key is = λ bytes few none. ruled_out bytes (is bytes few none)
 
-  pub described_four : RuleOutShort f → NeedsFour (Described written)
-  described_four is = λ bytes short. ruled_out bytes (is bytes short)
-
   pub described_fourth : (byte : ℕ) → IsRuledOutAt f 3 byte → CannotStand 3 byte (Described written)
   described_fourth byte is = λ bytes there. ruled_out bytes (is bytes there)
 
@@ -49,6 +46,3 @@ module _ (written : Written) (f : FirstBytes) (are : AreOf (reads_written writte
 
 pub year_key : NeedsKey (record { place = 4; byte = hyphen }) Rfc3339
 year_key = λ bytes few none. hyphen_due bytes none
-
-pub year_four : NeedsFour Rfc3339
-year_four = λ bytes short. let past : get_or bytes 4 0 ≡ 0 = get_or_past bytes 4 0 (omega (arith, short)) in hyphen_due bytes (rw past refl)

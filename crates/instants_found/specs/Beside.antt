@@ -10,6 +10,7 @@ use Rattle.instants_prefixes.specs.declared.given.Given.{Given}
 use Rattle.instants_prefixes.specs.Lacks.{is_known}
 use Rattle.instants_prefixes.specs.Reading.{record_at}
 use Rattle.instants_prefixes.specs.declared.prefix.Prefix.{Prefix}
+use Rattle.instants_found.specs.declared.beside.Said.{Said}
 use Rattle.instants_found.specs.declared.doubt.Doubt.{Doubt}
 use Rattle.instants_found.specs.declared.doubt.Doubt.TheVariants.{After, ClockBefore, AnotherOffset, AnotherTime, AnotherYear}
 
@@ -20,44 +21,35 @@ is_read grammar line start prefix =
 
 -- ---- what is given, and said otherwise
 
+-- a year was given, and the line says another one beside a date
+abbrev pub says_year : Given → List ℕ → ℕ → Prefix → Bool
+says_year given line start prefix = is_known given.years && has_another_year line (start + prefix.begins) (start + prefix.ends) (year_of prefix.moment)
+
+-- where an offset was given the line says another one after a date, or inside of it; it says a half of the day after it; where a time of day was given it says a clock beside it; and another year
+abbrev pub said : Given → List ℕ → ℕ → Prefix → Said
+said given line start prefix = record {
+  offset = is_some given.offset && has_another_offset line start (start + prefix.ends) (unwrap_or given.offset (pos 0));
+  half = is_some given.offset && has_half_after line (start + prefix.ends);
+  clock = is_some given.time && has_clock_beside line (start + prefix.begins) (start + prefix.ends);
+  year = says_year given line start prefix;
+}
+
 -- no year was read, and no two digits of one
 abbrev pub says_no_year : Record → Bool
 says_no_year read = lacks_year read && is_none read.year_last_two && is_none read.iso_year_last_two
 
--- an offset was given to what was read, a time of day, a year
-abbrev pub needs_offset : Given → Record → Bool
-needs_offset given read = is_some given.offset && lacks_offset read
-
-abbrev pub needs_time : Given → Record → Bool
-needs_time given read = is_some given.time && lacks_time read
-
-abbrev pub needs_year : Given → Record → Bool
-needs_year given read = is_known given.years && says_no_year read
-
--- the line says another offset after the date than the one that was given to it
-abbrev pub says_another_offset : Given → Record → List ℕ → ℕ → Prefix → Bool
-says_another_offset given read line start prefix =
-    needs_offset given read && has_another_offset line start (start + prefix.ends) (unwrap_or given.offset (pos 0))
-
--- it says a half of the day after a date without one and without an offset, or a clock beside one whose time of day was given
-abbrev pub says_another_time : Given → Record → List ℕ → ℕ → Prefix → Bool
-says_another_time given read line start prefix =
-    ((needs_offset given read && is_none read.hour_12_is_pm) && has_half_after line (start + prefix.ends)) ||
-    (needs_time given read && has_clock_beside line (start + prefix.begins) (start + prefix.ends))
-
--- it says another year beside the date than the one that was given to it
-abbrev pub says_another_year : Given → Record → List ℕ → ℕ → Prefix → Bool
-says_another_year given read line start prefix =
-    needs_year given read && has_another_year line (start + prefix.begins) (start + prefix.ends) (year_of prefix.moment)
-
--- what the line says otherwise beside a date than what was given for it, the first of these; a number of Unix time needs nothing
-unfoldable pub otherwise : Given → Record → List ℕ → ℕ → Prefix → Option Doubt
-otherwise given read line start prefix =
+-- the doubt that this makes of what was read, the first of these: it lacks an offset, and a half of the day or a time of day, and a year; a number of Unix time needs nothing
+abbrev pub doubt_by : Record → Said → Option Doubt
+doubt_by read said =
     if is_some read.unix_timestamp_nanos then None
-    else if says_another_offset given read line start prefix then Some AnotherOffset
-    else if says_another_time given read line start prefix then Some AnotherTime
-    else if says_another_year given read line start prefix then Some AnotherYear
+    else if lacks_offset read && said.offset then Some AnotherOffset
+    else if ((lacks_offset read && is_none read.hour_12_is_pm) && said.half) || (lacks_time read && said.clock) then Some AnotherTime
+    else if says_no_year read && said.year then Some AnotherYear
     else None
+
+-- what the line says otherwise beside a date than what was given for it
+unfoldable pub otherwise : Given → Record → List ℕ → ℕ → Prefix → Option Doubt
+otherwise given read line start prefix = doubt_by read (said given line start prefix)
 
 -- why a date does not stand whole, the first of these: a word or a clock goes on after it, a clock stands before it and text of its description did not choose the place, or the line says otherwise beside it
 unfoldable pub why : Given → Grammar → List ℕ → ℕ → Prefix → Option Doubt

@@ -1,5 +1,5 @@
 -- The dates that sources read at one place of a line.
-use Rattle.std.specs.Prelude.{◌≡◌, ℕ, ◌+◌, ◌&&◌, not, nat_lt, Bool, true, List, [], ◌∷◌, drop, Option, None, Some, if◌then◌else◌}
+use Rattle.std.specs.Prelude.{ℕ, zero, suc, ◌+◌, ◌&&◌, not, nat_le, Bool, List, drop, slice_get, Option, None, Some, option_and_then, if◌then◌else◌}
 use Rattle.std.specs.Option.{is_none}
 use Rattle.instants_sources.specs.Grammar.{Grammar}
 use Rattle.instants_edges.specs.Pieces.{reach}
@@ -36,29 +36,17 @@ of_prefix given line start number grammar (Some prefix) =
 unfoldable pub candidate : Given → List ℕ → ℕ → ℕ → Grammar → Option Candidate
 candidate given line start number grammar = of_prefix given line start number grammar (prefix_at given grammar (drop start line))
 
--- the date that the source of this number reads at this place, where it stands whole
-pub record IsWholeDate (given : Given) (line : List ℕ) (start number : ℕ) (grammar : Grammar) (date : Found) : Type 0 where
-  pub one : Candidate
-  pub read : Some one ≡ candidate given line start number grammar
-  pub whole : is_whole one ≡ true
-  pub is : date ≡ one.date
+-- the date that the source of this number reads at this place, if there is such a source
+abbrev pub read_by : Given → List Grammar → List ℕ → ℕ → ℕ → Option Candidate
+read_by given sources line start number = option_and_then (candidate given line start number) (slice_get sources number)
 
--- with a date more, where there is one
-abbrev pub joined : Option Candidate → List Candidate → List Candidate
-joined None others = others
-joined (Some date) others = date ∷ others
+-- of the longest date so far, if there is one, and a date after it, if one is read: one that stands whole takes the place of one that does not, or reaches less far
+abbrev pub longer : Option Candidate → Option Candidate → Option Candidate
+longer best None = best
+longer None (Some one) = Some one
+longer (Some best) (Some one) = if is_whole one && not (is_whole best && nat_le one.reach best.reach) then Some one else Some best
 
--- what all sources read there; they are numbered from here on
-unfoldable pub candidates : Given → List ℕ → ℕ → ℕ → List Grammar → List Candidate
-candidates given line start number [] = []
-candidates given line start number (grammar ∷ others) = joined (candidate given line start number grammar) (candidates given line start (number + 1) others)
-
--- of a date and another that stands whole the one that stands whole and reaches further, and of equals the first
-abbrev pub longer : Candidate → Option Candidate → Option Candidate
-longer one None = if is_whole one then Some one else None
-longer one (Some other) = if is_whole one && not (nat_lt one.reach other.reach) then Some one else Some other
-
--- the longest that stands whole
-unfoldable pub longest : List Candidate → Option Candidate
-longest [] = None
-longest (one ∷ others) = longer one (longest others)
+-- the longest of the dates that so many sources read there, the first ones, taken one after another
+unfoldable pub longest : Given → List Grammar → List ℕ → ℕ → ℕ → Option Candidate
+longest given sources line start zero = None
+longest given sources line start (suc number) = longer (longest given sources line start number) (read_by given sources line start number)

@@ -1,5 +1,5 @@
 -- Bytes that stand at one place of each date of a source.
-use Rattle.std.specs.Prelude.{◌≡◌, ◌<◌, ◌+◌, ◌==◌, ℕ, Bool, true, false, List, All, length, drop, get_or}
+use Rattle.std.specs.Prelude.{◌≡◌, ◌<◌, ◌+◌, ◌==◌, ℕ, Bool, true, false, List, All, drop, get_or}
 use Rattle.parsing_item_layouts.specs.FirstBytes.{rule_out}
 use Rattle.parsing_item_layouts.specs.declared.first_bytes.FirstBytes.{FirstBytes}
 use Rattle.instants_sources.specs.Grammar.{Grammar}
@@ -30,24 +30,15 @@ IsRuledOutAt first_bytes place byte = (line : List ℕ) → get_or line place 0 
 abbrev pub IsKeyOf : FirstBytes → Key → Type 0
 IsKeyOf first_bytes key = (line : List ℕ) → AreBytes line → has_key key line ≡ false → rule_out first_bytes line ≡ true
 
--- and lines of fewer than four bytes
-abbrev pub RuleOutShort : FirstBytes → Type 0
-RuleOutShort first_bytes = (line : List ℕ) → length line < 4 → rule_out first_bytes line ≡ true
-
 -- ---- of sources
 
 -- a source reads no prefix without the key
 abbrev pub NeedsKey : Key → Grammar → Type 0
 NeedsKey key grammar = (bytes : List ℕ) → AreBytes bytes → has_key key bytes ≡ false → HasNoPrefix bytes grammar
 
--- nor one of fewer than four bytes
-abbrev pub NeedsFour : Grammar → Type 0
-NeedsFour grammar = (bytes : List ℕ) → length bytes < 4 → HasNoPrefix bytes grammar
-
--- a source reads no prefix with neither key, nor one of fewer than four bytes
-pub record NeedsOne (keys : Keys) (grammar : Grammar) : Type 0 where
-  pub key : (bytes : List ℕ) → AreBytes bytes → has_key keys.first bytes ≡ false → has_key keys.second bytes ≡ false → HasNoPrefix bytes grammar
-  pub four : NeedsFour grammar
+-- nor one with neither of two keys
+abbrev pub NeedsOne : Keys → Grammar → Type 0
+NeedsOne keys grammar = (bytes : List ℕ) → AreBytes bytes → has_key keys.first bytes ≡ false → has_key keys.second bytes ≡ false → HasNoPrefix bytes grammar
 
 -- a line from where each key stands
 pub record IsKeyedBy (keys : Keys) (line : List ℕ) (keyed : KeyedLine) : Type 0 where

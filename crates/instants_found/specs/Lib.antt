@@ -1,9 +1,7 @@
 pub mod Beside
 pub mod Candidate
-pub mod Kept
 pub mod Found
 pub mod Doubts
-pub mod Said
 pub mod Within
 pub mod IsFound
 pub mod Ranges

@@ -11,8 +11,9 @@ abbrev pub IsUnmarked : Marks → List ℕ → ℕ → Type 0
 IsUnmarked marks line place =
     ((stands_at marks.keys.first line place ≡ false) × (stands_at marks.keys.second line place ≡ false)) ⊎ (is_within marks.first (get_or line place 0) ≡ false) ⊎ (is_within marks.fourth (get_or line (place + 3) 0) ≡ false)
 
--- each date of the sources has a key, and a first byte and a fourth one from their ranges
+-- each date of the sources has a key, and a first byte and a fourth one from their ranges; it has four bytes at least
 pub record AreMarks (sources : List Grammar) (starts : List Bool) (marks : Marks) : Type 0 where
   pub keys : AreKeys sources marks.keys
   pub first : AreWithin starts marks.first
+  pub four : All (CannotStand 3 0) sources
   pub fourth : (byte : ℕ) → byte < 256 → is_within marks.fourth byte ≡ false → All (CannotStand 3 byte) sources

@@ -1,5 +1,5 @@
 -- Where no date begins.
-use Rattle.std.specs.Prelude.{◌≡◌, ◌<◌, ◌≤◌, ◌+◌, ℕ, Bool, true, false, List, get_or, None, All}
+use Rattle.std.specs.Prelude.{◌≡◌, ◌<◌, ◌≤◌, ◌+◌, ℕ, Bool, true, false, List, get_or, slice_get, None, All, IfSome}
 use Rattle.std.specs.Int.{bit_at}
 use Rattle.instants_sources.specs.Grammar.{Grammar}
 use Rattle.instants_prefixes.specs.declared.given.Given.{Given}
@@ -17,13 +17,13 @@ index_of Fourth = 3
 abbrev pub CannotStand : ℕ → ℕ → Grammar → Type 0
 CannotStand place byte grammar = (bytes : List ℕ) → get_or bytes place 0 ≡ byte → HasNoPrefix bytes grammar
 
--- no prefix that one of the sources reads has it there
-abbrev pub NoneHas : ℕ → List Grammar → ℕ → Type 0
-NoneHas place sources byte = All (CannotStand place byte) sources
-
 -- what is marked in a table are all bytes that can stand at this place of a prefix of a source
 abbrev pub AreMarked : ℕ → List Grammar → List Bool → Type 0
-AreMarked place sources marked = (byte : ℕ) → get_or marked byte true ≡ false → NoneHas place sources byte
+AreMarked place sources marked = (byte : ℕ) → get_or marked byte true ≡ false → All (CannotStand place byte) sources
+
+-- none of the sources from a number on reads a prefix of these bytes
+abbrev pub HaveNoPrefix : List ℕ → List Grammar → ℕ → Type 0
+HaveNoPrefix bytes sources from = (number : ℕ) → from ≤ number → IfSome (slice_get sources number) (HasNoPrefix bytes)
 
 -- nothing is found at a place of a line, whatever is given
 abbrev pub IsNoDate : List Grammar → List ℕ → ℕ → Type 0

@@ -11,12 +11,7 @@ pub record LiesWithin (bytes sources : ℕ) (date : Found) : Type 0 where
   pub end : date.end ≤ bytes
   pub source : date.source < sources
 
--- what is found lies within so many bytes
-abbrev pub IsIn : ℕ → ℕ → Finding → Type 0
-IsIn bytes sources (Doubtful place) = place < bytes
-IsIn bytes sources (There date) = LiesWithin bytes sources date
-
--- it lies within a line, and a place of dates in doubt within the bytes of it that are looked at
+-- what is found lies within a line, and a place of dates in doubt within the bytes of it that are looked at
 abbrev pub IsWithin : ℕ → List ℕ → ℕ → Finding → Type 0
 IsWithin limit line sources (Doubtful place) = place < length (looked_at limit line)
 IsWithin limit line sources (There date) = LiesWithin (length line) sources date

@@ -1,12 +1,9 @@
 //! Whether a date stands whole in its line, and nothing beside it says otherwise.
-ghost use Rattle.std.specs.Prelude.{◌≡◌, ◌<◌, ◌≤◌, ◌+◌, ◌&&◌, ◌||◌, not, true, false, drop, length, is_some};
-ghost use Rattle.instants_edges.specs.Beside.{has_clock_before};
-ghost use Rattle.instants_edges.specs.Edge.{is_edge};
+ghost use Rattle.std.specs.Prelude.{◌≡◌, ◌<◌, ◌≤◌, ◌+◌, ◌||◌, not, true, false, drop, length, is_some};
 ghost use Rattle.instants_prefixes.specs.DateSource.{grammar_in};
 ghost use Rattle.instants_prefixes.specs.Reading.{record_at};
 ghost use Rattle.instants_prefixes.specs.declared.given.Years.TheVariants.{Unknown};
 ghost use Rattle.instants_found.specs.Beside as Beside;
-ghost use Rattle.instants_found.specs.Said.{IsSaid, doubt_by, says_year};
 
 use crate::doubt::Doubt;
 use calendar::UtcOffset;
@@ -79,7 +76,7 @@ pub(crate) struct Said {
 fn says_year(given: &Given, line: &[u8], start: usize, prefix: &Prefix) -> bool
     requires begins { start + prefix.now.begins ≤ length line.now }
     requires ends { start + prefix.now.ends ≤ length line.now }
-    ensures { result ≡ says_year given.now line.now start prefix.now }
+    ensures { result ≡ Beside.says_year given.now line.now start prefix.now }
 {
     if let Years::Unknown = given.years {
         return false;
@@ -93,7 +90,7 @@ impl Said {
     fn beside(given: &Given, line: &[u8], start: usize, prefix: &Prefix) -> Said
         requires begins { start + prefix.now.begins ≤ length line.now }
         requires ends { start + prefix.now.ends ≤ length line.now }
-        ensures { IsSaid given.now line.now start prefix.now result }
+        ensures { result ≡ Beside.said given.now line.now start prefix.now }
     {
         let (begins, ends) = (start + prefix.begins, start + prefix.ends);
         let offset = given.offset.unwrap_or(UtcOffset::UTC);
@@ -116,7 +113,7 @@ impl Said {
 
     // The doubt that it makes of what was read: a number of Unix time needs nothing that was given.
     fn doubt(&self, read: &Parsed) -> Option<Doubt>
-        ensures { result ≡ doubt_by self.now read.now }
+        ensures { result ≡ Beside.doubt_by read.now self.now }
     {
         if read.unix_timestamp_nanos().is_some() {
             return None;
@@ -194,24 +191,4 @@ pub(crate) fn why(
         return None;
     }
     otherwise(source, given, line, start, prefix)
-}
-
-/// Whether no word and no clock goes on after a date that is read at a place, and no clock stands before it that counts: where
-/// nothing is given it then stands whole.
-#[inline(always)]
-pub(crate) fn stands_apart(line: &[u8], start: usize, prefix: &Prefix) -> bool
-    requires begins { start + prefix.now.begins ≤ length line.now }
-    requires all { start + prefix.now.all ≤ length line.now }
-    ensures edge { result ≡ true → is_edge line.now (start + prefix.now.all) ≡ true }
-    ensures clock { result ≡ true
-        → (not prefix.now.is_chosen && has_clock_before line.now (start + prefix.now.begins)) ≡ false }
-{
-    let end = start + prefix.all;
-    if !is_edge(line, end) {
-        return false;
-    }
-    if prefix.is_chosen {
-        return true;
-    }
-    !has_clock_before(line, start + prefix.begins)
 }

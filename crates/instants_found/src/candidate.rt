@@ -1,15 +1,14 @@
 //! The dates that sources read at one place of a line.
-ghost use Rattle.std.specs.Prelude.{◌≡◌, ◌<◌, ◌≤◌, ◌+◌, ◌^◌, drop, length, IfSome};
+ghost use Rattle.std.specs.Prelude.{◌≡◌, ◌<◌, ◌≤◌, ◌+◌, ◌^◌, Some, drop, length, IfSome};
 ghost use Rattle.instants_prefixes.specs.DateSource.{grammar_in, IsWithin};
 ghost use Rattle.instants_found.specs.Candidate as Candidates;
 ghost use Rattle.instants_found.specs.Doubts.{doubted};
-ghost use Rattle.instants_found.specs.Kept.{kept};
 
 use crate::beside::{after, is_read, why};
 use crate::doubt::{Doubt, Doubted};
 use crate::found::Found;
 use instants_edges::reach;
-use instants_prefixes::{DateSource, Given, Prefix};
+use instants_prefixes::{DateSource, Given, Prefix, lacks_byte};
 
 /// A date that a source reads at a place.
 #[derive(Drop)]
@@ -63,6 +62,7 @@ pub(crate) fn candidate_with(
 }
 
 /// The date that a source of this number reads at a place.
+#[inline(always)]
 #[tactic(auto, unfolding(crate::specs::Candidate::candidate))]
 pub(crate) fn read_candidate(
     source: &DateSource<'_>,
@@ -72,13 +72,15 @@ pub(crate) fn read_candidate(
     number: usize,
 ) -> Option<Candidate>
     requires { start < length line.now }
-    ensures is { result
-        ≡ Candidates.candidate given.now line.now start number (grammar_in source.now) }
+    ensures is { result ≡ Candidates.candidate given.now line.now start number (grammar_in source.now) }
     ensures start { IfSome result (λ one. one.date.start ≤ length line.now) }
     ensures end { IfSome result (λ one. one.date.end ≤ length line.now) }
-    ensures source { IfSome result (λ one. one.date.source ≡ number) }
 {
-    let Some(prefix) = source.read(after(line, start), given) else {
+    let bytes = after(line, start);
+    if lacks_byte(source.source(), bytes) {
+        return None;
+    }
+    let Some(prefix) = source.read(bytes, given) else {
         return None;
     };
     if !is_read(source, line, start, &prefix) {
@@ -88,22 +90,17 @@ pub(crate) fn read_candidate(
     Some(candidate_with(line, start, number, prefix, doubt))
 }
 
-/// Of a date that stands whole and another one the one that stands whole and reaches further, and of equals the first.
+/// The longer of two dates: of equals the first.
 #[inline(always)]
-pub(crate) fn longer(one: Option<Candidate>, other: Candidate) -> Option<Candidate>
-    ensures { result ≡ kept one other }
+#[tactic(auto, using(std::proofs::lemmas::Bool::Decides::nat_tests))]
+pub(crate) fn longer(best: Candidate, one: Candidate) -> Candidate
+    ensures { Some result ≡ Candidates.longer (Some best) (Some one) }
 {
-    let Some(best) = one else {
-        return if other.doubt.is_none() {
-            Some(other)
-        } else {
-            None
-        };
-    };
-    if other.doubt.is_none() && best.reach < other.reach {
-        return Some(other);
+    if one.doubt.is_none() && (best.doubt.is_some() || best.reach < one.reach) {
+        one
+    } else {
+        best
     }
-    Some(best)
 }
 
 /// The date that a source reads at a place, if it is in doubt.

@@ -34,7 +34,7 @@ impl Keys {
     ghost use Rattle.std.specs.Prelude.{All};
     ghost use Rattle.std.specs.Int.{bit_at};
     ghost use Rattle.instants_sources.specs.Grammar.{Grammar, grammar_of};
-    ghost use Rattle.instants_found.specs.Keys.{AreKeys, IsKeyedBy, NeedsFour, NeedsKey, NeedsOne, stands_at};
+    ghost use Rattle.instants_found.specs.Keys.{AreKeys, IsKeyedBy, NeedsKey, NeedsOne, stands_at};
 
     // One key, twice.
     fn of_one(key: Key) -> Keys
@@ -53,8 +53,8 @@ impl Keys {
         requires { key.place ≤ 4 }
         ensures others { IfSome result
             (λ keys. (grammar : Grammar) → NeedsOne self grammar → NeedsOne keys grammar) }
-        ensures key { IfSome result (λ keys. (grammar : Grammar) → NeedsKey key grammar
-            → NeedsFour grammar → NeedsOne keys grammar) }
+        ensures key { IfSome result
+            (λ keys. (grammar : Grammar) → NeedsKey key grammar → NeedsOne keys grammar) }
     {
         if key.is(self.first) || key.is(self.second) {
             return Some(self);

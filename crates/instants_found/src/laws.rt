@@ -13,7 +13,7 @@ ghost use Rattle.instants_found.specs.declared.found.Finding.TheVariants.{Doubtf
 
 /// What is found, and nothing else, is the longest date that stands whole at the least place of the bytes that are looked at, at
 /// which a source reads one, or that it is in doubt. Where nothing is found no source reads a date at any of the first places.
-#[tactic(auto, using(crate::proofs::FirstFound::first_found, crate::proofs::OneFound::only_found))]
+#[tactic(auto, using(crate::proofs::FirstFound::first_found_is, crate::proofs::OneFound::only_found))]
 pub fn longest_date()
     ensures is { (limit : ℕ) (given : Given) (sources : List Grammar) (line : List ℕ)
         → IsFound limit given sources (looked_at limit line) (found limit given sources line) }

@@ -21,7 +21,8 @@ impl Marks {
     ghost use Rattle.instants_found.specs.Keys.{IsKeyedBy};
     ghost use Rattle.instants_found.specs.Marks.{AreMarks, IsUnmarked};
 
-    /// The marks of these sources, whose dates begin with these bytes, if each source has a key.
+    /// The marks of these sources, whose dates begin with these bytes, if each source has a key and no date of fewer than four
+    /// bytes.
     pub(crate) fn of(sources: &[Source<'_>], starts: &[bool; 256]) -> Option<Marks>
         ensures { IfSome result (AreMarks (map grammar_of sources.now) starts.now) }
     {
@@ -32,7 +33,7 @@ impl Marks {
         }
         let fourths = marked_at(sources, Place::Fourth);
         let fourth = range_of(&fourths);
-        if !are_within(&fourths, &fourth) {
+        if fourths[0] || !are_within(&fourths, &fourth) {
             return None;
         }
         Some(Marks {

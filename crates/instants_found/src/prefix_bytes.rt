@@ -1,6 +1,6 @@
 //! The key of a description, by the bytes that can stand at the first four places of its dates.
 ghost use Rattle.std.specs.Prelude.{◌≤◌, IfSome};
-ghost use Rattle.instants_found.specs.Keys.{IsKeyOf, RuleOutShort};
+ghost use Rattle.instants_found.specs.Keys.{IsKeyOf};
 
 use crate::key::Key;
 use parsing_item_layouts::FirstBytes;
@@ -22,16 +22,11 @@ fn only_byte(first_bytes: &FirstBytes, place: usize) -> Option<u8>
     only
 }
 
-/// The key of a description with these first bytes, if one is found. No date of such a description has fewer than four
-/// bytes.
+/// The key of a description with these first bytes, if one is found.
 pub(crate) fn key_of_first_bytes(first_bytes: &FirstBytes) -> Option<Key>
     ensures near { IfSome result (λ key. key.place ≤ 4) }
     ensures key { IfSome result (IsKeyOf first_bytes.now) }
-    ensures long { IfSome result (λ _. RuleOutShort first_bytes.now) }
 {
-    if first_bytes.can_stand(3, 0) {
-        return None;
-    }
     for place in 0..4usize {
         if let Some(byte) = only_byte(first_bytes, place) {
             return Some(Key { place, byte });

@@ -1,7 +1,7 @@
 //! The key of a source.
 ghost use Rattle.std.specs.Prelude.{◌≤◌, IfSome};
 ghost use Rattle.instants_sources.specs.Grammar.{grammar_of};
-ghost use Rattle.instants_found.specs.Keys.{NeedsFour, NeedsKey};
+ghost use Rattle.instants_found.specs.Keys.{NeedsKey};
 
 use crate::key::Key;
 use crate::prefix_bytes::key_of_first_bytes;
@@ -11,7 +11,6 @@ use instants_sources::Source;
 pub(crate) fn key_of(source: &Source<'_>) -> Option<Key>
     ensures near { IfSome result (λ key. key.place ≤ 4) }
     ensures key { IfSome result (λ key. NeedsKey key (grammar_of source.now)) }
-    ensures long { IfSome result (λ _. NeedsFour (grammar_of source.now)) }
 {
     match source {
         Source::Items(described) | Source::V3(described) => key_of_first_bytes(

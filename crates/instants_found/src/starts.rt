@@ -1,9 +1,9 @@
 //! The bytes that can stand at the first and at the fourth place of a date.
-ghost use Rattle.std.specs.Prelude.{◌≡◌, true, false, map, get_or};
+ghost use Rattle.std.specs.Prelude.{◌≡◌, true, false, All, map, get_or};
 ghost use Rattle.instants_sources.specs.Grammar.{grammar_of};
 ghost use Rattle.instants_prefixes.specs.NoPrefix.{begins_day, begins_part};
 ghost use Rattle.instants_found.specs.Ranges.{AreWithin, is_within};
-ghost use Rattle.instants_found.specs.Starts.{AreMarked, CannotStand, NoneHas, index_of};
+ghost use Rattle.instants_found.specs.Starts.{AreMarked, CannotStand, index_of};
 
 use crate::range::Range;
 use instants_sources::Source;
@@ -19,16 +19,11 @@ pub(crate) enum Place {
 }
 
 // Whether a date of RFC 2822 can begin with a byte: its weekday, or its day.
+#[tactic(auto, using(std::proofs::lemmas::Bool::Decides::nat_tests))]
 fn begins_day(byte: u8) -> bool
     ensures { result ≡ begins_day byte }
 {
-    let letter = byte.to_ascii_lowercase();
-    byte.is_ascii_digit()
-        || letter == b'f'
-        || letter == b'm'
-        || letter == b's'
-        || letter == b't'
-        || letter == b'w'
+    byte.is_ascii_digit() || matches!(byte.to_ascii_lowercase(), b'f' | b'm' | b's' | b't' | b'w')
 }
 
 // Whether one of ISO 8601 can: a number, a sign or a designator.
@@ -75,7 +70,7 @@ fn can_stand(source: &Source<'_>, place: Place, byte: u8) -> bool
 
 // Whether a byte can stand at a place of a date of some source.
 fn some_has(sources: &[Source<'_>], place: Place, byte: u8) -> bool
-    ensures { result ≡ false → NoneHas (index_of place) (map grammar_of sources.now) byte }
+    ensures { result ≡ false → All (CannotStand (index_of place) byte) (map grammar_of sources.now) }
 {
     for number in 0..sources.len() {
         if can_stand(&sources[number], place, byte) {

@@ -1,6 +1,6 @@
 -- A line for which its one source names a moment is found as a date.
 use Rattle.std.proofs.Common.{◌≡◌, ◌<◌, ◌≤◌, ◌-◌, ◌+◌, ◌==◌, ℕ, zero, suc, Bool, true, false, List, [], ◌∷◌, length, get_or, take, drop, Option, Some, None, Result, Ok, Err, refl, sym, ◌∙◌, ap, subst, inl, inr, arith}
-use Rattle.std.specs.Prelude.{reverse, not, if◌then◌else◌}
+use Rattle.std.specs.Prelude.{min, reverse, not, if◌then◌else◌}
 use Rattle.std.specs.Char.{is_ascii_alphanumeric, is_ascii_whitespace}
 use Rattle.std.specs.List.{suffix_len}
 use Rattle.std.specs.Result.{result_ok}
@@ -35,9 +35,10 @@ use Rattle.instants_prefixes.specs.declared.given.Given.{Given}
 use Rattle.instants_prefixes.proofs.NamedAlone.{named_given, has_parts}
 use Rattle.instants_prefixes.proofs.Windows.{text_within}
 use Rattle.instants_found.specs.Beside.{is_read, otherwise, why}
-use Rattle.instants_found.specs.Candidate.{as_candidate, of_prefix, candidate, candidates, longest}
-use Rattle.instants_found.specs.Found.{at_place, from_place, found_in, looked_at, found}
+use Rattle.instants_found.specs.Candidate.{as_candidate, of_prefix, candidate, longest}
+use Rattle.instants_found.specs.Found.{at_place, first_found, found_in, looked_at, found}
 use Rattle.instants_found.specs.declared.found.Found.{Found}
+use Rattle.instants_found.proofs.NoDates.{found_here}
 use Rattle.instants_found.specs.declared.found.Finding.TheVariants.{There}
 use Rattle.instants_timeline.specs.Place.{Setting, first_named, shown_or_refused, place_of, place_text, answer_to}
 use Rattle.instants_lines.specs.Dates.{place_of_date, key_or}
@@ -173,7 +174,7 @@ module _ (given : Given) (grammar : Grammar) (line : List ℕ) (moment : Shown) 
         | Some n ↦ λ e. rw e refl
         | None ↦ λ e.
             let has = has_parts its_record moment e (ap moment_named record_is ∙ whole_is.names_it) in
-            rw (e, has.offset, has.time, has.date) (simp and-false)
+            rw (e, has.offset, has.time, has.date) refl
       ] refl
 
   stands : why given grammar line 0 prefix ≡ None
@@ -188,16 +189,14 @@ module _ (given : Given) (grammar : Grammar) (line : List ℕ) (moment : Shown) 
   candidate_is = ap (of_prefix given line 0 0 grammar) prefix_is ∙ chosen (is_read grammar line 0 prefix) (as_candidate given line 0 0 grammar prefix) read
 
   at_first : at_place given (grammar ∷ []) line 0 ≡ Some (There (as_candidate given line 0 0 grammar prefix).date)
-  unfolding at_place candidates longest
+  unfolding at_place longest
   at_first = rw (candidate_is, stands) refl
 
 -- ---- the date of the line
 
 found_in_first : (limit : ℕ) (given : Given) (sources : List Grammar) (line : List ℕ) (date : Found) → 0 < limit → 0 < length line → at_place given sources line 0 ≡ Some (There date) → found_in limit given sources line ≡ Some (There date)
-unfolding from_place
-found_in_first limit given sources [] date some long e = absurd (omega (arith, long))
-found_in_first zero given sources (byte ∷ after) date some long e = absurd (omega (arith, some))
-found_in_first (suc limit) given sources (byte ∷ after) date some long e = rw e refl
+unfolding first_found
+found_in_first limit given sources line date some long e = sym (found_here given sources line 0 (min limit (length line)) (There date) (omega (arith, some, long)) refl (sym e))
 
 alone_named : (setting : Setting) (grammar : Grammar) (line : List ℕ) (moment : Shown) → setting.sources ≡ grammar ∷ [] → named setting.assumed grammar line ≡ Ok moment → first_named setting.assumed setting.sources line ≡ Ok moment
 unfolding first_named

@@ -6,10 +6,10 @@ ghost use Rattle.instants_sources.specs.Grammar.{grammar_of};
 ghost use Rattle.instants_found.specs.Found.{found, found_in, looked_at};
 ghost use Rattle.instants_found.specs.Doubts.{doubt_of};
 ghost use Rattle.instants_found.specs.Finder.{limit_of, sources_of};
-ghost use Rattle.instants_found.specs.Keys.{IsKeyedBy, NeedsFour};
+ghost use Rattle.instants_found.specs.Keys.{IsKeyedBy};
 ghost use Rattle.instants_found.specs.Marks.{AreMarks};
-ghost use Rattle.instants_found.specs.Starts.{HasNoDate, IsNoDate, MarkPlaces};
-ghost use Rattle.instants_found.specs.Within.{IsIn, IsWithin};
+ghost use Rattle.instants_found.specs.Starts.{CannotStand, HasNoDate, IsNoDate, MarkPlaces};
+ghost use Rattle.instants_found.specs.Within.{IsWithin};
 ghost use Rattle.instants_found.specs.declared.found.Finding.TheVariants.{There};
 
 use crate::beside::after;
@@ -87,7 +87,7 @@ impl<'a> Finder<'a> {
         if !self.can_start(line, start) {
             return false;
         }
-        may_read(self.sources.as_slice(), after(line, start))
+        may_read(self.sources.as_slice(), 0, after(line, start))
     }
 
     // The first place from one on at which a date can begin, looked for byte by byte.
@@ -170,7 +170,7 @@ impl<'a> Finder<'a> {
         requires some { 4 ≤ length line.now }
         requires end { length line.now ≤ from + 4 }
         requires within { from ≤ length line.now }
-        requires long { All NeedsFour (sources_of self.now) }
+        requires long { All (CannotStand 3 0) (sources_of self.now) }
         ensures none { IfNone result
             (HasNoDate (sources_of self.now) line.now from (length line.now)) }
         ensures within { IfSome result (λ start. (from ≤ start) × (start < length line.now)) }
@@ -290,8 +290,7 @@ impl<'a> Finder<'a> {
     fn find_in(&self, given: &Given, line: &[u8], first: usize) -> Option<Finding>
         requires within { first < length line.now }
         requires passed { HasNoDate (sources_of self.now) line.now 0 first }
-        ensures found { result ≡ found_in (limit_of self.now) given.now (sources_of self.now) line.now }
-        ensures within { IfSome result (IsIn (length line.now) (length (sources_of self.now))) }
+        ensures { result ≡ found_in (limit_of self.now) given.now (sources_of self.now) line.now }
     {
         let end = self.end(line);
         let mut start = first;

@@ -1,5 +1,5 @@
 use Rattle.std.proofs.Common.{ℕ, ◌==◌, not, ap}
 use Rattle.instants_edges.proofs.clock.begins_clock.Goals as goal
 
-pub returns-then-is_ascii_digit-clause-value : goal.returns-then-is_ascii_digit-clause-value
-returns-then-is_ascii_digit-clause-value c = ap (λ (n : ℕ). not (n == 0)) c.begun.ensures.value
+pub returns-then-is_ascii_digit : goal.returns-then-is_ascii_digit
+returns-then-is_ascii_digit c = ap (λ (n : ℕ). not (n == 0)) c.begun.ensures.value

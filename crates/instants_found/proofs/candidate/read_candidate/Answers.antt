@@ -1,20 +1,24 @@
-use Rattle.std.proofs.Common.{Option, Some, sym, ap, ◌∙◌}
+use Rattle.std.proofs.Common.{Option, true, false, Some, sym, ap, ◌∙◌}
 use Rattle.instants_prefixes.specs.DateSource.{grammar_in}
 use Rattle.instants_found.specs.Candidate.{candidate_with}
 use Rattle.instants_found.specs.declared.doubt.Doubt.{Doubt}
-use Rattle.instants_found.proofs.ReadAt.{unread, refused, accepted}
+use Rattle.instants_found.proofs.ReadAt.{no_candidate, unread, by_read}
 use Rattle.instants_found.proofs.candidate.read_candidate.Goals as goal
 
+pub returns-then-lacks_byte-clause-is : goal.returns-then-lacks_byte-clause-is
+returns-then-lacks_byte-clause-is c =
+    sym (no_candidate c.args.given.now c.args.line.now c.args.start c.args.number (grammar_in c.args.source.now) (rw (c.after-bytes.ensures, c.source.ensures) at (c.lacks_byte.ensures c.if-lacks_byte.true)))
+
 pub returns-in_default-clause-is : goal.returns-in_default-clause-is
-returns-in_default-clause-is c = unread c.args.given.now c.args.line.now c.args.start c.args.number (grammar_in c.args.source.now) (rw c.after.ensures at c.in_default.ensures.prefix)
+returns-in_default-clause-is c = unread c.args.given.now c.args.line.now c.args.start c.args.number (grammar_in c.args.source.now) (rw c.after-bytes.ensures at c.in_default.ensures.prefix)
 
 pub returns-then-not-is_read-clause-is : goal.returns-then-not-is_read-clause-is
 returns-then-not-is_read-clause-is c =
-    refused c.args.given.now c.args.line.now c.args.start c.args.number (grammar_in c.args.source.now) c.in-Some.prefix (rw c.after.ensures at c.in-Some.ensures.prefix) (sym c.is_read.ensures ∙ c.if-not-is_read.true)
+    by_read c.args.given.now c.args.line.now c.args.start c.args.number (grammar_in c.args.source.now) c.in-Some.prefix false (rw c.after-bytes.ensures at c.in-Some.ensures.prefix) (sym c.if-not-is_read.true ∙ c.is_read.ensures)
 
 pub returns-clause-is : goal.returns-clause-is
 returns-clause-is c =
     let line = c.args.line.now in
     let prefix = c.in-Some.prefix in
     ap Some (c.candidate_with.ensures ∙ ap (λ (o : Option Doubt). candidate_with line c.args.start c.args.number prefix o) c.why-doubt.ensures)
-    ∙ accepted c.args.given.now line c.args.start c.args.number (grammar_in c.args.source.now) prefix (rw c.after.ensures at c.in-Some.ensures.prefix) (sym c.is_read.ensures ∙ c.if-not-is_read.false)
+    ∙ by_read c.args.given.now line c.args.start c.args.number (grammar_in c.args.source.now) prefix true (rw c.after-bytes.ensures at c.in-Some.ensures.prefix) (sym c.if-not-is_read.false ∙ c.is_read.ensures)

@@ -1,8 +1,8 @@
 use Rattle.instants_sources.specs.Grammar.{Described, written}
 use Rattle.instants_sources.proofs.Form.{by_description}
-use Rattle.instants_found.specs.Keys.{IsKeyOf, RuleOutShort, NeedsKey, NeedsFour}
+use Rattle.instants_found.specs.Keys.{IsKeyOf, NeedsKey}
 use Rattle.instants_found.specs.declared.key.Key.{Key}
-use Rattle.instants_found.proofs.SourceKeys.{if_some, described_key, described_four, year_key, year_four}
+use Rattle.instants_found.proofs.SourceKeys.{if_some, described_key, year_key}
 use Rattle.instants_found.proofs.source_key.key_of.Goals as goal
 
 pub returns-in-Items-clause-key : goal.returns-in-Items-clause-key
@@ -12,15 +12,5 @@ returns-in-Items-clause-key c =
     rw (by_description _ _ c.in-Items.is)
     (if_some (IsKeyOf first_bytes) (λ (key : Key). NeedsKey key (Described written)) c.key_of_first_bytes.result (described_key written first_bytes c.first_bytes.ensures) c.key_of_first_bytes.ensures.key)
 
-pub returns-in-Items-clause-long : goal.returns-in-Items-clause-long
-returns-in-Items-clause-long c =
-    let written = written c.in-Items.described.description in
-    let first_bytes = c.first_bytes.result.now in
-    rw (by_description _ _ c.in-Items.is)
-    (if_some (λ (key : Key). RuleOutShort first_bytes) (λ (key : Key). NeedsFour (Described written)) c.key_of_first_bytes.result (λ key. described_four written first_bytes c.first_bytes.ensures) c.key_of_first_bytes.ensures.long)
-
 pub returns-in-Rfc3339-clause-key : goal.returns-in-Rfc3339-clause-key
 returns-in-Rfc3339-clause-key c = rw c.in-Rfc3339.is year_key
-
-pub returns-in-Rfc3339-clause-long : goal.returns-in-Rfc3339-clause-long
-returns-in-Rfc3339-clause-long c = rw c.in-Rfc3339.is year_four

@@ -1,27 +1,34 @@
-use Rattle.std.proofs.Common.{length, min, sym, arith}
+use Rattle.std.proofs.Common.{◌+◌, length, min, refl, sym, arith}
+use Rattle.instants_found.specs.Found.{first_found}
 use Rattle.instants_found.specs.Finder.{sources_of, limit_of}
-use Rattle.instants_found.proofs.NoDates.{found_here, found_nothing, nothing_more}
+use Rattle.instants_found.proofs.NoDates.{found_here, none_next, none_further, none_earlier}
 use Rattle.instants_found.proofs.finder.Finder.find_in.Goals as goal
 
 pub loop-start-init : goal.loop-start-init
-loop-start-init c = record { within = c.requires.within; so_far = λ place lt. c.requires.passed place (omega arith) lt c.args.given.now }
+unfolding first_found
+loop-start-init c = record { within = c.requires.within; so_far = none_further c.args.given.now (sources_of c.args.self.now) c.args.line.now 0 c.args.first (omega arith) refl c.requires.passed }
 
-pub returns-in-Some-clause-found : goal.returns-in-Some-clause-found
-returns-in-Some-clause-found c =
-    found_here (limit_of c.args.self.now) c.args.given.now (sources_of c.args.self.now) c.args.line.now c.loop-start.start c.in-Some.finding (omega arith) c.loop-start.invariant.so_far (rw c.as_slice.ensures.value at c.in-Some.ensures.found)
+pub returns-in-Some : goal.returns-in-Some
+returns-in-Some c =
+    found_here c.args.given.now (sources_of c.args.self.now) c.args.line.now c.loop-start.start (min (limit_of c.args.self.now) (length c.args.line.now)) c.in-Some.finding (omega arith) c.loop-start.invariant.so_far (rw c.as_slice.ensures.value at c.in-Some.ensures)
 
-pub returns-in_default-next_start-clause-found : goal.returns-in_default-next_start-clause-found
-returns-in_default-next_start-clause-found c =
+pub returns-in_default-next_start : goal.returns-in_default-next_start
+returns-in_default-next_start c =
     let given = c.args.given.now in
     let sources = sources_of c.args.self.now in
-    let limit = limit_of c.args.self.now in
     let line = c.args.line.now in
-    let here = rw c.as_slice.ensures.value at c.in_default.ensures.found in
-    sym (found_nothing limit given sources line (nothing_more given sources line c.loop-start.start (min limit (length line)) c.loop-start.invariant.so_far here c.in_default-next_start.ensures.none))
+    let next = none_next given sources line c.loop-start.start c.loop-start.invariant.so_far (rw c.as_slice.ensures.value at c.in_default.ensures) in
+    sym (none_further given sources line (c.loop-start.start + 1) (min (limit_of c.args.self.now) (length line)) (omega arith) next c.in_default-next_start.ensures.none)
 
-pub returns-clause-found : goal.returns-clause-found
-returns-clause-found c =
+pub loop-start-preserved : goal.loop-start-preserved
+loop-start-preserved c =
+    let given = c.args.given.now in
     let sources = sources_of c.args.self.now in
-    let limit = limit_of c.args.self.now in
     let line = c.args.line.now in
-    sym (found_nothing limit c.args.given.now sources line (λ place lt. c.loop-start.invariant.so_far place (omega (arith, lt, c.loop-start-test.false, c.end-end.ensures))))
+    let next = none_next given sources line c.loop-start.start c.loop-start.invariant.so_far (rw c.as_slice.ensures.value at c.in_default.ensures) in
+    let (low, high) = c.in-Some-next_start.ensures.within in
+    record { within = high; so_far = none_further given sources line (c.loop-start.start + 1) c.in-Some-next_start.next low next c.in-Some-next_start.ensures.passed }
+
+pub returns : goal.returns
+returns c =
+    sym (none_earlier c.args.given.now (sources_of c.args.self.now) c.args.line.now (min (limit_of c.args.self.now) (length c.args.line.now)) c.loop-start.start (omega (arith, c.loop-start-test.false, c.end-end.ensures)) c.loop-start.invariant.so_far)

@@ -1,8 +1,6 @@
 use Rattle.instants_found.specs.Finder.{sources_of}
-use Rattle.instants_found.proofs.NoDates.{no_prefix_there}
+use Rattle.instants_found.proofs.NoDates.{none_there}
 use Rattle.instants_found.proofs.finder.Finder.has_start.Goals as goal
 
 pub returns : goal.returns
-returns c = λ e.
-    no_prefix_there (sources_of c.args.self.now) c.args.line.now c.args.start
-    (rw (c.as_slice.ensures.value, c.after.ensures) at (c.may_read.ensures e))
+returns c = λ e. none_there (sources_of c.args.self.now) c.args.line.now c.args.start (rw (c.as_slice.ensures.value, c.after.ensures) at (c.may_read.ensures e))

@@ -14,7 +14,7 @@ loop-number-preserved c =
     let source = c.index-sources-number.result in
     let others = All-weaker (λ (source : Source). NeedsOne c.loop-number.keys (grammar_of source)) (λ (source : Source). NeedsOne keys (grammar_of source)) (λ source needs. c.in_ok-keys.ensures.others (grammar_of source) needs) (take number sources) c.loop-number.invariant in
     All-more (λ (source : Source). NeedsOne keys (grammar_of source)) sources number source (omega arith) others
-    (rw (← c.index-sources-number.is) (c.in_ok-keys.ensures.key (grammar_of source) c.in_ok-key_of-2.ensures.key c.in_ok-key_of-2.ensures.long))
+    (rw (← c.index-sources-number.is) (c.in_ok-keys.ensures.key (grammar_of source) c.in_ok-key_of-2.ensures.key))
 
 pub returns : goal.returns
 returns c =
