@@ -35,9 +35,9 @@ from model.lines import answer
 ROOT = pathlib.Path(__file__).resolve().parent.parent
 BUILT = ROOT / "crates" / "instants_lines_program" / "out" / "instants_lines_program"
 ROWS, DATED = ROOT / "crates" / "rows" / "stdout", "\n## Dated lines\n"
-# What is said beside the sentence of a run: of a trial, and of a description that is literal text alone.
+# What is said beside the sentence of a run: of a trial, of a description that is literal text alone, and of lines none of which is dated.
 NOTES = (b"instants-lines: the program is not built", b"instants-lines: the program that is built is older", b"instants-lines: what follows is of a trial")
-WARNING = re.compile(rb"instants-lines: warning: .*? names no component, as [^\n]*\n", re.DOTALL)
+WARNING = re.compile(rb"instants-lines: warning: (?:.*? names no component, as|no line has a date that) [^\n]*\n", re.DOTALL)
 PROCESSES = 2
 # A list of wrong words costs a run of its own, which takes as long as so many lines.
 LINES_OF_A_LIST, WRONG = 10, 2

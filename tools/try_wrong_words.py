@@ -9,6 +9,7 @@ The table of wrong arguments is a test of the gate (crates/instants_lines_tests/
 - an input that can't be read and an output that is full are told with their reason, with status 1;
 - a pipe whose reader has ended is no news: status 1, and nothing on standard error;
 - a description that names no component is warned of, before it is refused with status 2;
+- packed input is warned of, and lines none of which is dated, where they stand after keys; `-q` keeps this silent;
 - `--help`, `-h` and `--version` alone are answered on standard output with status 0, as ./instants-lines answers them.
 """
 
@@ -42,6 +43,7 @@ ROWS = (
 
 
 Answer = tuple[int, str | None, str]
+UNDATED = "instants-lines: warning: no line has a date that these sources read: try instants-lines guess < FILE\n"
 
 
 def call(program: pathlib.Path, *words: str, **how: Any) -> Answer:
@@ -82,7 +84,30 @@ def test_a_description_without_components(instants_lines: pathlib.Path) -> None:
 
 def test_packed_input(instants_lines: pathlib.Path) -> None:
     said = "instants-lines: warning: the input is packed by bzip2: bunzip2 -c FILE | instants-lines ..\n"
-    assert call(instants_lines, "key", "rfc3339", input="BZh9\nBZh9\n") == (0, "! none\tBZh9\n! none\tBZh9\n", said)
+    assert call(instants_lines, "key", "rfc3339", input="BZh9\nBZh9\n") == (0, "! none\tBZh9\n! none\tBZh9\n", said + UNDATED)
+    assert call(instants_lines, "-q", "key", "rfc3339", input="BZh9\n") == (0, "! none\tBZh9\n", "")
+
+
+@pytest.mark.parametrize(
+    "words, lines, text, is_told",
+    [
+        ("key rfc3339", "x\ny\n", "! none\tx\n! none\ty\n", True),
+        ("-q key rfc3339", "x\n", "! none\tx\n", False),
+        ("carry rfc3339", "2021-01-02T03:04:05Zx\n", "! doubt\t2021-01-02T03:04:05Zx\n", True),
+        ("locate rfc3339", "x\n", "! none\n", True),
+        ("key rfc3339", "x\n2021-01-02T03:04:05Z\n", "! none\tx\n2021-01-02T03:04:05.000000000Z\t2021-01-02T03:04:05Z\n", False),
+        ("key -23:59 rfc3339", "0000-01-01T00:00:00Z\n", "! year\t0000-01-01T00:00:00Z\n", False),
+        ("key rfc3339", "", "", False),
+        ("replace rfc3339", "x\n", "x\n", False),
+        ("explain rfc3339", "x\n", "1\t! component year\n", False),
+    ],
+)
+def test_lines_without_a_date(instants_lines: pathlib.Path, words: str, lines: str, text: str, is_told: bool) -> None:
+    assert call(instants_lines, *words.split(), input=lines) == (0, text, UNDATED if is_told else "")
+
+
+def test_quiet_about_a_description(instants_lines: pathlib.Path) -> None:
+    assert call(instants_lines, "-q", "key", "v3", "%F") == (2, "", "instants-lines: source 1 names no moment: it has no year\n")
 
 
 @pytest.mark.parametrize("word", ["--help", "-h", "--version"])

@@ -9,7 +9,7 @@ use Rattle.parsing_combinator.specs.Fault.{Fault}
 use Rattle.instants_sources.specs.Grammar.{Grammar}
 use Rattle.instants_sources.specs.Named.{named}
 use Rattle.instants_timeline.specs.Place.{Setting, or_named, first_named, shown_or_refused, place_of, place_text, answer_to}
-use Rattle.instants_lines.specs.Explained.{IsFirstToName, text_by, said_by, answer_by, first_answer, all_said, explained}
+use Rattle.instants_lines.specs.Explained.{IsFirstToName, text_by, said_by, first_answer, all_said, explained}
 
 -- the first source names the moment, or it names none and the others do
 first_or_others : (n r : Result Shown Fault) (moment : Shown) → or_named n (result_ok r) ≡ Ok moment → (n ≡ Ok moment) ⊎ (((fault : Fault) × (n ≡ Err fault)) × (r ≡ Ok moment))
@@ -28,7 +28,7 @@ record FirstSays (setting : Setting) (line : List ℕ) (number : ℕ) (sources :
   says : first_answer setting line number sources ≡ Some ((decimal (length before + number) ++ 9 ∷ []) ++ place_text (shown_or_refused setting.target (Ok moment)))
 
 first_says : (setting : Setting) (line : List ℕ) (number : ℕ) (sources : List Grammar) (moment : Shown) → first_named setting.assumed sources line ≡ Ok moment → FirstSays setting line number sources moment
-unfolding first_named first_answer answer_by said_by text_by
+unfolding first_named first_answer said_by text_by
 first_says setting line number [] moment e = absurd cc
 first_says setting line number (grammar ∷ others) moment e =
     elim (first_or_others (named setting.assumed grammar line) (first_named setting.assumed others line) moment e) [

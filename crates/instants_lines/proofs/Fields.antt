@@ -19,9 +19,7 @@ use Rattle.instants_timeline.specs.Place.{Setting, in_written_years, place_text}
 use Rattle.instants_faults.specs.Refusal.{year}
 use Rattle.instants_lines.specs.Dates.{key_or, place_of_date}
 use Rattle.instants_lines.specs.Fields.{IsLabel, is_field, without_fields, without_key}
-use Rattle.instants_lines.specs.Going.{Going, finding_in, key_of_line, key_below, label_prefix}
-use Rattle.instants_lines_words.specs.declared.mode.Mode.{Mode}
-use Rattle.instants_lines_words.specs.declared.mode.Mode.TheVariants.{Carry}
+use Rattle.instants_lines.specs.Going.{Going, finding_in, key_of_line, label_prefix}
 
 -- ---- keys
 
@@ -76,12 +74,11 @@ key_field setting key (Some (There date)) is = place_field (shown_at setting.tar
 
 -- a line's key is a field, where the key that a line without a date takes is
 pub line_field : (going : Going) (line : List ℕ) → is_field going.key ≡ true → is_field (key_of_line going line) ≡ true
-unfolding key_of_line
 line_field going line is = key_field going.search.setting going.key (finding_in going line) is
 
-pub below_field : (mode : Mode) (key above : List ℕ) → is_field key ≡ true → is_field above ≡ true → is_field (key_below mode key above) ≡ true
-below_field Carry key above is is_above = is_above
-below_field mode key above is is_above = is
+pub either_field : (above : Bool) (some others : List ℕ) → is_field some ≡ true → is_field others ≡ true → is_field (if above then others else some) ≡ true
+either_field true some others is is_other = is_other
+either_field false some others is is_other = is
 
 -- ---- what a field is without
 

@@ -43,7 +43,6 @@ use Rattle.instants_found.specs.declared.found.Finding.TheVariants.{There}
 use Rattle.instants_timeline.specs.Place.{Setting, first_named, shown_or_refused, place_of, place_text, answer_to}
 use Rattle.instants_lines.specs.Dates.{place_of_date, key_or}
 use Rattle.instants_lines.specs.Going.{Going, goes_on, key_of_line}
-use Rattle.instants_lines.proofs.Keyed.{own_date}
 
 -- ---- the prefix is the whole line
 
@@ -213,7 +212,7 @@ pub key_alone : (going : Going) (grammar : Grammar) (line : List ℕ) (moment : 
     → going.search.setting.sources ≡ grammar ∷ [] → goes_on going.mode going.indent line ≡ false → named None grammar line ≡ Ok moment → named going.search.setting.assumed grammar line ≡ Ok moment → 0 < going.search.limit → 0 < length line
     → text_for grammar line ≡ line → may_begin grammar line ≡ true → is_likely (record_at grammar line).unix_timestamp_nanos ≡ true → (lengths grammar line []).begins ≡ 0
     → key_of_line going line ≡ answer_to going.search.setting line
-unfolding key_of_line place_of_date answer_to place_of found record_at
+unfolding place_of_date answer_to place_of found record_at
 key_alone going grammar line moment of_rfc3339 of_rfc2822 alone own e assumed some long text may likely first =
     let search = going.search in
     let setting = search.setting in
@@ -221,5 +220,5 @@ key_alone going grammar line moment of_rfc3339 of_rfc2822 alone own e assumed so
     let at = at_first search.given grammar line moment text may whole_is first in
     let is = ap (found_in search.limit search.given setting.sources) (all_looked_at search.limit grammar line text)
     ∙ ap (λ (sources : List Grammar). found_in search.limit search.given sources line) alone ∙ found_in_first search.limit search.given (grammar ∷ []) line _ some long at in
-    ap (key_or setting going.key) (sym (own_date going line own) ∙ is)
+    rw own (ap (key_or setting going.key) is)
     ∙ ap (λ (n : Result Shown Fault). place_text (shown_or_refused setting.target n)) (sym (alone_named setting grammar line moment alone assumed))

@@ -1,19 +1,20 @@
 -- The lines of the output, without their keys, are those of the stream.
-use Rattle.std.proofs.Common.{◌≡◌, ◌⊎◌, ◌+◌, ◌==◌, ℕ, Bool, true, false, Option, List, [], ◌∷◌, ◌++◌, length, take, map, nat_lt, refl, sym, ap, subst, ◌∙◌, inl, inr, arith, append-nil}
+use Rattle.std.proofs.Common.{◌≡◌, ◌==◌, ℕ, true, false, Option, List, [], ◌∷◌, ◌++◌, map, refl, sym, ap, subst, ◌∙◌, inl, inr, arith, append-nil}
 use Rattle.std.specs.Prelude.{⊤, cond, if◌then◌else◌}
 use Rattle.std.specs.List.{slice_split, onto_first}
 use Rattle.std.proofs.lemmas.List.Elements.{All-nil, All-cons, All-append}
 use Rattle.base.specs.Bytes.{tab, line_feed}
 use Rattle.instants_stream.specs.Lines.{HasNoLineFeed, but_last, if_nonempty, parts, whole_lines, last_part, lines}
-use Rattle.instants_stream.specs.Steps.{state_within, opened, line_said, line_next, written, after, last_part_said, output}
+use Rattle.instants_stream.specs.Steps.{state_within, line_said, written, after, last_part_said, output}
 use Rattle.instants_stream.proofs.Lines.{whole_lines-line, last_part-line, last_part-append, lines-append, whole_lines_none, last_part_of_none, last_part_free}
 use Rattle.instants_stream.proofs.Written.{is_no_longer, written-append}
 use Rattle.instants_lines.specs.Fields.{IsLabel, is_field, without_fields}
-use Rattle.instants_lines.specs.Going.{Going, below, hands_on, key_of_line, keyed, label_prefix, text_in, next_in, near, end_in, last_end, lines_steps}
+use Rattle.instants_lines.specs.Going.{Going, IsKeyed, below, is_carry, is_explain, key_of_line, keyed, label_prefix, text_in, near, last_end, lines_steps}
 use Rattle.instants_lines_words.specs.declared.mode.Mode.{Mode}
 use Rattle.instants_lines_words.specs.declared.mode.Mode.TheVariants.{Key, Carry}
-use Rattle.instants_lines.proofs.Fields.{line_field, below_field, field_free, label_free, without_both}
-use Rattle.instants_lines.proofs.Handed.{HandsOn, handed_said, handed_next}
+use Rattle.instants_lines.proofs.Fields.{line_field, either_field, field_free, label_free, without_both}
+use Rattle.instants_lines.proofs.Handed.{handed_said, handed_next}
+use Rattle.instants_lines.proofs.States.{after_lines}
 
 -- ---- the lines of a stream have no line feed
 
@@ -62,73 +63,32 @@ lines_free stream = append_free (whole_lines stream) (if_nonempty (last_part str
 
 -- ---- the two modes
 
-abbrev pub IsKeyed : Mode → Type 0
-IsKeyed mode = (mode ≡ Key) ⊎ (mode ≡ Carry)
+-- what holds of both
+pub of_keyed : (P : Mode → Type 0) → P Key → P Carry → (mode : Mode) → IsKeyed mode → P mode
+of_keyed P key carry mode (inl e) = subst P (sym e) key
+of_keyed P key carry mode (inr e) = subst P (sym e) carry
 
-pub keyed_hands : (mode : Mode) → IsKeyed mode → HandsOn mode
-keyed_hands mode (inl key) = ap hands_on key
-keyed_hands mode (inr carry) = ap hands_on carry
+pub not_explained : (mode : Mode) → IsKeyed mode → is_explain mode ≡ false
+not_explained mode is = of_keyed (λ mode. is_explain mode ≡ false) refl refl mode is
 
-pub text_of : (mode : Mode) → IsKeyed mode → (going : Going) (line : List ℕ) → text_in mode going line ≡ keyed going line
-text_of mode (inl key) going line = ap (λ (m : Mode). text_in m going line) key
-text_of mode (inr carry) going line = ap (λ (m : Mode). text_in m going line) carry
+text_of : (mode : Mode) → IsKeyed mode → (going : Going) (line : List ℕ) → text_in mode going line ≡ keyed going line
+text_of mode is going line = of_keyed (λ mode. text_in mode going line ≡ keyed going line) refl refl mode is
 
 end_of : (mode : Mode) → IsKeyed mode → last_end mode ≡ line_feed ∷ []
-end_of mode (inl key) = ap (λ (m : Mode). last_end m) key
-end_of mode (inr carry) = ap (λ (m : Mode). last_end m) carry
-
--- lines leave the mode
-mode_next : (mode : Mode) (going : Going) (line : List ℕ) → (next_in mode going line).mode ≡ going.mode
-mode_next Key going line = refl
-mode_next mode going line = refl
-
-mode_within : (many : ℕ) (going : Going) (line : List ℕ) → (state_within lines_steps many going line).mode ≡ going.mode
-unfolding state_within
-mode_within many going line = mode_next going.mode going (take (many + 1) line)
-
-mode_line : (many : ℕ) (going : Going) (line : List ℕ) → (line_next lines_steps many going line).mode ≡ going.mode
-unfolding line_next
-mode_line many going line =
-    elim (nat_lt many (length line)) as (λ t. (if t then state_within lines_steps many going line else next_in going.mode going line).mode ≡ going.mode) [
-      | true ↦ mode_within many going line
-      | false ↦ mode_next going.mode going line
-    ]
-
-mode_after : (many : ℕ) (going : Going) (some : List (List ℕ)) → (after lines_steps many going some).mode ≡ going.mode
-unfolding after
-mode_after many going [] = refl
-mode_after many going (line ∷ others) = mode_after many (line_next lines_steps many going line) others ∙ mode_line many going line
+end_of mode is = of_keyed (λ mode. last_end mode ≡ line_feed ∷ []) refl refl mode is
 
 -- ---- the output is written line by line
 
-if_else : (t : Bool) (one other : List ℕ) → t ≡ false → (if t then one else other) ≡ other
-if_else true one other e = absurd cc
-if_else false one other e = refl
-
-same_if : (t : Bool) (a b c d : List ℕ) → a ≡ c → b ≡ d → (if t then a else b) ≡ (if t then c else d)
-same_if true a b c d e f = e
-same_if false a b c d e f = f
-
 last_is : (many : ℕ) (going : Going) → IsKeyed going.mode → (part : List ℕ) → last_part_said lines_steps many going part ≡ written lines_steps many going (if_nonempty part)
-unfolding last_part_said written line_said
-last_is many going keyed [] = if_else (nat_lt many 0) _ [] (is_no_longer many 0 (omega arith))
-last_is many going keyed (byte ∷ bytes) =
-    let part : List ℕ = byte ∷ bytes in
-    let within : Going = state_within lines_steps many going part in
-    let P : Mode → Type 0 = λ mode. IsKeyed mode in
-    let still : IsKeyed within.mode = subst P (sym (mode_within many going part)) keyed in
-    same_if (nat_lt many (length part)) _ _ _ _
-    (ap (λ (end : List ℕ). opened lines_steps many going part ++ end_in within.mode end) (end_of within.mode still))
-    (ap (λ (end : List ℕ). text_in going.mode going part ++ end) (end_of going.mode keyed))
-    ∙ sym (append-nil _)
+unfolding last_part_said written line_said state_within
+last_is many going keyed [] = rw (is_no_longer many 0 (omega arith)) refl
+last_is many going keyed (byte ∷ bytes) = rw (not_explained going.mode keyed, end_of going.mode keyed) (sym (append-nil _))
 
 pub output_is : (many : ℕ) (going : Going) → IsKeyed going.mode → (stream : List ℕ) → output lines_steps going many stream ≡ written lines_steps many going (lines stream)
 unfolding output lines
 output_is many going keyed stream =
-    let later : Going = after lines_steps many going (whole_lines stream) in
-    let P : Mode → Type 0 = λ mode. IsKeyed mode in
-    let still : IsKeyed later.mode = subst P (sym (mode_after many going (whole_lines stream))) keyed in
-    ap (λ (text : List ℕ). written lines_steps many going (whole_lines stream) ++ text) (last_is many later still (last_part stream))
+    let still = after_lines (λ later. IsKeyed later.mode) (λ later line is. elim (is_explain later.mode) as (λ explains. IsKeyed (if explains then later else below later line).mode) [ true ↦ is | false ↦ is ]) many going (whole_lines stream) keyed in
+    ap (λ (text : List ℕ). written lines_steps many going (whole_lines stream) ++ text) (last_is many (after lines_steps many going (whole_lines stream)) still (last_part stream))
     ∙ sym (written-append Going lines_steps many going (whole_lines stream) (if_nonempty (last_part stream)))
 
 -- ---- without their keys
@@ -165,17 +125,15 @@ module _ (label : Option (List ℕ)) (is_label : IsLabel label) where
       }
 
 written_lines : (going : Going) → IsKeyed going.mode → IsLabel going.label → is_field going.key ≡ true → (some : List (List ℕ)) → Frees some → AreLines going.label (written lines_steps (near going.mode going.search.limit) going some) some
-unfolding written key_of_line
+unfolding written
 written_lines going keys is_label is [] free = none_are going.label [] refl
 written_lines going keys is_label is (line ∷ others) free =
     let many : ℕ = near going.mode going.search.limit in
     let key_is = line_field going line is in
-    let rest = written_lines (below going line) keys is_label (below_field going.mode going.key (key_of_line going line) is key_is) others free.1 in
-    let hands = keyed_hands going.mode keys in
+    let rest = written_lines (below going line) keys is_label (either_field (is_carry going.mode) going.key (key_of_line going line) is key_is) others free.1 in
+    let hands = not_explained going.mode keys in
     one_more going.label is_label (key_of_line going line) line _ (written lines_steps many (below going line) others) others key_is free.0
-    (ap (λ (text : List ℕ). text ++ written lines_steps many (line_next lines_steps many going line) others) (handed_said going line hands ∙ ap (λ (text : List ℕ). text ++ line_feed ∷ []) (text_of going.mode keys going line))
-    ∙ ap (λ (next : Going). (keyed going line ++ line_feed ∷ []) ++ written lines_steps many next others) (handed_next going line hands))
-    rest
+    (rw (handed_said going line hands, handed_next going line hands, text_of going.mode keys going line) refl) rest
 
 pub without_keys : (going : Going) (stream : List ℕ) → IsKeyed going.mode → IsLabel going.label → is_field going.key ≡ true
     → map (without_fields going.label) (lines (output lines_steps going (near going.mode going.search.limit) stream)) ≡ lines stream

@@ -1,11 +1,9 @@
 -- What the sources say of a line, each of which reads it as a whole.
-use Rattle.std.specs.Prelude.{◌≡◌, ℕ, ◌+◌, ◌==◌, List, [], ◌∷◌, ◌++◌, Option, None, Some, Result, Ok, Err, IsErr, if◌then◌else◌, unwrap_or}
+use Rattle.std.specs.Prelude.{◌≡◌, ℕ, ◌+◌, ◌==◌, List, [], ◌∷◌, ◌++◌, Option, None, Some, Ok, IsErr, is_ok, if◌then◌else◌, unwrap_or}
 use Rattle.std.specs.Fmt.{decimal}
 use Rattle.std.specs.List.{All}
-use Rattle.std.specs.Option.{option_or}
 use Rattle.base.specs.Bytes.{tab}
 use Rattle.datetime_wall.specs.Wall.{Shown}
-use Rattle.parsing_combinator.specs.Fault.{Fault}
 use Rattle.instants_sources.specs.Grammar.{Grammar}
 use Rattle.instants_sources.specs.Named.{named}
 use Rattle.instants_timeline.specs.Place.{Setting, shown_or_refused, place_text}
@@ -18,19 +16,10 @@ text_by setting line grammar = place_text (shown_or_refused setting.target (name
 unfoldable pub said_by : Setting → List ℕ → ℕ → Grammar → List ℕ
 said_by setting line number grammar = (decimal number ++ tab ∷ []) ++ text_by setting line grammar
 
--- a text, where a moment is named
-abbrev pub where_named : Result Shown Fault → List ℕ → Option (List ℕ)
-where_named (Ok moment) text = Some text
-where_named (Err fault) text = None
-
--- what a source says of a line for which it names a moment
-unfoldable pub answer_by : Setting → List ℕ → ℕ → Grammar → Option (List ℕ)
-answer_by setting line number grammar = where_named (named setting.assumed grammar line) (said_by setting line number grammar)
-
 -- what the first source says that names a moment; the sources are numbered from here on
 unfoldable pub first_answer : Setting → List ℕ → ℕ → List Grammar → Option (List ℕ)
 first_answer setting line number [] = None
-first_answer setting line number (grammar ∷ others) = option_or (answer_by setting line number grammar) (first_answer setting line (number + 1) others)
+first_answer setting line number (grammar ∷ others) = if is_ok (named setting.assumed grammar line) then Some (said_by setting line number grammar) else first_answer setting line (number + 1) others
 
 -- a tab stands before each number but 1
 abbrev pub parted : ℕ → List ℕ

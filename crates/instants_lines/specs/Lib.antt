@@ -3,6 +3,7 @@ pub mod Explained
 pub mod Located
 pub mod Lacking
 pub mod Going
+pub mod Joining
 pub mod Fields
 pub mod Asked
 pub mod Showing

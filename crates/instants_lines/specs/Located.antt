@@ -1,7 +1,8 @@
 -- Where the date of a line is, and by which source, or why it is in doubt.
-use Rattle.std.specs.Prelude.{ℕ, zero, suc, ◌+◌, List, [], ◌∷◌, ◌++◌, length, codes, Option, None, Some}
+use Rattle.std.specs.Prelude.{ℕ, ◌+◌, List, [], ◌∷◌, ◌++◌, codes, Option, None, Some}
 use Rattle.std.specs.Fmt.{decimal}
 use Rattle.base.specs.Bytes.{tab, hyphen}
+use Rattle.instants_sources.specs.Grammar.{Grammar}
 use Rattle.instants_found.specs.Doubts.{doubt_of}
 use Rattle.instants_found.specs.declared.doubt.Doubt.{Doubt}
 use Rattle.instants_found.specs.declared.doubt.Doubt.TheVariants.{After, ClockBefore, AnotherOffset, AnotherTime, AnotherYear}
@@ -31,15 +32,15 @@ abbrev pub doubt_text : ℕ → Option Doubted → List ℕ
 doubt_text number None = []
 doubt_text number (Some one) = read_text number one.start one.end ++ tab ∷ reason one.doubt
 
--- the same of so many sources, the first ones, at a place
-unfoldable pub doubts_of_first : Search → List ℕ → ℕ → ℕ → List ℕ
-doubts_of_first search line place zero = []
-doubts_of_first search line place (suc count) = doubts_of_first search line place count ++ doubt_text count (doubt_of search.limit search.given search.setting.sources line place count)
+-- the same of each of these sources, the first of which has this number, at a place
+unfoldable pub doubts_from : Search → List ℕ → ℕ → ℕ → List Grammar → List ℕ
+doubts_from search line place number [] = []
+doubts_from search line place number (grammar ∷ others) = doubt_text number (doubt_of search.limit search.given search.setting.sources line place number) ++ doubts_from search line place (number + 1) others
 
 -- the key of a line by its date, with what has read it
 abbrev pub finding_text : Search → List ℕ → Option Finding → List ℕ
 finding_text search line None = codes "! none"
-finding_text search line (Some (Doubtful place)) = doubt ++ doubts_of_first search line place (length search.setting.sources)
+finding_text search line (Some (Doubtful place)) = doubt ++ doubts_from search line place 0 search.setting.sources
 finding_text search line (Some (There date)) = key_of_date search.setting date ++ read_text date.source date.start date.end
 
 unfoldable pub located : Search → List ℕ → List ℕ

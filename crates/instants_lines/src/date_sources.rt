@@ -3,13 +3,14 @@
 mod calls;
 
 use calendar::UtcOffset;
+pub(crate) use calls::first_lacking;
 use instants_answers::Target;
 use instants_found::Finder;
 
 /// Sources that are looked for in lines, the offset that they assume for whole lines, and the target at which moments are shown.
 #[derive(Drop)]
 pub(crate) struct DateSources<'a> {
-    finder: Finder<'a>,
-    assumed: Option<UtcOffset>,
-    target: Target,
+    pub(crate) finder: Finder<'a>,
+    pub(crate) assumed: Option<UtcOffset>,
+    pub(crate) target: Target,
 }

@@ -1,24 +1,10 @@
 //! How deep a line begins.
-ghost use Rattle.std.specs.Prelude.{◌≡◌, ◌≤◌, take, length};
-ghost use Rattle.instants_lines.specs.Going.{depth, width};
-
-use instants_edges::byte_at;
+ghost use Rattle.std.specs.Prelude.{◌≡◌, ◌≤◌, ◌==◌, ◌||◌, not, position, take, length};
+ghost use Rattle.base.specs.Bytes.{space, tab};
+ghost use Rattle.instants_lines.specs.Going.{depth, margin};
 
 // Bytes of a line among which its white space is looked at.
 const WINDOW: usize = 256;
-
-// The columns of a space and of a tab.
-#[inline(always)]
-fn width(byte: u8) -> usize
-    ensures value { result ≡ width byte }
-    ensures bound { result ≤ 8 }
-{
-    match byte {
-        b' ' => 1,
-        b'\t' => 8,
-        _ => 0,
-    }
-}
 
 // The first bytes of a line.
 #[inline(always)]
@@ -30,18 +16,33 @@ fn first_bytes(line: &[u8]) -> &[u8]
     &line[..WINDOW.min(line.len())]
 }
 
+// Where the first byte stands that is no space and no tab.
+fn margin_len(bytes: &[u8]) -> Option<usize>
+    ensures { result ≡ position (λ byte. not (byte == space || byte == tab)) bytes.now }
+{
+    bytes
+        .iter()
+        .position(|byte| *byte != b' ' && *byte != b'\t')
+}
+
+// The spaces and tabs before it, of the first bytes of a line.
+fn margin(line: &[u8]) -> &[u8]
+    ensures bytes { result.now ≡ margin (take 256 line.now) }
+    ensures few { length result.now ≤ 256 }
+{
+    let near = first_bytes(line);
+    match margin_len(near) {
+        Some(len) => &near[..len],
+        None => near,
+    }
+}
+
 /// How deep a line begins, in steps of two columns of white space; a tab is eight columns.
+#[tactic(auto, unfolding(crate::specs::Going::depth))]
 pub(crate) fn depth(line: &[u8]) -> usize
     ensures { result ≡ depth line.now }
 {
-    let near = first_bytes(line);
-    let mut columns = 0;
-    for place in 0..near.len() {
-        let more = width(byte_at(near, place));
-        if more == 0 {
-            return columns / 2;
-        }
-        columns += more;
-    }
-    columns / 2
+    let margin = margin(line);
+    let tabs = margin.iter().filter(|byte| **byte == b'\t').count();
+    (margin.len() + 7 * tabs) / 2
 }

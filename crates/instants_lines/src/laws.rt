@@ -1,5 +1,5 @@
 //! Laws of what is written, each the contract of a function.
-ghost use Rattle.std.specs.Prelude.{◌≡◌, ◌<◌, ◌≤◌, ◌↔◌, ◌⊎◌, ◌+◌, ℕ, true, false, Option, List, [], ◌∷◌, ◌++◌, Some, None, Ok, Err, length, take, drop, map, decimal, IsOk};
+ghost use Rattle.std.specs.Prelude.{◌≡◌, ◌<◌, ◌≤◌, ◌↔◌, ◌+◌, ℕ, true, false, Option, List, [], ◌∷◌, ◌++◌, Some, None, Ok, Err, length, take, drop, map, decimal, IsOk};
 ghost use Rattle.std.specs.Ordering.{nat_cmp, int_cmp};
 ghost use Rattle.std.specs.Cmp.Lexicographic.{slice_cmp};
 ghost use Rattle.base.specs.Bytes.{tab, line_feed};
@@ -20,9 +20,10 @@ ghost use Rattle.instants_faults.specs.Refusal.{Refusal};
 ghost use Rattle.instants_lines.specs.Dates.{Search, date_in, place_of_date, key_of_date, replaced};
 ghost use Rattle.instants_lines.specs.Explained.{IsFirstToName, explained};
 ghost use Rattle.instants_lines.specs.Fields.{IsLabel, is_field, without_fields};
-ghost use Rattle.instants_lines.specs.Going.{Going, below, beginning, depth, goes_on, hands_on, key_of_line, lines_steps, near, text_in};
+ghost use Rattle.instants_lines.specs.Going.{Going, IsKeyed, below, beginning, depth, goes_on, is_explain, key_of_line, lines_steps, near, text_in};
+ghost use Rattle.instants_lines.specs.Joining.{AreJoined, IsEnded};
 ghost use Rattle.instants_lines_words.specs.declared.mode.Mode.{Mode};
-ghost use Rattle.instants_lines_words.specs.declared.mode.Mode.TheVariants.{Key, Carry, Explain};
+ghost use Rattle.instants_lines_words.specs.declared.mode.Mode.TheVariants.{Carry, Explain};
 
 pub use instants_lines_words::laws::words_in_full;
 use parsing_parsable::laws::{two_roads_of_rfc2822, two_roads_of_rfc3339};
@@ -96,30 +97,19 @@ pub fn order_of_keys()
 /// explained, and in modes `key` and `replace` where no year is given; and in mode `carry`, where none is, what is kept
 /// counts for nothing if the second stream begins with a line at the margin in which a date is found, be it in doubt.
 pub fn joined_streams()
-    ensures joined { (going : Going) (limit : ℕ) (first second : List ℕ)
-        → ((first ≡ []) ⊎ ((prefix : List ℕ) × (first ≡ prefix ++ line_feed ∷ [])))
-        → output lines_steps going limit (first ++ second)
-        ≡ output lines_steps going limit first
-        ++ output lines_steps (after lines_steps limit going (whole_lines first)) limit second }
+    ensures joined { (going : Going) (limit : ℕ) (first second : List ℕ) → IsEnded first
+        → AreJoined going (after lines_steps limit going (whole_lines first)) limit first second }
     ensures others { (going : Going) (limit : ℕ) (first second : List ℕ)
-        → (going.mode ≡ Carry → ⊥) → going.search.given.years ≡ Unknown
-        → ((first ≡ []) ⊎ ((prefix : List ℕ) × (first ≡ prefix ++ line_feed ∷ [])))
-        → output lines_steps going limit (first ++ second)
-        ≡ output lines_steps going limit first ++ output lines_steps going limit second }
+        → (going.mode ≡ Carry → ⊥) → going.search.given.years ≡ Unknown → IsEnded first
+        → AreJoined going going limit first second }
     ensures explained { (going : Going) (limit : ℕ) (first second : List ℕ)
-        → going.mode ≡ Explain
-        → ((first ≡ []) ⊎ ((prefix : List ℕ) × (first ≡ prefix ++ line_feed ∷ [])))
-        → output lines_steps going limit (first ++ second)
-        ≡ output lines_steps going limit first ++ output lines_steps going limit second }
+        → going.mode ≡ Explain → IsEnded first → AreJoined going going limit first second }
     ensures carry { (going : Going) (first second line : List ℕ) (others : List (List ℕ))
         (finding : Finding)
-        → going.mode ≡ Carry → going.search.given.years ≡ Unknown
-        → ((first ≡ []) ⊎ ((prefix : List ℕ) × (first ≡ prefix ++ line_feed ∷ [])))
+        → going.mode ≡ Carry → going.search.given.years ≡ Unknown → IsEnded first
         → lines second ≡ line ∷ others → depth line ≡ 0
         → date_in going.search line ≡ Some finding
-        → output lines_steps going (near going.mode going.search.limit) (first ++ second)
-        ≡ output lines_steps going (near going.mode going.search.limit) first
-        ++ output lines_steps going (near going.mode going.search.limit) second }
+        → AreJoined going going (near going.mode going.search.limit) first second }
 {}
 
 /// Where a source names a moment for a line, mode `explain` gives the number of the first one that does, the least, and the
@@ -132,13 +122,13 @@ pub fn explained_answer()
         ≡ (decimal (length first.before + 1) ++ tab ∷ []) ++ answer_to setting line) }
 {}
 
-/// Where the rest of a long line is handed on, what is written for a line of any length is its text and a line feed, as if it
-/// had been looked at whole, and so is what is kept for the lines below it.
+/// Where lines are not explained, what is written for a line of any length is its text and a line feed, as if it had been looked at
+/// whole, and so is what is kept for the lines below it.
 pub fn handed_on()
-    ensures said { (going : Going) (line : List ℕ) → hands_on going.mode ≡ true
+    ensures said { (going : Going) (line : List ℕ) → is_explain going.mode ≡ false
         → line_said lines_steps (near going.mode going.search.limit) going line
         ≡ text_in going.mode going line ++ line_feed ∷ [] }
-    ensures next { (going : Going) (line : List ℕ) → hands_on going.mode ≡ true
+    ensures next { (going : Going) (line : List ℕ) → is_explain going.mode ≡ false
         → line_next lines_steps (near going.mode going.search.limit) going line
         ≡ below going line }
 {}
@@ -147,12 +137,12 @@ pub fn handed_on()
 /// where there is one, are the lines of the stream.
 pub fn without_keys()
     ensures from_beginning { (mode : Mode) (label : Option (List ℕ)) (search : Search)
-        (stream : List ℕ) → ((mode ≡ Key) ⊎ (mode ≡ Carry)) → IsLabel label
+        (stream : List ℕ) → IsKeyed mode → IsLabel label
         → map (without_fields label)
         (lines (output lines_steps (beginning mode label search) (near mode search.limit) stream))
         ≡ lines stream }
     ensures from_anywhere { (going : Going) (stream : List ℕ)
-        → ((going.mode ≡ Key) ⊎ (going.mode ≡ Carry)) → IsLabel going.label
+        → IsKeyed going.mode → IsLabel going.label
         → is_field going.key ≡ true
         → map (without_fields going.label)
         (lines (output lines_steps going (near going.mode going.search.limit) stream))

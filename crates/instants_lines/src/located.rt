@@ -1,28 +1,33 @@
 //! Where the date of a line is, and by which source, or why it is in doubt.
-ghost use Rattle.std.specs.Prelude.{◌≡◌, ◌<◌, ◌≤◌, ◌+◌, ◌^◌, [], ◌∷◌, ◌++◌, length, false, Some, IfSome};
+ghost use Rattle.std.specs.Prelude.{◌≡◌, ◌<◌, ◌≤◌, ◌+◌, ◌^◌, ◌++◌, length, map, false, IfSome};
+ghost use Rattle.instants_prefixes.specs.DateSource.{grammar_in};
 ghost use Rattle.instants_found.specs.Doubts.{doubt_of};
 ghost use Rattle.instants_found.specs.Found.{looked_at};
 ghost use Rattle.instants_found.specs.Within.{IsWithin};
-ghost use Rattle.instants_lines.specs.Dates.{doubt, key_of_date};
 ghost use Rattle.instants_lines.specs.Showing.{search_in, setting_in};
-ghost use Rattle.instants_lines.specs.Located.{doubt_text, doubts_of_first, finding_text, range_text, read_text, reason};
+ghost use Rattle.instants_lines.specs.Located.{doubt_text, doubts_from, finding_text, read_text, reason};
 ghost use Rattle.instants_lines.specs.Wrote.{Wrote};
 
 use crate::date_sources::DateSources;
-use crate::decimals::{numbered, push_decimal};
+use crate::decimals::push_decimal;
 use crate::parts::{write_both, write_three};
 use instants_answers::Answer;
-use instants_found::{Doubt, Doubted, Finding, Found};
-use instants_prefixes::Given;
+use instants_found::{Doubt, Finding};
+use instants_prefixes::{DateSource, Given};
 use instants_stream::{ByteWriter, DeviceFailed};
+use instants_timeline::answer_named;
 
-// The bytes from one place up to another: the first and the last, counted from 1.
+// What a source of this number has read: its number, counted from 1, and the first byte and the last, counted from 1.
 #[tactic(auto, using(crate::proofs::Digits::decimal_steps))]
-fn range(start: usize, end: usize) -> Answer
-    requires { start + 1 < 2 ^ 64 }
-    ensures { result ≡ range_text start end }
+fn read_text(number: usize, start: usize, end: usize) -> Answer
+    requires number { number + 1 < 2 ^ 64 }
+    requires start { start + 1 < 2 ^ 64 }
+    ensures { result ≡ read_text number start end }
 {
     let mut answer = Answer::new();
+    answer.push(b'\t');
+    push_decimal(&mut answer, number + 1);
+    answer.push(b'\t');
     push_decimal(&mut answer, start + 1);
     answer.push(b'-');
     push_decimal(&mut answer, end);
@@ -42,43 +47,7 @@ fn reason(doubt: Doubt) -> &'static [u8]
     }
 }
 
-// Writes what a source of this number has read: its number, counted from 1, and where.
-fn write_read<W: ByteWriter>(
-    number: usize,
-    start: usize,
-    end: usize,
-    writer: &mut W,
-) -> Result<(), DeviceFailed>
-    requires works { W.failed writer.old ≡ false }
-    requires number { number + 1 < 2 ^ 64 }
-    requires start { start + 1 < 2 ^ 64 }
-    ensures { Wrote W.ByteWriter writer.old writer.new result (read_text number start end) }
-{
-    write_three(
-        writer,
-        b"\t",
-        numbered(number + 1).as_bytes(),
-        range(start, end).as_bytes(),
-    )
-}
-
-// Writes what a source of this number has read that is in doubt, and why.
-#[tactic(auto, using(crate::proofs::Turns::in_turn))]
-fn write_doubted<W: ByteWriter>(
-    number: usize,
-    one: &Doubted,
-    writer: &mut W,
-) -> Result<(), DeviceFailed>
-    requires works { W.failed writer.old ≡ false }
-    requires number { number + 1 < 2 ^ 64 }
-    requires start { one.now.start + 1 < 2 ^ 64 }
-    ensures { Wrote W.ByteWriter writer.old writer.new result (doubt_text number (Some one.now)) }
-{
-    write_read(number, one.start, one.end, writer)?;
-    write_both(writer, b"\t", reason(one.doubt))
-}
-
-// The same of what a source has read at a place, where that is in doubt.
+// Writes what a source has read at a place that is in doubt, and why.
 fn write_doubt<W: ByteWriter>(
     dates: &DateSources<'_>,
     given: &Given,
@@ -94,71 +63,42 @@ fn write_doubt<W: ByteWriter>(
         (doubt_text number (doubt_of (search_in dates.now given.now).limit given.now
         (search_in dates.now given.now).setting.sources line.now place number)) }
 {
-    match dates.doubt_of(given, line, place, number) {
-        Some(one) => write_doubted(number, &one, writer),
+    match dates.finder.doubt_of(given, line, place, number) {
+        Some(one) => {
+            let read = read_text(number, one.start, one.end);
+            write_three(writer, read.as_bytes(), b"\t", reason(one.doubt))
+        }
         None => Ok(()),
     }
 }
 
-// Writes the same of all sources.
+// Writes the same of each of these sources, which are numbered from here on. The call for those after the first one is the last
+// thing that a call does.
+#[tactic(auto, using(crate::proofs::Turns::in_turn), unfolding(crate::specs::Located::doubts_from))]
 fn write_doubts<W: ByteWriter>(
     dates: &DateSources<'_>,
+    sources: &[DateSource<'_>],
     given: &Given,
     line: &[u8],
     place: usize,
+    number: usize,
     writer: &mut W,
 ) -> Result<(), DeviceFailed>
     requires works { W.failed writer.old ≡ false }
+    requires number { number + length sources.now < 2 ^ 64 }
     requires place { place < length (looked_at (search_in dates.now given.now).limit line.now) }
     ensures { Wrote W.ByteWriter writer.old writer.new result
-        (doubts_of_first (search_in dates.now given.now) line.now place
-        (length (search_in dates.now given.now).setting.sources)) }
+        (doubts_from (search_in dates.now given.now) line.now place number (map grammar_in sources.now)) }
 {
-    let sources = dates.sources();
-    for number in 0..sources.len() {
-        write_doubt(dates, given, line, place, number, writer)?;
-    }
-    Ok(())
-}
-
-// Writes the key of a date, and what has read it.
-#[tactic(auto, using(crate::proofs::Turns::in_turn), unfolding(crate::specs::Dates::place_of_date))]
-fn write_date<W: ByteWriter>(
-    dates: &DateSources<'_>,
-    date: &Found,
-    writer: &mut W,
-) -> Result<(), DeviceFailed>
-    requires works { W.failed writer.old ≡ false }
-    requires start { date.now.start + 1 < 2 ^ 64 }
-    requires source { date.now.source + 1 < 2 ^ 64 }
-    ensures { Wrote W.ByteWriter writer.old writer.new result
-        (key_of_date (setting_in dates.now) date.now
-        ++ read_text date.now.source date.now.start date.now.end) }
-{
-    writer.write_all(dates.answer_named(&date.moment).as_bytes())?;
-    write_read(date.source, date.start, date.end, writer)
-}
-
-// Writes that a date is in doubt, and what all sources have read that is.
-#[tactic(auto, using(crate::proofs::Turns::in_turn))]
-fn write_in_doubt<W: ByteWriter>(
-    dates: &DateSources<'_>,
-    given: &Given,
-    line: &[u8],
-    place: usize,
-    writer: &mut W,
-) -> Result<(), DeviceFailed>
-    requires works { W.failed writer.old ≡ false }
-    requires place { place < length (looked_at (search_in dates.now given.now).limit line.now) }
-    ensures { Wrote W.ByteWriter writer.old writer.new result
-        (doubt ++ doubts_of_first (search_in dates.now given.now) line.now place
-        (length (search_in dates.now given.now).setting.sources)) }
-{
-    writer.write_all(b"! doubt")?;
-    write_doubts(dates, given, line, place, writer)
+    let Some((_, others)) = sources.split_first() else {
+        return Ok(());
+    };
+    write_doubt(dates, given, line, place, number, writer)?;
+    write_doubts(dates, others, given, line, place, number + 1, writer)
 }
 
 /// Writes the key of a line by its date, and what has read it.
+#[tactic(auto, using(crate::proofs::Turns::in_turn), unfolding(crate::specs::Dates::place_of_date))]
 pub(crate) fn write_finding<W: ByteWriter>(
     dates: &DateSources<'_>,
     given: &Given,
@@ -173,8 +113,23 @@ pub(crate) fn write_finding<W: ByteWriter>(
         (finding_text (search_in dates.now given.now) line.now finding.now) }
 {
     match finding {
-        Some(Finding::There(date)) => write_date(dates, date, writer),
-        Some(Finding::Doubtful(place)) => write_in_doubt(dates, given, line, *place, writer),
+        Some(Finding::There(date)) => {
+            let key = answer_named(dates.target, &date.moment);
+            let read = read_text(date.source, date.start, date.end);
+            write_both(writer, key.as_bytes(), read.as_bytes())
+        }
+        Some(Finding::Doubtful(place)) => {
+            writer.write_all(b"! doubt")?;
+            write_doubts(
+                dates,
+                dates.finder.sources(),
+                given,
+                line,
+                *place,
+                0,
+                writer,
+            )
+        }
         None => writer.write_all(b"! none"),
     }
 }

@@ -42,68 +42,34 @@ pub(crate) fn write_three<W: ByteWriter>(
     write_both(writer, second, third)
 }
 
-/// Writes three parts and a line feed.
+// Writes a label and a tab, where there is one. It is looked at where it is written, so that it takes no register before.
 #[inline(always)]
-#[tactic(auto, using(crate::proofs::Turns::in_turn))]
-pub(crate) fn write_parts<W: ByteWriter>(
-    writer: &mut W,
-    first: &[u8],
-    second: &[u8],
-    third: &[u8],
-) -> Result<(), DeviceFailed>
+fn write_label<W: ByteWriter>(writer: &mut W, label: &Option<&str>) -> Result<(), DeviceFailed>
     requires { W.failed writer.old ≡ false }
     ensures { Wrote W.ByteWriter writer.old writer.new result
-        ((first.now ++ (second.now ++ third.now)) ++ line_feed ∷ []) }
-{
-    write_three(writer, first, second, third)?;
-    writer.write_all(b"\n")
-}
-
-// Writes a line and a line feed.
-#[inline(always)]
-#[tactic(auto, using(crate::proofs::Turns::in_turn))]
-fn write_fed<W: ByteWriter>(writer: &mut W, line: &[u8]) -> Result<(), DeviceFailed>
-    requires { W.failed writer.old ≡ false }
-    ensures { Wrote W.ByteWriter writer.old writer.new result (line.now ++ line_feed ∷ []) }
-{
-    writer.write_all(line)?;
-    writer.write_prefix(&LINE_FEED, 1)
-}
-
-/// Writes a line after its label.
-#[inline(always)]
-#[tactic(auto, using(std::proofs::lemmas::List::append_assoc))]
-pub(crate) fn write_labelled<W: ByteWriter>(
-    writer: &mut W,
-    label: Option<&str>,
-    line: &[u8],
-) -> Result<(), DeviceFailed>
-    requires { W.failed writer.old ≡ false }
-    ensures { Wrote W.ByteWriter writer.old writer.new result
-        (label_prefix (option_map (λ text. text.now) label.entry) ++ line.now) }
+        (label_prefix (option_map (λ text. text.now) label.now)) }
 {
     match label {
-        Some(text) => write_three(writer, text.as_bytes(), b"\t", line),
-        None => writer.write_all(line),
+        Some(text) => write_both(writer, text.as_bytes(), b"\t"),
+        None => Ok(()),
     }
 }
 
-// The same, and a line feed. The label is looked at where it is written, so that it takes no register before.
-#[inline(always)]
-#[tactic(auto, using(std::proofs::lemmas::List::append_assoc))]
-fn write_labelled_line<W: ByteWriter>(
+/// Writes a part, and a line after its label.
+#[tactic(auto, using(crate::proofs::Turns::in_turn))]
+pub(crate) fn write_labelled<W: ByteWriter>(
     writer: &mut W,
+    part: &[u8],
     label: &Option<&str>,
     line: &[u8],
 ) -> Result<(), DeviceFailed>
     requires { W.failed writer.old ≡ false }
     ensures { Wrote W.ByteWriter writer.old writer.new result
-        (label_prefix (option_map (λ text. text.now) label.now) ++ (line.now ++ line_feed ∷ [])) }
+        (part.now ++ (label_prefix (option_map (λ text. text.now) label.now) ++ line.now)) }
 {
-    match label {
-        Some(text) => write_parts(writer, text.as_bytes(), b"\t", line),
-        None => write_fed(writer, line),
-    }
+    writer.write_all(part)?;
+    write_label(writer, label)?;
+    writer.write_all(line)
 }
 
 /// An answer and a tab.
@@ -133,5 +99,7 @@ pub(crate) fn write_keyed<W: ByteWriter>(
 {
     let (bytes, len) = answer.padded();
     writer.write_prefix(bytes, len)?;
-    write_labelled_line(writer, label, line)
+    write_label(writer, label)?;
+    writer.write_all(line)?;
+    writer.write_prefix(&LINE_FEED, 1)
 }

@@ -16,7 +16,7 @@ ghost use Rattle.instants_lines.specs.Lacking.{lacking_in};
 ghost use Rattle.instants_lines.specs.Program.{AsksFor, IsBeforeRun, IsMemory, IsOfWords, IsReportedAs, run_of, writing, wrong_in};
 ghost use Rattle.instants_lines.specs.declared.lacking.Lacking.{Lacking};
 
-use crate::date_sources::DateSources;
+use crate::date_sources::{DateSources, first_lacking};
 use crate::line_writer::LineWriter;
 use crate::lines_fault::LinesFault;
 use calendar::UtcOffset;
@@ -135,7 +135,7 @@ pub fn run_words<'a, R: ByteReader, W: ByteWriter>(
     let (timeline, limit) = asked_timeline(alloc, filled.as_slice())?;
     let given = given_by(&asked, timeline.assumed());
     let dates = DateSources::of_timeline(alloc, timeline, limit)?;
-    if let Some(lacking) = dates.lacking(&given) {
+    if let Some(lacking) = first_lacking(dates.finder.sources(), 1, &given) {
         return Err(LinesFault::Lacks(lacking));
     }
     let lines = LinesAsked {

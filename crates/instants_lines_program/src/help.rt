@@ -6,7 +6,7 @@ ghost use Rattle.std.specs.Str.{bytes_eq};
 pub(crate) const VERSION: &str = "instants-lines 0.1.0";
 
 pub(crate) const HELP: &str = "\
-instants-lines MODE [TARGET [ASSUMED [LIMIT]]] [year N] [time HH:MM]
+instants-lines [-q] MODE [TARGET [ASSUMED [LIMIT]]] [year N] [time HH:MM]
                [label TEXT] SOURCE...
     reads lines from standard input, finds the date-time of each, and writes
     the line to standard output with that at one offset
@@ -16,6 +16,8 @@ instants-lines guess
     machine that wrote the lines in the place of OFFSET, and the year of the
     first one in that of YEAR
 
+    -q       no warnings: of a description that names no component, of packed
+             input, and of lines none of which has a date
     MODE     key      the line after the date-time and a tab; `! none` where it
                       has no date-time, `! doubt` where that is in doubt, `! year`
                       where the year is not written

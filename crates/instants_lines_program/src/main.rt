@@ -1,4 +1,4 @@
-//! `instants-lines MODE [TARGET [ASSUMED [LIMIT]]] [year N] [time HH:MM] SOURCE...`: reads lines with dates in them from
+//! `instants-lines [-q] MODE [TARGET [ASSUMED [LIMIT]]] [year N] [time HH:MM] SOURCE...`: reads lines with dates in them from
 //! standard input, and writes each to standard output: after the date-time at the target offset, or with that in place of
 //! its date. `instants-lines guess`: writes which formats date the lines of standard input.
 #![tactic(auto)]
@@ -7,11 +7,13 @@ mod bare;
 mod help;
 mod noting;
 mod packed;
+mod watching;
 
 use crate::bare::warn_of_bare;
 use crate::help::{HELP, text_for};
 use crate::noting::Noting;
 use crate::packed::Looking;
+use crate::watching::{Watching, asks_keys, warn_of_undated};
 use instants_formats::formats;
 use instants_guess::guess;
 use instants_lines::{
@@ -77,24 +79,32 @@ fn shown(rt: &HostRuntime, text: &str) -> ExitCode {
 fn write_input(rt: &HostRuntime, words: &Vec<String>) -> ExitCode {
     let words = words.iter().skip(1).map(|word| word.as_str());
     match words.collect::<Vec<&str>>(rt.alloc()) {
-        Ok(words) => {
-            warn_of_bare(rt, words.as_slice());
-            write_by(rt, words.as_slice())
-        }
+        Ok(words) => write_quietly(rt, words.as_slice()),
         Err(fault) => ended(rt, Err(LinesFault::from(fault)), None),
     }
 }
 
+// Writes what these words ask for; after `-q` without warnings.
+fn write_quietly(rt: &HostRuntime, words: &[&str]) -> ExitCode {
+    match words {
+        [first, others @ ..] if *first == "-q" => write_by(rt, others, true),
+        _ => {
+            warn_of_bare(rt, words);
+            write_by(rt, words, false)
+        }
+    }
+}
+
 // Writes what these words ask for.
-fn write_by(rt: &HostRuntime, words: &[&str]) -> ExitCode {
+fn write_by(rt: &HostRuntime, words: &[&str], is_quiet: bool) -> ExitCode {
     let Ok(block) = vec![in rt.alloc(); 0; BLOCK] else {
         return ended(rt, Err(LinesFault::Program(ProgramFault::Memory)), None);
     };
     let Ok(own_rt) = rt.clone() else {
         return ended(rt, Err(LinesFault::Program(ProgramFault::Memory)), None);
     };
-    let mut input = Noting::new(Looking::new(own_rt, rt.stdin()));
-    let mut output = Noting::new(rt.stdout());
+    let mut input = Noting::new(Looking::new(own_rt, rt.stdin(), is_quiet));
+    let mut output = Noting::new(Watching::new(rt.stdout()));
     let mut reader = StdReader::new(&mut input);
     let mut writer = BlockWriter::new(block, StdWriter::new(&mut output));
     let end = if asks_guess(words) {
@@ -107,6 +117,9 @@ fn write_by(rt: &HostRuntime, words: &[&str]) -> ExitCode {
     };
     drop(writer);
     drop(reader);
+    if end.is_ok() && !is_quiet && asks_keys(words) && output.inner().is_undated() {
+        warn_of_undated(rt);
+    }
     ended(rt, end, output.failure().or(input.failure()))
 }
 

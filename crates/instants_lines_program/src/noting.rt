@@ -18,6 +18,11 @@ impl<T> Noting<T> {
         }
     }
 
+    /// What it reads from, or writes to.
+    pub fn inner(&self) -> &T {
+        &self.inner
+    }
+
     /// Of what kind the last failure was.
     pub fn failure(&self) -> Option<ErrorKind> {
         self.failure

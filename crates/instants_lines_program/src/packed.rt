@@ -11,12 +11,12 @@ pub struct Looking<T> {
 }
 
 impl<T> Looking<T> {
-    /// Nothing was read yet.
-    pub fn new(rt: HostRuntime, inner: T) -> Self {
+    /// Nothing was read yet; where it is to be quiet nothing is said.
+    pub fn new(rt: HostRuntime, inner: T, is_quiet: bool) -> Self {
         Looking {
             rt,
             inner,
-            is_first: true,
+            is_first: !is_quiet,
         }
     }
 }

@@ -1,68 +1,39 @@
 -- Words that nothing is left out of stay as they are.
-use Rattle.std.proofs.Common.{◌≡◌, ℕ, ◌+◌, ◌<◌, ◌⊎◌, inl, inr, Bool, true, false, ◌&&◌, ◌||◌, ◌==◌, nat_le, Option, None, Some, is_some, option_map, Result, Ok, Err, List, [], ◌∷◌, length, codes, if◌then◌else◌, refl, sym, ap, ◌∙◌, subst, arith, ℤ}
+use Rattle.std.proofs.Common.{◌≡◌, ℕ, ◌+◌, ◌<◌, ◌⊎◌, inl, inr, Bool, true, false, Option, None, Some, is_some, option_map, Result, Ok, Err, List, [], ◌∷◌, length, codes, if◌then◌else◌, refl, sym, ap, ◌∙◌, subst, arith, ℤ}
 use Rattle.std.proofs.lemmas.Slice.Eq.{bytes_eq-Decides}
-use Rattle.std.specs.Char.{is_ascii_digit}
-use Rattle.std.specs.List.{list_all}
 use Rattle.std.specs.Str.{bytes_eq}
-use Rattle.std.specs.Str.Parse.{digits_value}
-use Rattle.base.specs.Bytes.{plus, hyphen, colon}
 use Rattle.instants_words.specs.declared.words.Words.{Words}
-use Rattle.instants_words.specs.Pieces.{number_said, clock_seconds, with_sign, offset_said, limit_said, assumed_said}
+use Rattle.instants_words.specs.Pieces.{number_said, offset_said, limit_said, assumed_said}
 use Rattle.instants_words.specs.Sources.{SourceSaid, also, format_named, language_named, last_said, next_said, sources_said}
 use Rattle.instants_words.specs.Words.{◌or◌, ◌>>=◌, words_said}
 use Rattle.instants_words.proofs.TextLemmas.{said_four}
 use Rattle.instants_words.specs.declared.fault.WordsFault.{WordsFault}
 use Rattle.instants_words.specs.declared.fault.WordsFault.TheVariants as words
 use Rattle.instants_lines_words.specs.Spelled.{spelled_out}
-use Rattle.instants_lines_words.proofs.Spelling.{as_itself, format_alone, spelled_language, spelled_none}
-use Rattle.instants_lines_words.specs.Filled.{has_sign_or_digit, is_utc, is_setting, as_offset, target_in, assumed_in, limit_in, sources_in, filled}
-
-signed : (sign : ℕ) (number : Option ℕ) (offset : ℤ) → with_sign sign number ≡ Some offset → (sign == plus || sign == hyphen) ≡ true
-signed sign (Some number) offset e = grind arith
-signed sign None offset e = absurd cc
-
-six : (mark : Bool) (sign : ℕ) (clock : Option ℕ) (offset : ℤ) → (if mark then with_sign sign clock else None) ≡ Some offset → (sign == plus || sign == hyphen) ≡ true
-six true sign clock offset e = signed sign clock offset e
-six false sign clock offset e = absurd cc
+use Rattle.instants_lines_words.proofs.Spelling.{format_alone}
+use Rattle.instants_lines_words.specs.Filled.{has_sign_or_digit, is_utc, is_setting, as_offset, target_in, assumed_in, limit_in, year_first, time_first, label_first, filled}
 
 -- an offset begins with a sign, and is no name of UTC
-sign_first : (word : List ℕ) (offset : ℤ) → offset_said word ≡ Some offset → has_sign_or_digit word ≡ true
-unfolding offset_said has_sign_or_digit
-sign_first (sign ∷ h ∷ i ∷ mark ∷ m ∷ n ∷ []) offset e =
-    let sign_is = six (mark == colon) sign (clock_seconds (number_said 0 23 2 (h ∷ i ∷ [])) (number_said 0 59 2 (m ∷ n ∷ []))) offset e in rw sign_is refl
+sign_first : (word : List ℕ) (offset : ℤ) → offset_said word ≡ Some offset → (has_sign_or_digit word ≡ true) × (is_utc word ≡ false)
+unfolding offset_said has_sign_or_digit is_utc
+sign_first (sign ∷ h ∷ i ∷ mark ∷ m ∷ n ∷ []) offset e = (grind arith, grind arith)
 sign_first word offset e = absurd cc
-
-no_name : (word : List ℕ) (offset : ℤ) → offset_said word ≡ Some offset → is_utc word ≡ false
-unfolding offset_said is_utc
-no_name (sign ∷ h ∷ i ∷ mark ∷ m ∷ n ∷ []) offset e = grind arith
-no_name word offset e = absurd cc
-
-first_test : (digits short least greatest : Bool) (number limit : ℕ) → (if digits && short && least && greatest then Some number else None) ≡ Some limit → digits ≡ true
-first_test true short least greatest number limit e = refl
-first_test false short least greatest number limit e = absurd cc
 
 -- a limit begins with a digit
 digit_first : (word : List ℕ) (limit : ℕ) → limit_said word ≡ Some limit → has_sign_or_digit word ≡ true
 unfolding number_said has_sign_or_digit
 digit_first [] limit e = absurd cc
-digit_first (first ∷ rest) limit e =
-    let all = first_test (list_all is_ascii_digit (first ∷ rest)) (nat_le (length (first ∷ rest)) 7) (nat_le 1 (digits_value 10 (first ∷ rest))) (nat_le (digits_value 10 (first ∷ rest)) 1_048_576) (digits_value 10 (first ∷ rest)) limit e in
-    grind arith
+digit_first (first ∷ rest) limit e = grind arith
 
 -- what is assumed begins with a sign, and is no name of UTC
-by_offset : (said : Option ℤ) (word : List ℕ) (assumed : Option ℤ) → offset_said word ≡ said → option_map Some said ≡ Some assumed → (has_sign_or_digit word ≡ true) × (is_utc word ≡ false)
-by_offset (Some offset) word assumed is e = (sign_first word offset is, no_name word offset is)
-by_offset None word assumed is e = absurd cc
-
-bare_or : (bare : Bool) (word : List ℕ) (assumed : Option ℤ) → bytes_eq word (codes "-") ≡ bare → (if bare then Some None else option_map Some (offset_said word)) ≡ Some assumed
-    → (has_sign_or_digit word ≡ true) × (is_utc word ≡ false)
+assumed_by : (word : List ℕ) (said : Option ℤ) (assumed : Option ℤ) → offset_said word ≡ said → (if bytes_eq word (codes "-") then Some None else option_map Some said) ≡ Some assumed → (has_sign_or_digit word ≡ true) × (is_utc word ≡ false)
 unfolding has_sign_or_digit is_utc
-bare_or true [] assumed bare e = absurd cc
-bare_or true (first ∷ rest) assumed bare e = grind arith
-bare_or false word assumed bare e = by_offset (offset_said word) word assumed refl e
+assumed_by word (Some offset) assumed is e = sign_first word offset is
+assumed_by [] None assumed is e = absurd cc
+assumed_by (first ∷ rest) None assumed is e = (grind arith, grind arith)
 
 assumed_first : (word : List ℕ) (assumed : Option ℤ) → assumed_said word ≡ Some assumed → (has_sign_or_digit word ≡ true) × (is_utc word ≡ false)
-assumed_first word assumed e = bare_or (bytes_eq word (codes "-")) word assumed refl e
+assumed_first word assumed e = assumed_by word (offset_said word) assumed refl e
 
 setting : (word : List ℕ) → has_sign_or_digit word ≡ true → is_setting word ≡ true
 unfolding is_setting
@@ -103,24 +74,22 @@ next_source place (Some format) language next after after_description all e = in
 next_source place None (Some language) next after after_description all e = inr (refl, also_ok (language next) after_description all e)
 next_source place None None next after after_description all e = absurd cc
 
-spelled : (place : ℕ) (sources : List (List ℕ)) (all : List SourceSaid) → sources_said place sources ≡ Ok all → spelled_out sources ≡ sources
-unfolding sources_said
-spelled place [] all e = spelled_none [] refl
-spelled place (word ∷ []) all e = as_itself word [] (format_alone word (last_format place (format_named word) all e)).1 (format_alone word (last_format place (format_named word) all e)).0 ∙ ap (λ (l : List (List ℕ)). word ∷ l) (spelled_none [] refl)
+spelled : (place : ℕ) (sources : List (List ℕ)) (all : List SourceSaid) → sources_said place sources ≡ Ok all → spelled_out false sources ≡ sources
+unfolding sources_said spelled_out
+spelled place [] all e = refl
+spelled place (word ∷ []) all e = let alone = format_alone word (last_format place (format_named word) all e) in rw (alone.1, alone.0) refl
 spelled place (word ∷ next ∷ words) all e =
     elim (next_source place (format_named word) (language_named word) next (sources_said (place + 1) (next ∷ words)) (sources_said (place + 1) words) all e) [
-      | inl h ↦
-          let alone = format_alone word h.0 in
-          as_itself word (next ∷ words) alone.1 alone.0 ∙ ap (λ (l : List (List ℕ)). word ∷ l) (spelled (place + 1) (next ∷ words) h.1.0 h.1.1)
-      | inr h ↦ spelled_language word next words h.0 ∙ ap (λ (l : List (List ℕ)). word ∷ next ∷ l) (spelled (place + 1) words h.1.0 h.1.1)
+      | inl h ↦ let alone = format_alone word h.0 in rw (alone.1, alone.0) (ap (λ (l : List (List ℕ)). word ∷ l) (spelled (place + 1) (next ∷ words) h.1.0 h.1.1))
+      | inr h ↦ rw h.0 (ap (λ (l : List (List ℕ)). word ∷ next ∷ l) (spelled (place + 1) words h.1.0 h.1.1))
     ]
 
 -- three such words are the target, the assumed offset and the limit, where the next one is no name
 stays : (target assumed limit source : List ℕ) (others : List (List ℕ)) → is_setting target ≡ true → is_setting assumed ≡ true → is_setting limit ≡ true → as_offset target ≡ target → as_offset assumed ≡ assumed
-    → bytes_eq source (codes "year") ≡ false → bytes_eq source (codes "time") ≡ false → bytes_eq source (codes "label") ≡ false → spelled_out (source ∷ others) ≡ source ∷ others
+    → bytes_eq source (codes "year") ≡ false → bytes_eq source (codes "time") ≡ false → bytes_eq source (codes "label") ≡ false → spelled_out false (source ∷ others) ≡ source ∷ others
     → filled (target ∷ assumed ∷ limit ∷ source ∷ others) ≡ target ∷ assumed ∷ limit ∷ source ∷ others
-unfolding filled target_in assumed_in limit_in sources_in
-stays target assumed limit source others t a l et ea y n b s = rw t (rw a (rw l (rw et (rw ea (rw y (rw n (rw b (rw s refl))))))))
+unfolding filled target_in assumed_in limit_in year_first time_first label_first
+stays target assumed limit source others t a l et ea y n b s = rw (t, a, l, et, ea, y, n, b, s) refl
 
 known : (t : Option ℤ) (a : Option (Option ℤ)) (l : Option ℕ) (sources : Result (List SourceSaid) WordsFault) (said : Words)
     → ((t or words.Target) >>= (λ x. (a or words.Assumed) >>= (λ y. (l or words.Limit) >>= (λ z. sources >>= (λ s. Ok (record { target = x; assumed = y; limit = z; sources = s })))))) ≡ Ok said
@@ -139,9 +108,10 @@ few words said h e = cc
 pub in_full : (words : List (List ℕ)) (said : Words) → words_said words ≡ Ok said → filled words ≡ words
 in_full (t ∷ a ∷ l ∷ source ∷ others) said e =
     let is = known (offset_said t) (assumed_said a) (limit_said l) (sources_said 1 (source ∷ others)) said (sym (said_four (t ∷ a ∷ l ∷ source ∷ others) (source ∷ others) t a l refl (omega arith)) ∙ e) in
+    let target = sign_first t said.target is.0 in
     let assumed = assumed_first a said.assumed is.1 in
-    stays t a l source others (setting t (sign_first t said.target is.0)) (setting a assumed.0) (setting l (digit_first l said.limit is.2))
-    (as_is t (no_name t said.target is.0)) (as_is a assumed.1)
+    stays t a l source others (setting t target.0) (setting a assumed.0) (setting l (digit_first l said.limit is.2))
+    (as_is t target.1) (as_is a assumed.1)
     (other_name source (codes "year") others said.sources (bytes_eq source (codes "year")) refl refl is.3 refl)
     (other_name source (codes "time") others said.sources (bytes_eq source (codes "time")) refl refl is.3 refl)
     (other_name source (codes "label") others said.sources (bytes_eq source (codes "label")) refl refl is.3 refl)

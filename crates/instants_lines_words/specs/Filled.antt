@@ -18,15 +18,10 @@ has_sign_or_digit (first ∷ rest) = first == plus || first == hyphen || is_asci
 unfoldable pub is_setting : List ℕ → Bool
 is_setting word = has_sign_or_digit word || is_utc word || bytes_eq word (codes "OFFSET")
 
--- the first word, where it is such a word
-abbrev pub prefix_setting : List (List ℕ) → Option (List ℕ)
-prefix_setting [] = None
-prefix_setting (word ∷ words) = if is_setting word then Some word else None
-
--- the words after it
-abbrev pub after_setting : List (List ℕ) → List (List ℕ)
-after_setting [] = []
-after_setting (word ∷ words) = if is_setting word then words else word ∷ words
+-- the first word where it is such a word, and the words after it
+abbrev pub setting_first : List (List ℕ) → Option (List ℕ) × List (List ℕ)
+setting_first [] = (None, [])
+setting_first (word ∷ words) = if is_setting word then (Some word, words) else (None, word ∷ words)
 
 -- UTC as an offset
 unfoldable pub as_offset : List ℕ → List ℕ
@@ -34,68 +29,46 @@ as_offset word = if is_utc word then codes "+00:00" else word
 
 -- the target: the first word, or UTC
 unfoldable pub target_in : List (List ℕ) → List ℕ
-target_in words = as_offset (unwrap_or (prefix_setting words) (codes "+00:00"))
+target_in words = as_offset (unwrap_or (setting_first words).0 (codes "+00:00"))
 
 -- the assumed offset: the second word, or none
 unfoldable pub assumed_in : List (List ℕ) → List ℕ
-assumed_in words = as_offset (unwrap_or (prefix_setting (after_setting words)) (codes "-"))
+assumed_in words = as_offset (unwrap_or (setting_first (setting_first words).1).0 (codes "-"))
+
+-- the third word, where all three are there, and the words after those that are
+abbrev pub limit_first : List (List ℕ) → Option (List ℕ) × List (List ℕ)
+limit_first words = setting_first (setting_first (setting_first words).1).1
 
 -- the limit: the third word, or the greatest
 unfoldable pub limit_in : List (List ℕ) → List ℕ
-limit_in words = unwrap_or (prefix_setting (after_setting (after_setting words))) (codes "1048576")
+limit_in words = unwrap_or (limit_first words).0 (codes "1048576")
 
 -- whether none of the three is left out
 unfoldable pub is_whole : List (List ℕ) → Bool
-is_whole words = is_some (prefix_setting (after_setting (after_setting words)))
+is_whole words = is_some (limit_first words).0
 
--- the words after these
-abbrev pub after_settings : List (List ℕ) → List (List ℕ)
-after_settings words = after_setting (after_setting (after_setting words))
+-- the first word, where there is one, and the words after it
+abbrev pub first_and_others : List (List ℕ) → Option (List ℕ) × List (List ℕ)
+first_and_others [] = (None, [])
+first_and_others (word ∷ words) = (Some word, words)
 
--- the first word, where there is one
-abbrev pub first_of : List (List ℕ) → Option (List ℕ)
-first_of [] = None
-first_of (word ∷ words) = Some word
+-- the word after a name, where the first word is this name, and the words after both
+abbrev pub named_first : List ℕ → List (List ℕ) → Option (List ℕ) × List (List ℕ)
+named_first name [] = (None, [])
+named_first name (word ∷ words) = if bytes_eq word name then first_and_others words else (None, word ∷ words)
 
--- the words after it
-abbrev pub after_first : List (List ℕ) → List (List ℕ)
-after_first [] = []
-after_first (word ∷ words) = words
+-- the year, which stands after its name, and the words after it
+unfoldable pub year_first : List (List ℕ) → Option (List ℕ) × List (List ℕ)
+year_first words = named_first (codes "year") (limit_first words).1
 
--- the word after a name, where the first word is this name
-abbrev pub prefix_named : List ℕ → List (List ℕ) → Option (List ℕ)
-prefix_named name [] = None
-prefix_named name (word ∷ words) = if bytes_eq word name then first_of words else None
+-- the time of day, which stands after its name, and the words after it
+unfoldable pub time_first : List (List ℕ) → Option (List ℕ) × List (List ℕ)
+time_first words = named_first (codes "time") (year_first words).1
 
--- the words after both
-abbrev pub after_named : List ℕ → List (List ℕ) → List (List ℕ)
-after_named name [] = []
-after_named name (word ∷ words) = if bytes_eq word name then after_first words else word ∷ words
-
--- the year, which stands after its name
-unfoldable pub year_in : List (List ℕ) → Option (List ℕ)
-year_in words = prefix_named (codes "year") (after_settings words)
-
--- the words after it
-abbrev pub after_year : List (List ℕ) → List (List ℕ)
-after_year words = after_named (codes "year") (after_settings words)
-
--- the time of day, which stands after its name
-unfoldable pub time_in : List (List ℕ) → Option (List ℕ)
-time_in words = prefix_named (codes "time") (after_year words)
-
--- the words after it
-abbrev pub after_time : List (List ℕ) → List (List ℕ)
-after_time words = after_named (codes "time") (after_year words)
-
--- the label, which stands after its name
-unfoldable pub label_in : List (List ℕ) → Option (List ℕ)
-label_in words = prefix_named (codes "label") (after_time words)
-
--- the sources: all words after these
-unfoldable pub sources_in : List (List ℕ) → List (List ℕ)
-sources_in words = after_named (codes "label") (after_time words)
+-- the label, which stands after its name, and the sources, which are all words after these
+unfoldable pub label_first : List (List ℕ) → Option (List ℕ) × List (List ℕ)
+label_first words = named_first (codes "label") (time_first words).1
 
 -- all of it, as the words of `instants`: names of formats are spelled out
 unfoldable pub filled : List (List ℕ) → List (List ℕ)
-filled words = target_in words ∷ assumed_in words ∷ limit_in words ∷ spelled_out (sources_in words)
+filled words = target_in words ∷ assumed_in words ∷ limit_in words ∷ spelled_out false (label_first words).1

@@ -1,14 +1,14 @@
 -- What the words of the program say: a mode, and after it what the words of `instants` say, of which some may be left out, and before the sources a year, a time and a label.
-use Rattle.std.specs.Prelude.{ℕ, ◌+◌, ◌*◌, ◌==◌, ◌||◌, ◌&&◌, not, Bool, true, false, List, [], ◌∷◌, length, Option, None, Some, option_map, option_and_then, Result, Ok, Err, if◌then◌else◌, ℤ, pos}
+use Rattle.std.specs.Prelude.{ℕ, ◌+◌, ◌*◌, ◌==◌, ◌||◌, ◌&&◌, not, Bool, true, false, List, [], ◌∷◌, length, Option, None, Some, is_some, option_map, option_and_then, Result, Ok, Err, if◌then◌else◌, ℤ, pos}
 use Rattle.std.specs.List.{list_all}
-use Rattle.std.specs.Option.{option_or}
+use Rattle.std.specs.Option.{option_or, ok_or}
+use Rattle.std.specs.Result.{result_map_both}
 use Rattle.base.specs.Bytes.{colon, tab, line_feed}
-use Rattle.instants_formats.specs.Format.{FormatSaid}
 use Rattle.instants_formats.specs.Named.{named_format}
 use Rattle.instants_words.specs.Pieces.{number_said, offset_said, assumed_said, limit_said}
 use Rattle.instants_words.specs.Sources.{SourceSaid, format_named, language_named}
 use Rattle.instants_words.specs.declared.words.Words.{Words}
-use Rattle.instants_lines_words.specs.Filled.{target_in, assumed_in, limit_in, year_in, time_in, label_in, sources_in, is_whole}
+use Rattle.instants_lines_words.specs.Filled.{target_in, assumed_in, limit_in, year_first, time_first, label_first, is_whole}
 use Rattle.instants_lines_words.specs.Modes.{mode_said}
 use Rattle.instants_lines_words.specs.Wrong.{Wrong, NoMode, UnknownMode, NoSource, Target, Assumed, Limit, Year, Time, Label, Source, FirstSource, NoDescription}
 use Rattle.instants_lines_words.specs.Asked.{Asking}
@@ -18,8 +18,7 @@ use Rattle.instants_lines_words.specs.declared.mode.Mode.TheVariants.{Key, Carry
 -- what a word says, or else this is wrong
 infixl 12 ◌or◌
 abbrev pub ◌or◌ : {A : Type 0} → Option A → Wrong → Result A Wrong
-(Some said) or wrong = Ok said
-None or wrong = Err wrong
+said or wrong = ok_or said wrong
 
 -- one thing and then the next, up to the first that is wrong
 infixl 10 ◌>>=◌
@@ -37,53 +36,37 @@ settings_said target_word assumed_word limit_word = do
 
 -- ---- sources
 
--- what a name stands for
-abbrev pub described : FormatSaid → Option SourceSaid
-described format = option_map (λ language. language format.description) (language_named format.language)
+-- the source that a language and a description in it say
+abbrev pub described : List ℕ → List ℕ → Option SourceSaid
+described language description = option_map (λ said. said description) (language_named language)
 
 -- the source that one word says: a well-known format, or one that has a name
 abbrev pub source_named : List ℕ → Option SourceSaid
-source_named word = option_or (format_named word) (option_and_then described (named_format word))
+source_named word = option_or (format_named word) (option_and_then (λ format. described format.language format.description) (named_format word))
 
 abbrev pub also : SourceSaid → Result (List SourceSaid) Wrong → Result (List SourceSaid) Wrong
-also source (Ok sources) = Ok (source ∷ sources)
-also source (Err wrong) = Err wrong
+also source others = others >>= (λ sources. Ok (source ∷ sources))
 
--- the last word, in this place, by what it says as a language and as a source
-abbrev pub last_read : Option (List ℕ → SourceSaid) → Option SourceSaid → ℕ → List ℕ → Result (List SourceSaid) Wrong
-last_read (Some language) named place word = Err (NoDescription place word)
-last_read None (Some source) place word = Ok (source ∷ [])
-last_read None None place word = Err (Source place word)
-
--- a word with another one after it: these sources stand after the word, or after that as its description
-abbrev pub next_read : Option (List ℕ → SourceSaid) → Option SourceSaid → ℕ → List ℕ → List ℕ → Result (List SourceSaid) Wrong → Result (List SourceSaid) Wrong → Result (List SourceSaid) Wrong
-next_read (Some language) named place word next after after_description = also (language next) after_description
-next_read None (Some source) place word next after after_description = also source after
-next_read None None place word next after after_description = Err (Source place word)
-
--- sources by their words, the first of them in this place, or the first that is wrong
-unfoldable pub sources_read : ℕ → List (List ℕ) → Result (List SourceSaid) Wrong
-sources_read place [] = Ok []
-sources_read place (word ∷ []) = last_read (language_named word) (source_named word) place word
-sources_read place (word ∷ next ∷ words) = next_read (language_named word) (source_named word) place word next (sources_read (place + 1) (next ∷ words)) (sources_read (place + 1) words)
+-- sources by their words, the first of them in this place, or the first that is wrong; its description stands first where its language is given
+unfoldable pub sources_read : Option (List ℕ) → ℕ → List (List ℕ) → Result (List SourceSaid) Wrong
+sources_read None place [] = Ok []
+sources_read (Some language) place [] = Err (NoDescription place language)
+sources_read (Some language) place (word ∷ words) = described language word or NoDescription place language >>= (λ source. also source (sources_read None (place + 1) words))
+sources_read None place (word ∷ words) =
+    if is_some (language_named word) then sources_read (Some word) place words
+    else source_named word or Source place word >>= (λ source. also source (sources_read None (place + 1) words))
 
 -- where an offset or a limit is left out, the first source may be one that is misspelt
 abbrev pub first_wrong : Bool → Wrong → Wrong
 first_wrong false (Source place word) = if place == 1 then FirstSource word else Source place word
-first_wrong false wrong = wrong
-first_wrong true wrong = wrong
-
-abbrev pub told : Bool → Result (List SourceSaid) Wrong → Result (List SourceSaid) Wrong
-told whole (Ok sources) = Ok sources
-told whole (Err wrong) = Err (first_wrong whole wrong)
+first_wrong whole wrong = wrong
 
 -- ---- a year, a time and a label
 
 -- the hours and minutes of a clock, in minutes
 abbrev pub clock_minutes : Option ℕ → Option ℕ → Option ℕ
 clock_minutes (Some hour) (Some minute) = Some (hour * 60 + minute)
-clock_minutes (Some hour) None = None
-clock_minutes None minute = None
+clock_minutes _ _ = None
 
 -- a year is four digits
 unfoldable pub year_said : List ℕ → Option ℤ
@@ -93,21 +76,6 @@ year_said word = if length word == 4 then option_map pos (number_said 0 9999 4 w
 unfoldable pub time_said : List ℕ → Option ℕ
 time_said (h ∷ i ∷ mark ∷ m ∷ n ∷ []) = if mark == colon then clock_minutes (number_said 0 23 2 (h ∷ i ∷ [])) (number_said 0 59 2 (m ∷ n ∷ [])) else None
 time_said _ = None
-
--- what a word says, or else this is wrong
-abbrev pub or_wrong : {A : Type 0} → Option A → Wrong → Result (Option A) Wrong
-or_wrong (Some said) wrong = Ok (Some said)
-or_wrong None wrong = Err wrong
-
--- the year that a word says, where there is one
-abbrev pub year_read : Option (List ℕ) → Result (Option ℤ) Wrong
-year_read None = Ok None
-year_read (Some word) = or_wrong (year_said word) (Year word)
-
--- the time that a word says, where there is one
-abbrev pub time_read : Option (List ℕ) → Result (Option ℕ) Wrong
-time_read None = Ok None
-time_read (Some word) = or_wrong (time_said word) (Time word)
 
 -- no byte is a tab or a line feed
 abbrev pub is_field : List ℕ → Bool
@@ -123,17 +91,18 @@ has_label _ = false
 abbrev pub label_said : Mode → List ℕ → Option (List ℕ)
 label_said mode word = if has_label mode && is_field word then Some word else None
 
--- the label that a word says, where there is one
-abbrev pub label_read : Mode → Option (List ℕ) → Result (Option (List ℕ)) Wrong
-label_read mode None = Ok None
-label_read mode (Some word) = or_wrong (label_said mode word) (Label word)
+-- what a word says where there is one, or else that it is wrong
+abbrev pub read_by : {A : Type 0} → (List ℕ → Option A) → (List ℕ → Wrong) → Option (List ℕ) → Result (Option A) Wrong
+read_by said wrong None = Ok None
+read_by said wrong (Some word) = option_map Some (said word) or wrong word
 
--- what is asked, or the first of these that is wrong
-abbrev pub asked_by : Mode → Result (Option ℤ) Wrong → Result (Option ℕ) Wrong → Result (Option (List ℕ)) Wrong → Result Asking Wrong
-asked_by mode (Ok year) (Ok time) (Ok label) = Ok (record { mode = mode; year = year; time = time; label = label })
-asked_by mode (Ok year) (Ok time) (Err wrong) = Err wrong
-asked_by mode (Ok year) (Err wrong) label = Err wrong
-asked_by mode (Err wrong) time label = Err wrong
+-- what is asked by the words for a year, a time and a label, or the first of these that is wrong
+abbrev pub asked_by : Mode → Option (List ℕ) → Option (List ℕ) → Option (List ℕ) → Result Asking Wrong
+asked_by mode year_word time_word label_word = do
+  year ← read_by year_said Year year_word
+  time ← read_by time_said Time time_word
+  label ← read_by (label_said mode) Label label_word
+  Ok (record { mode = mode; year = year; time = time; label = label })
 
 -- ---- all words
 
@@ -154,8 +123,8 @@ joined some settings asked sources = do
 -- what the words after a mode ask
 unfoldable pub others_said : Mode → List (List ℕ) → Result (Asking × Words) Wrong
 others_said mode words =
-    joined (some_of (sources_in words)) (settings_said (target_in words) (assumed_in words) (limit_in words))
-    (asked_by mode (year_read (year_in words)) (time_read (time_in words)) (label_read mode (label_in words))) (told (is_whole words) (sources_read 1 (sources_in words)))
+    joined (some_of (label_first words).1) (settings_said (target_in words) (assumed_in words) (limit_in words))
+    (asked_by mode (year_first words).0 (time_first words).0 (label_first words).0) (result_map_both (λ all. all) (first_wrong (is_whole words)) (sources_read None 1 (label_first words).1))
 
 -- the mode and the words after it, or the first thing wrong with them
 unfoldable pub mode_words_said : List (List ℕ) → Result (Asking × Words) Wrong

@@ -1,9 +1,10 @@
 //! The words that say a year, a time of day and a label.
-ghost use Rattle.std.specs.Prelude.{◌≡◌, ◌∷◌, ◌==◌, ◌||◌, not, [], option_map, true, IfOk, IfErr, Ok, Err};
+ghost use Rattle.std.specs.Prelude.{◌≡◌, ◌∷◌, ◌==◌, ◌||◌, not, [], option_map, true};
+ghost use Rattle.std.specs.Result.{result_map_both};
 ghost use Rattle.instants_words.specs.Pieces.{number_said};
 ghost use Rattle.instants_lines_words.specs.Asked.{asking_of};
-ghost use Rattle.instants_lines_words.specs.Words.{asked_by, clock_minutes, has_label, is_field, label_read, time_read, time_said, year_read, year_said};
-ghost use Rattle.instants_lines_words.specs.Wrong.{wrong_of};
+ghost use Rattle.instants_lines_words.specs.Words.{asked_by, clock_minutes, has_label, is_field, label_said, read_by, time_said, year_said};
+ghost use Rattle.instants_lines_words.specs.Wrong.{Label, Time, Year, wrong_of};
 
 use crate::asked::Asked;
 use crate::filled::Parted;
@@ -49,8 +50,8 @@ fn time(word: &str) -> Option<u16>
 
 // The year that a word says, where there is one.
 fn read_year(word: Option<&str>) -> Result<Option<i32>, WrongWords<'_>>
-    ensures ok { IfOk result (λ year. year_read (option_map (λ word. word.now) word.entry) ≡ Ok year) }
-    ensures err { IfErr result (λ wrong. year_read (option_map (λ word. word.now) word.entry) ≡ Err (wrong_of wrong)) }
+    ensures { result_map_both (λ year. year) wrong_of result
+        ≡ read_by year_said Year (option_map (λ word. word.now) word.entry) }
 {
     let Some(word) = word else {
         return Ok(None);
@@ -63,8 +64,8 @@ fn read_year(word: Option<&str>) -> Result<Option<i32>, WrongWords<'_>>
 
 // The time that a word says, where there is one.
 fn read_time(word: Option<&str>) -> Result<Option<u16>, WrongWords<'_>>
-    ensures ok { IfOk result (λ time. time_read (option_map (λ word. word.now) word.entry) ≡ Ok time) }
-    ensures err { IfErr result (λ wrong. time_read (option_map (λ word. word.now) word.entry) ≡ Err (wrong_of wrong)) }
+    ensures { result_map_both (λ time. time) wrong_of result
+        ≡ read_by time_said Time (option_map (λ word. word.now) word.entry) }
 {
     let Some(word) = word else {
         return Ok(None);
@@ -96,10 +97,8 @@ fn is_field(word: &str) -> bool
 
 // The label that a word says, where there is one.
 fn read_label<'a>(mode: Mode, word: Option<&'a str>) -> Result<Option<&'a str>, WrongWords<'a>>
-    ensures ok { IfOk result (λ label. label_read mode (option_map (λ word. word.now) word.entry)
-        ≡ Ok (option_map (λ word. word.now) label)) }
-    ensures err { IfErr result (λ wrong.
-        label_read mode (option_map (λ word. word.now) word.entry) ≡ Err (wrong_of wrong)) }
+    ensures { result_map_both (option_map (λ word. word.now)) wrong_of result
+        ≡ read_by (label_said mode) Label (option_map (λ word. word.now) word.entry) }
 {
     match word {
         Some(label) if !has_label(mode) || !is_field(label) => Err(WrongWords::Label(label)),
@@ -109,24 +108,13 @@ fn read_label<'a>(mode: Mode, word: Option<&'a str>) -> Result<Option<&'a str>, 
 
 /// What is asked in a mode, with the year, the time and the label that words say.
 pub fn read_asked<'a>(mode: Mode, parted: &Parted<'a, '_>) -> Result<Asked<'a>, WrongWords<'a>>
-    ensures ok { IfOk result (λ asked. asked_by mode
-        (year_read (option_map (λ word. word.now) parted.now.year))
-        (time_read (option_map (λ word. word.now) parted.now.time))
-        (label_read mode (option_map (λ word. word.now) parted.now.label))
-        ≡ Ok (asking_of asked)) }
-    ensures err { IfErr result (λ wrong. asked_by mode
-        (year_read (option_map (λ word. word.now) parted.now.year))
-        (time_read (option_map (λ word. word.now) parted.now.time))
-        (label_read mode (option_map (λ word. word.now) parted.now.label)) ≡ Err (wrong_of wrong)) }
+    ensures { result_map_both asking_of wrong_of result ≡ asked_by mode
+        (option_map (λ word. word.now) parted.now.year)
+        (option_map (λ word. word.now) parted.now.time)
+        (option_map (λ word. word.now) parted.now.label) }
 {
-    let year = match read_year(parted.year) {
-        Ok(year) => year,
-        Err(wrong) => return Err(wrong),
-    };
-    let time = match read_time(parted.time) {
-        Ok(time) => time,
-        Err(wrong) => return Err(wrong),
-    };
+    let year = read_year(parted.year)?;
+    let time = read_time(parted.time)?;
     match read_label(mode, parted.label) {
         Ok(label) => Ok(Asked {
             mode,

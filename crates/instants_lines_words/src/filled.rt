@@ -1,6 +1,6 @@
 //! The words after the mode, of which some may be left out.
-ghost use Rattle.std.specs.Prelude.{◌≡◌, ◌∷◌, map, option_map, IfOk};
-ghost use Rattle.instants_lines_words.specs.Filled.{assumed_in, as_offset, after_named, after_setting, filled, prefix_named, prefix_setting, has_sign_or_digit, is_setting, is_utc, is_whole, label_in, limit_in, sources_in, target_in, time_in, year_in};
+ghost use Rattle.std.specs.Prelude.{◌≡◌, ◌∷◌, false, map, option_map, IfOk};
+ghost use Rattle.instants_lines_words.specs.Filled.{assumed_in, as_offset, has_sign_or_digit, is_setting, is_utc, is_whole, label_first, limit_in, named_first, setting_first, target_in, time_first, year_first};
 ghost use Rattle.instants_lines_words.specs.Spelled.{spelled_out};
 
 use crate::spelled::spell_out;
@@ -57,11 +57,11 @@ fn is_setting(word: &str) -> bool
 }
 
 // The first word, where it is such a word, and those after it.
-fn prefix_setting<'a, 'b>(words: &'b [&'a str]) -> (Option<&'a str>, &'b [&'a str])
+fn setting_first<'a, 'b>(words: &'b [&'a str]) -> (Option<&'a str>, &'b [&'a str])
     ensures prefix { option_map (λ word. word.now) result.0
-        ≡ prefix_setting (map (λ word. word.now) words.now) }
+        ≡ (setting_first (map (λ word. word.now) words.now)).0 }
     ensures after { map (λ word. word.now) result.1.now
-        ≡ after_setting (map (λ word. word.now) words.now) }
+        ≡ (setting_first (map (λ word. word.now) words.now)).1 }
 {
     let Some((word, after)) = words.split_first() else {
         return (None, words);
@@ -82,11 +82,11 @@ fn as_offset(word: &str) -> &str
 }
 
 // The word after a name that the words begin with, and those after it.
-fn prefix_named<'a, 'b>(name: &str, words: &'b [&'a str]) -> (Option<&'a str>, &'b [&'a str])
+fn named_first<'a, 'b>(name: &str, words: &'b [&'a str]) -> (Option<&'a str>, &'b [&'a str])
     ensures prefix { option_map (λ word. word.now) result.0
-        ≡ prefix_named name.now (map (λ word. word.now) words.now) }
+        ≡ (named_first name.now (map (λ word. word.now) words.now)).0 }
     ensures after { map (λ word. word.now) result.1.now
-        ≡ after_named name.now (map (λ word. word.now) words.now) }
+        ≡ (named_first name.now (map (λ word. word.now) words.now)).1 }
 {
     let Some((word, after)) = words.split_first() else {
         return (None, words);
@@ -101,27 +101,27 @@ fn prefix_named<'a, 'b>(name: &str, words: &'b [&'a str]) -> (Option<&'a str>, &
 }
 
 /// Parts the words after the mode.
-#[tactic(auto, unfolding(crate::specs::Filled::target_in, crate::specs::Filled::assumed_in, crate::specs::Filled::limit_in, crate::specs::Filled::is_whole, crate::specs::Filled::year_in, crate::specs::Filled::time_in, crate::specs::Filled::label_in, crate::specs::Filled::sources_in))]
+#[tactic(auto, unfolding(crate::specs::Filled::target_in, crate::specs::Filled::assumed_in, crate::specs::Filled::limit_in, crate::specs::Filled::is_whole, crate::specs::Filled::year_first, crate::specs::Filled::time_first, crate::specs::Filled::label_first))]
 pub fn part<'a, 'b>(words: &'b [&'a str]) -> Parted<'a, 'b>
     ensures target { result.target.now ≡ target_in (map (λ word. word.now) words.now) }
     ensures assumed { result.assumed.now ≡ assumed_in (map (λ word. word.now) words.now) }
     ensures limit { result.limit.now ≡ limit_in (map (λ word. word.now) words.now) }
     ensures whole { result.is_whole ≡ is_whole (map (λ word. word.now) words.now) }
     ensures year { option_map (λ word. word.now) result.year
-        ≡ year_in (map (λ word. word.now) words.now) }
+        ≡ (year_first (map (λ word. word.now) words.now)).0 }
     ensures time { option_map (λ word. word.now) result.time
-        ≡ time_in (map (λ word. word.now) words.now) }
+        ≡ (time_first (map (λ word. word.now) words.now)).0 }
     ensures label { option_map (λ word. word.now) result.label
-        ≡ label_in (map (λ word. word.now) words.now) }
+        ≡ (label_first (map (λ word. word.now) words.now)).0 }
     ensures sources { map (λ word. word.now) result.sources.now
-        ≡ sources_in (map (λ word. word.now) words.now) }
+        ≡ (label_first (map (λ word. word.now) words.now)).1 }
 {
-    let (target, after_target) = prefix_setting(words);
-    let (assumed, after_assumed) = prefix_setting(after_target);
-    let (limit, after_limit) = prefix_setting(after_assumed);
-    let (year, after_year) = prefix_named("year", after_limit);
-    let (time, after_time) = prefix_named("time", after_year);
-    let (label, sources) = prefix_named("label", after_time);
+    let (target, after_target) = setting_first(words);
+    let (assumed, after_assumed) = setting_first(after_target);
+    let (limit, after_limit) = setting_first(after_assumed);
+    let (year, after_year) = named_first("year", after_limit);
+    let (time, after_time) = named_first("time", after_year);
+    let (label, sources) = named_first("label", after_time);
     Parted {
         target: as_offset(target.unwrap_or(TARGET)),
         assumed: as_offset(assumed.unwrap_or(ASSUMED)),
@@ -138,7 +138,7 @@ pub fn part<'a, 'b>(words: &'b [&'a str]) -> Parted<'a, 'b>
 pub fn fill<'a>(alloc: Global, parted: &Parted<'a, '_>) -> Result<Vec<&'a str>, AllocError>
     ensures { IfOk result (λ words. map (λ word. word.now) words.items
         ≡ parted.now.target.now ∷ parted.now.assumed.now ∷ parted.now.limit.now
-        ∷ spelled_out (map (λ word. word.now) parted.now.sources.now)) }
+        ∷ spelled_out false (map (λ word. word.now) parted.now.sources.now)) }
 {
     let mut words = Vec::from_slice(alloc, &[parted.target, parted.assumed, parted.limit])?;
     spell_out(parted.sources, &mut words)?;

@@ -1,5 +1,6 @@
 //! The words of the program, as those of `instants` after a mode.
-ghost use Rattle.std.specs.Prelude.{◌≡◌, map, Ok, Err, IsOk, IfOk, IfErr, IfSome, IfNone};
+ghost use Rattle.std.specs.Prelude.{◌≡◌, map, option_map, Ok, IfOk, IfErr};
+ghost use Rattle.std.specs.Result.{result_err};
 ghost use Rattle.instants_words.specs.Words.{words_said};
 ghost use Rattle.instants_words.specs.declared.words.Words.{Words};
 ghost use Rattle.instants_lines_words.specs.Asked.{asking_of};
@@ -19,21 +20,19 @@ use std::alloc::Global;
 
 // What is wrong first with the target, the assumed offset and the limit.
 fn wrong_setting<'a>(parted: &Parted<'a, '_>) -> Option<WrongWords<'a>>
-    ensures some { IfSome result (λ wrong. settings_said parted.now.target.now
-        parted.now.assumed.now parted.now.limit.now ≡ Err (wrong_of wrong)) }
-    ensures none { IfNone result (IsOk (settings_said parted.now.target.now
-        parted.now.assumed.now parted.now.limit.now)) }
+    ensures { option_map wrong_of result ≡ result_err (settings_said
+        parted.now.target.now parted.now.assumed.now parted.now.limit.now) }
 {
-    if pieces::offset(parted.target.as_bytes()).is_none() {
+    let Some(_) = pieces::offset(parted.target.as_bytes()) else {
         return Some(WrongWords::Target(parted.target));
-    }
-    if pieces::assumed(parted.assumed).is_none() {
+    };
+    let Some(_) = pieces::assumed(parted.assumed) else {
         return Some(WrongWords::Assumed(parted.assumed));
+    };
+    match pieces::limit(parted.limit.as_bytes()) {
+        Some(_) => None,
+        None => Some(WrongWords::Limit(parted.limit)),
     }
-    if pieces::limit(parted.limit.as_bytes()).is_none() {
-        return Some(WrongWords::Limit(parted.limit));
-    }
-    None
 }
 
 // What is wrong with the sources; where a word before them is left out, the first of them may be one that is misspelt.
@@ -48,6 +47,7 @@ fn first_wrong(is_whole: bool, wrong: WrongWords<'_>) -> WrongWords<'_>
 
 /// What is asked, and the words of `instants` after the mode: those that are left out are filled in, and names of formats are
 /// spelled out. Words that are wrong are refused before memory is taken.
+#[tactic(auto, unfolding(crate::specs::Words::mode_words_said, crate::specs::Words::others_said))]
 pub fn read_mode_words<'a>(
     alloc: Global,
     words: &[&'a str],

@@ -1,7 +1,8 @@
 //! The first source that is wrong.
-ghost use Rattle.std.specs.Prelude.{◌≡◌, ◌<◌, ◌≤◌, ◌+◌, ◌∷◌, map, drop, length, is_some, IsOk, IfOk, IfErr, IfSome, IfNone, Err};
-ghost use Rattle.instants_words.specs.Sources.{SourceSaid, format_named, language_named};
-ghost use Rattle.instants_lines_words.specs.Words.{also, source_named, sources_read};
+ghost use Rattle.std.specs.Prelude.{◌≡◌, None, map, option_map, is_some};
+ghost use Rattle.std.specs.Result.{result_err};
+ghost use Rattle.instants_words.specs.Sources.{format_named, language_named};
+ghost use Rattle.instants_lines_words.specs.Words.{source_named, sources_read};
 ghost use Rattle.instants_lines_words.specs.Wrong.{wrong_of};
 
 use crate::wrong_words::WrongWords;
@@ -28,47 +29,36 @@ fn is_named(word: &str) -> bool
     if is_format(word) {
         return true;
     }
-    format_named(word).is_some()
-}
-
-// How many words say the first source, or what is wrong with the first word.
-fn source_len<'a>(place: usize, word: &'a str, after: &[&'a str]) -> Result<usize, WrongWords<'a>>
-    ensures within { IfOk result (λ len. (0 < len) × (len ≤ length after.now + 1)) }
-    ensures said { IfOk result (λ len. (said : SourceSaid)
-        × (sources_read place (word.now ∷ map (λ word. word.now) after.now) ≡ also said
-        (sources_read (place + 1) (drop len (word.now ∷ map (λ word. word.now) after.now))))) }
-    ensures wrong { IfErr result (λ wrong.
-        sources_read place (word.now ∷ map (λ word. word.now) after.now) ≡ Err (wrong_of wrong)) }
-{
-    if is_language(word) {
-        if after.is_empty() {
-            return Err(WrongWords::NoDescription {
-                place,
-                language: word,
-            });
-        }
-        return Ok(2);
+    match format_named(word) {
+        Some(format) => is_language(format.language),
+        None => false,
     }
-    if is_named(word) {
-        return Ok(1);
-    }
-    Err(WrongWords::Source { place, word })
 }
 
 /// What is wrong first with the sources that words say.
 pub fn wrong_source<'a>(words: &[&'a str]) -> Option<WrongWords<'a>>
-    ensures some { IfSome result
-        (λ wrong. sources_read 1 (map (λ word. word.now) words.now) ≡ Err (wrong_of wrong)) }
-    ensures none { IfNone result (IsOk (sources_read 1 (map (λ word. word.now) words.now))) }
+    ensures { option_map wrong_of result
+        ≡ result_err (sources_read None 1 (map (λ word. word.now) words.now)) }
 {
-    let mut at = 0;
-    let mut count = 0;
-    while let Some((word, after)) = words[at..].split_first() {
-        count += 1;
-        match source_len(count, word, after) {
-            Ok(len) => at += len,
-            Err(wrong) => return Some(wrong),
+    let mut place = 1;
+    let mut before = None;
+    for word in words {
+        if let Some(_) = before {
+            before = None;
+            place += 1;
+            continue;
         }
+        if is_language(word) {
+            before = Some(*word);
+            continue;
+        }
+        if !is_named(word) {
+            return Some(WrongWords::Source { place, word });
+        }
+        place += 1;
     }
-    None
+    match before {
+        Some(language) => Some(WrongWords::NoDescription { place, language }),
+        None => None,
+    }
 }

@@ -1,27 +1,28 @@
 //! What is written for lines one after another.
-ghost use Rattle.std.specs.Prelude.{◌≡◌, ◌<◌, ◌≤◌, [], ◌∷◌, ◌++◌, length, option_map, false, Some, IfSome, IfNone, OnOk};
+ghost use Rattle.std.specs.Prelude.{◌≡◌, ◌<◌, ◌≤◌, [], ◌∷◌, ◌++◌, length, option_map, if◌then◌else◌, false, Some, IfSome, IfNone, OnOk};
 ghost use Rattle.base.specs.Bytes.{tab, line_feed};
 ghost use Rattle.instants_found.specs.Found.{looked_at};
 ghost use Rattle.instants_found.specs.Starts.{HasNoDate};
+ghost use Rattle.instants_found.specs.Within.{IsWithin};
 ghost use Rattle.instants_found.specs.declared.found.Finding.TheVariants.{Doubtful, There};
 ghost use Rattle.instants_lines.specs.Showing.{search_in};
-ghost use Rattle.instants_lines.specs.Dates.{date_in, doubt, replaced};
-ghost use Rattle.instants_lines.specs.Going.{below, beginning, deep_below, finding_in, given_below, goes_on, key_of_line, key_below, keyed, label_prefix};
+ghost use Rattle.instants_lines.specs.Dates.{doubt, key_of_date, key_or, replaced, with_date, with_date_time, place_of_date};
+ghost use Rattle.instants_lines.specs.Going.{below, below_by, beginning, depth, finding_in, given_below, goes_on, is_carry, keyed, label_prefix};
 ghost use Rattle.instants_lines.specs.Located.{located};
 ghost use Rattle.instants_lines.specs.Writing.{going_of};
 ghost use Rattle.instants_lines.specs.Wrote.{Wrote};
-ghost use Rattle.instants_lines_words.specs.declared.mode.Mode.{Mode};
 
 use crate::date_sources::DateSources;
 use crate::depth::depth;
 use crate::line_writer::LineWriter;
 use crate::located::write_finding;
-use crate::parts::{tabbed, write_both, write_keyed, write_labelled, write_three};
+use crate::parts::{tabbed, write_keyed, write_labelled, write_three};
 use instants_answers::{Answer, rfc3339_line};
 use instants_found::{Finding, Found};
 use instants_lines_words::Mode;
 use instants_prefixes::{Given, Years};
 use instants_stream::{ByteWriter, DeviceFailed};
+use instants_timeline::shown_at;
 
 impl<'a, 'b> LineWriter<'a, 'b> {
     /// At the beginning a line without a date takes `! none`.
@@ -64,8 +65,8 @@ impl<'a, 'b> LineWriter<'a, 'b> {
     fn keep(&mut self, line: &[u8])
         requires { length self.old.storage ≤ 63 }
         ensures kept { going_of self.new ≡ record (going_of self.old) {
-          key = key_below (going_of self.old).mode (going_of self.old).key self.old.storage;
-          indent = deep_below (going_of self.old).mode (going_of self.old).indent line.now;
+          key = if is_carry (going_of self.old).mode then self.old.storage else (going_of self.old).key;
+          indent = if is_carry (going_of self.old).mode then Some (depth line.now) else (going_of self.old).indent;
         } }
         ensures storage { self.new.storage ≡ self.old.storage }
     {
@@ -90,7 +91,7 @@ impl<'a, 'b> LineWriter<'a, 'b> {
         if self.goes_on(line) {
             return None;
         }
-        self.dates.date_in(&self.given, line)
+        self.dates.finder.find(&self.given, line)
     }
 
     // Keeps the moment of a date, where a year is given.
@@ -113,6 +114,17 @@ impl<'a, 'b> LineWriter<'a, 'b> {
         };
     }
 
+    // Keeps the moment of what is found, where that is a date.
+    fn keep_finding(&mut self, finding: &Option<Finding>)
+        ensures { going_of self.new ≡ record (going_of self.old) {
+          search = record (going_of self.old).search { given = given_below (going_of self.old).search.given finding.now };
+        } }
+    {
+        if let Some(Finding::There(date)) = finding {
+            self.keep_year(date);
+        }
+    }
+
     // Writes a line without a date after the key that it takes and a tab.
     #[inline(always)]
     fn write_undated<W: ByteWriter>(&self, line: &[u8], writer: &mut W) -> Result<(), DeviceFailed>
@@ -123,20 +135,30 @@ impl<'a, 'b> LineWriter<'a, 'b> {
         write_keyed(writer, &self.tabbed, &self.label, line)
     }
 
+    // Makes the key of a date in the storage, and keeps for the lines below what they take of it.
+    #[inline(always)]
+    #[tactic(auto, unfolding(crate::specs::Dates::place_of_date))]
+    fn take_date(&mut self, date: &Found, line: &[u8])
+        ensures key { self.new.storage ≡ key_of_date (going_of self.old).search.setting date.now }
+        ensures room { length self.new.storage ≤ 63 }
+        ensures next { going_of self.new ≡ below_by (going_of self.old) (depth line.now) (Some (There date.now)) }
+    {
+        self.dates.write_named(&date.moment, &mut self.storage);
+        self.keep_year(date);
+        self.keep(line);
+    }
+
     // The key of a line by what is found in it, which is kept for the lines below.
     #[inline(always)]
-    #[tactic(auto, using(crate::proofs::Keyed::dated, crate::proofs::Keyed::doubtful, crate::proofs::Keyed::undated, crate::proofs::Keyed::below_none))]
+    #[tactic(auto, using(crate::proofs::Keyed::below_none))]
     fn take_key(&mut self, line: &[u8], finding: Option<Finding>) -> Answer
-        requires { finding ≡ finding_in (going_of self.old) line.now }
-        ensures key { result ≡ key_of_line (going_of self.old) line.now }
+        ensures key { result ≡ key_or (going_of self.old).search.setting (going_of self.old).key finding }
         ensures room { length result ≤ 63 }
-        ensures next { going_of self.new ≡ below (going_of self.old) line.now }
+        ensures next { going_of self.new ≡ below_by (going_of self.old) (depth line.now) finding }
     {
         match finding {
             Some(Finding::There(date)) => {
-                self.dates.write_named(&date.moment, &mut self.storage);
-                self.keep_year(&date);
-                self.keep(line);
+                self.take_date(&date, line);
                 self.storage
             }
             Some(Finding::Doubtful(_)) => {
@@ -148,29 +170,9 @@ impl<'a, 'b> LineWriter<'a, 'b> {
         }
     }
 
-    // Writes a line after the key of its date. The key is made where it is written from, with the tab after it.
-    #[inline]
-    fn write_dated<W: ByteWriter>(
-        &mut self,
-        date: &Found,
-        line: &[u8],
-        writer: &mut W,
-    ) -> Result<(), DeviceFailed>
-        requires works { W.failed writer.old ≡ false }
-        requires found { finding_in (going_of self.old) line.now ≡ Some (There date.now) }
-        ensures wrote { Wrote W.ByteWriter writer.old writer.new result
-            (keyed (going_of self.old) line.now ++ line_feed ∷ []) }
-        ensures next { OnOk result (going_of self.new ≡ below (going_of self.old) line.now) }
-    {
-        self.dates.write_named(&date.moment, &mut self.storage);
-        self.keep_year(date);
-        self.keep(line);
-        self.storage.push(b'\t');
-        write_keyed(writer, &self.storage, &self.label, line)
-    }
-
     // Writes a line after the key of its date, where none begins before a place and the date there is found at once: `None` where
-    // it is not, with nothing written. A call of its own, which makes no room for what is found otherwise.
+    // it is not, with nothing written. The key is made where it is written from, with the tab after it. A call of its own, which makes
+    // no room for what is found otherwise.
     #[inline(never)]
     fn write_plain<W: ByteWriter>(
         &mut self,
@@ -186,18 +188,19 @@ impl<'a, 'b> LineWriter<'a, 'b> {
         ensures wrote { IfSome result (λ end. Wrote W.ByteWriter writer.old writer.new end
             (keyed (going_of self.old) line.now ++ line_feed ∷ [])) }
         ensures next { IfSome result (λ end. OnOk end (going_of self.new ≡ below (going_of self.old) line.now)) }
-        ensures same { IfNone result ((self.new ≡ self.old) × (writer.new ≡ writer.old)) }
+        ensures same { IfNone result ((going_of self.new ≡ going_of self.old) × (writer.new ≡ writer.old)) }
     {
-        let Some(date) = self.dates.plain_date(&self.given, line, first) else {
+        let Some(date) = self.dates.finder.plain_date(&self.given, line, first) else {
             return None;
         };
-        Some(self.write_dated(&date, line, writer))
+        self.take_date(&date, line);
+        self.storage.push(b'\t');
+        Some(write_keyed(writer, &self.storage, &self.label, line))
     }
 
     // Writes a line after its key and a tab, where no date begins before a place, by whatever is found in it. A call of its own,
     // so that other lines make no room for that.
     #[inline(never)]
-    #[tactic(auto, using(crate::proofs::Keyed::own_date))]
     fn write_any<W: ByteWriter>(
         &mut self,
         first: usize,
@@ -213,14 +216,14 @@ impl<'a, 'b> LineWriter<'a, 'b> {
             (keyed (going_of self.old) line.now ++ line_feed ∷ []) }
         ensures next { OnOk result (going_of self.new ≡ below (going_of self.old) line.now) }
     {
-        let finding = self.dates.date_from(&self.given, line, first);
+        let finding = self.dates.finder.find_from(&self.given, line, first);
         let key = tabbed(self.take_key(line, finding));
         write_keyed(writer, &key, &self.label, line)
     }
 
     /// Writes a line after its key and a tab, and a line feed.
     #[inline(always)]
-    #[tactic(auto, using(crate::proofs::Keyed::undated, crate::proofs::Keyed::below_none, crate::proofs::Keyed::gone_on, crate::proofs::Keyed::own_date))]
+    #[tactic(auto, using(crate::proofs::Keyed::below_none))]
     pub(crate) fn write_keyed<W: ByteWriter>(
         &mut self,
         line: &[u8],
@@ -234,7 +237,7 @@ impl<'a, 'b> LineWriter<'a, 'b> {
         if self.goes_on(line) {
             return self.write_undated(line, writer);
         }
-        let Some(first) = self.dates.undated_len(line) else {
+        let Some(first) = self.dates.finder.undated_len(line) else {
             return self.write_undated(line, writer);
         };
         match self.write_plain(first, line, writer) {
@@ -243,29 +246,27 @@ impl<'a, 'b> LineWriter<'a, 'b> {
         }
     }
 
-    /// The same of the first bytes of a longer line, without a line feed.
+    /// The same without a line feed.
     #[cold]
     #[inline(never)]
-    #[tactic(auto, using(crate::proofs::Turns::in_turn, std::proofs::lemmas::List::append_assoc))]
-    pub(crate) fn begin_keyed<W: ByteWriter>(
+    #[tactic(auto, using(std::proofs::lemmas::List::append_assoc))]
+    pub(crate) fn write_keyed_text<W: ByteWriter>(
         &mut self,
-        prefix: &[u8],
+        line: &[u8],
         writer: &mut W,
     ) -> Result<(), DeviceFailed>
         requires { W.failed writer.old ≡ false }
         ensures wrote { Wrote W.ByteWriter writer.old writer.new result
-            (keyed (going_of self.old) prefix.now) }
-        ensures next { OnOk result (going_of self.new ≡ below (going_of self.old) prefix.now) }
+            (keyed (going_of self.old) line.now) }
+        ensures next { OnOk result (going_of self.new ≡ below (going_of self.old) line.now) }
     {
-        let label = self.label;
-        let finding = self.finding_in(prefix);
-        let key = self.take_key(prefix, finding);
-        write_both(writer, key.as_bytes(), b"\t")?;
-        write_labelled(writer, label, prefix)
+        let finding = self.finding_in(line);
+        let key = tabbed(self.take_key(line, finding));
+        write_labelled(writer, key.as_bytes(), &self.label, line)
     }
 
     // Writes a line with the date-time in place of this date of it, or as it is where the date's year is not written.
-    #[tactic(auto, using(crate::proofs::Outside::replaced_date), unfolding(crate::specs::Dates::place_of_date))]
+    #[tactic(auto, unfolding(crate::specs::Dates::place_of_date))]
     fn write_with<W: ByteWriter>(
         &self,
         date: &Found,
@@ -273,13 +274,12 @@ impl<'a, 'b> LineWriter<'a, 'b> {
         writer: &mut W,
     ) -> Result<(), DeviceFailed>
         requires works { W.failed writer.old ≡ false }
-        requires found { date_in (going_of self.now).search line.now ≡ Some (There date.now) }
         requires start { date.now.start ≤ length line.now }
         requires end { date.now.end ≤ length line.now }
         ensures { Wrote W.ByteWriter writer.old writer.new result
-            (replaced (going_of self.now).search line.now) }
+            (with_date_time line.now date.now (place_of_date (going_of self.now).search.setting date.now)) }
     {
-        let Some(moment) = self.dates.at_target(date.moment.moment()) else {
+        let Some(moment) = shown_at(self.dates.target, date.moment.moment()) else {
             return writer.write_all(line);
         };
         let text = rfc3339_line(moment);
@@ -291,85 +291,63 @@ impl<'a, 'b> LineWriter<'a, 'b> {
         )
     }
 
+    // The same by what is found in a line.
+    fn write_by<W: ByteWriter>(
+        &self,
+        finding: &Option<Finding>,
+        line: &[u8],
+        writer: &mut W,
+    ) -> Result<(), DeviceFailed>
+        requires works { W.failed writer.old ≡ false }
+        requires within { IfSome finding.now (IsWithin (going_of self.now).search.limit line.now
+            (length (going_of self.now).search.setting.sources)) }
+        ensures { Wrote W.ByteWriter writer.old writer.new result
+            (with_date (going_of self.now).search.setting line.now finding.now) }
+    {
+        match finding {
+            Some(Finding::There(date)) => self.write_with(date, line, writer),
+            Some(Finding::Doubtful(_)) | None => writer.write_all(line),
+        }
+    }
+
     /// Writes a line with the date-time in place of its date, without a line feed.
-    #[tactic(auto, using(crate::proofs::Outside::undated, crate::proofs::Outside::doubtful, crate::proofs::Keyed::below_undated, crate::proofs::Keyed::below_doubtful, crate::proofs::Keyed::below_dated))]
+    #[tactic(auto, using(crate::proofs::Keyed::plain_below), unfolding(crate::specs::Dates::replaced))]
     pub(crate) fn write_replaced<W: ByteWriter>(
         &mut self,
         line: &[u8],
         writer: &mut W,
     ) -> Result<(), DeviceFailed>
         requires works { W.failed writer.old ≡ false }
-        requires mode { (going_of self.old).mode ≡ Mode.Replace }
+        requires mode { is_carry (going_of self.old).mode ≡ false }
         ensures wrote { Wrote W.ByteWriter writer.old writer.new result
             (replaced (going_of self.old).search line.now) }
         ensures next { OnOk result (going_of self.new ≡ below (going_of self.old) line.now) }
     {
-        match self.dates.date_in(&self.given, line) {
-            Some(Finding::There(date)) => {
-                self.write_with(&date, line, writer)?;
-                self.keep_year(&date);
-                Ok(())
-            }
-            Some(Finding::Doubtful(_)) => writer.write_all(line),
-            None => writer.write_all(line),
-        }
-    }
-
-    /// The same with a line feed.
-    #[tactic(auto, using(crate::proofs::Turns::in_turn))]
-    pub(crate) fn write_replaced_line<W: ByteWriter>(
-        &mut self,
-        line: &[u8],
-        writer: &mut W,
-    ) -> Result<(), DeviceFailed>
-        requires works { W.failed writer.old ≡ false }
-        requires mode { (going_of self.old).mode ≡ Mode.Replace }
-        ensures wrote { Wrote W.ByteWriter writer.old writer.new result
-            (replaced (going_of self.old).search line.now ++ line_feed ∷ []) }
-        ensures next { OnOk result (going_of self.new ≡ below (going_of self.old) line.now) }
-    {
-        self.write_replaced(line, writer)?;
-        writer.write_all(b"\n")
+        let finding = self.dates.finder.find(&self.given, line);
+        self.write_by(&finding, line, writer)?;
+        self.keep_finding(&finding);
+        Ok(())
     }
 
     /// Writes where the date of a line is, or why it is in doubt, without a line feed.
     #[cold]
     #[inline(never)]
-    #[tactic(auto, using(crate::proofs::Keyed::located_undated, crate::proofs::Keyed::located_doubtful, crate::proofs::Keyed::located_dated), unfolding(crate::specs::Located::located))]
+    #[tactic(auto, using(crate::proofs::Keyed::plain_below), unfolding(crate::specs::Located::located))]
     pub(crate) fn write_located<W: ByteWriter>(
         &mut self,
         line: &[u8],
         writer: &mut W,
     ) -> Result<(), DeviceFailed>
         requires works { W.failed writer.old ≡ false }
-        requires mode { (going_of self.old).mode ≡ Mode.Locate }
+        requires mode { is_carry (going_of self.old).mode ≡ false }
         ensures wrote { Wrote W.ByteWriter writer.old writer.new result
             (located (going_of self.old).search line.now) }
         ensures next { OnOk result (going_of self.new ≡ below (going_of self.old) line.now) }
     {
-        let finding = self.dates.date_in(&self.given, line);
+        let finding = self.dates.finder.find(&self.given, line);
         write_finding(self.dates, &self.given, line, &finding, writer)?;
-        if let Some(Finding::There(date)) = &finding {
-            self.keep_year(date);
-        }
+        self.keep_finding(&finding);
         Ok(())
-    }
-
-    /// The same with a line feed.
-    #[tactic(auto, using(crate::proofs::Turns::in_turn))]
-    pub(crate) fn write_located_line<W: ByteWriter>(
-        &mut self,
-        line: &[u8],
-        writer: &mut W,
-    ) -> Result<(), DeviceFailed>
-        requires works { W.failed writer.old ≡ false }
-        requires mode { (going_of self.old).mode ≡ Mode.Locate }
-        ensures wrote { Wrote W.ByteWriter writer.old writer.new result
-            (located (going_of self.old).search line.now ++ line_feed ∷ []) }
-        ensures next { OnOk result (going_of self.new ≡ below (going_of self.old) line.now) }
-    {
-        self.write_located(line, writer)?;
-        writer.write_all(b"\n")
     }
 }
 

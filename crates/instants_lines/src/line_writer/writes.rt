@@ -1,6 +1,7 @@
 //! The lines of a stream, written one after another.
-ghost use Rattle.std.specs.Prelude.{◌≡◌, false, OnOk};
-ghost use Rattle.instants_lines.specs.Going.{lines_steps};
+ghost use Rattle.std.specs.Prelude.{◌≡◌, ◌++◌, [], ◌∷◌, false, OnOk};
+ghost use Rattle.base.specs.Bytes.{line_feed};
+ghost use Rattle.instants_lines.specs.Going.{next_in, text_in};
 ghost use Rattle.instants_lines.specs.Writing.{going_of};
 ghost use Rattle.instants_lines.specs.Wrote.{Wrote};
 
@@ -10,25 +11,40 @@ use instants_lines_words::Mode;
 use instants_stream::{ByteWriter, DeviceFailed, WritesLines};
 
 impl LineWriter<'_, '_> {
-    // Writes a line in any mode: a call beside the loop over lines, which has the modes with keys alone.
+    // Writes the text for a line in any mode, without a line feed: a call beside the loop over lines, which has the modes with
+    // keys alone.
     #[cold]
     #[inline(never)]
-    fn write_in_mode<W: ByteWriter>(
+    fn write_text<W: ByteWriter>(&mut self, line: &[u8], writer: &mut W) -> Result<(), DeviceFailed>
+        requires { W.failed writer.old ≡ false }
+        ensures wrote { Wrote W.ByteWriter writer.old writer.new result
+            (text_in (going_of self.old).mode (going_of self.old) line.now) }
+        ensures next { OnOk result (going_of self.new ≡ next_in (going_of self.old).mode (going_of self.old) line.now) }
+    {
+        match self.mode {
+            Mode::Key | Mode::Carry => self.write_keyed_text(line, writer),
+            Mode::Replace => self.write_replaced(line, writer),
+            Mode::Explain => write_explained(self.dates, line, writer),
+            Mode::Locate => self.write_located(line, writer),
+        }
+    }
+
+    // The same with a line feed.
+    #[cold]
+    #[inline(never)]
+    #[tactic(auto, using(crate::proofs::Turns::in_turn))]
+    fn write_text_line<W: ByteWriter>(
         &mut self,
         line: &[u8],
         writer: &mut W,
     ) -> Result<(), DeviceFailed>
         requires { W.failed writer.old ≡ false }
         ensures wrote { Wrote W.ByteWriter writer.old writer.new result
-            (lines_steps.said (going_of self.old) line.now) }
-        ensures next { OnOk result (going_of self.new ≡ lines_steps.next (going_of self.old) line.now) }
+            (text_in (going_of self.old).mode (going_of self.old) line.now ++ line_feed ∷ []) }
+        ensures next { OnOk result (going_of self.new ≡ next_in (going_of self.old).mode (going_of self.old) line.now) }
     {
-        match self.mode {
-            Mode::Key | Mode::Carry => self.write_keyed(line, writer),
-            Mode::Replace => self.write_replaced_line(line, writer),
-            Mode::Explain => write_explained(self.dates, line, writer),
-            Mode::Locate => self.write_located_line(line, writer),
-        }
+        self.write_text(line, writer)?;
+        writer.write_all(b"\n")
     }
 }
 
@@ -50,7 +66,7 @@ impl WritesLines for LineWriter<'_, '_> {
     ) -> Result<(), DeviceFailed> {
         match self.mode {
             Mode::Key | Mode::Carry => self.write_keyed(line, writer),
-            _ => self.write_in_mode(line, writer),
+            _ => self.write_text_line(line, writer),
         }
     }
 
@@ -62,9 +78,9 @@ impl WritesLines for LineWriter<'_, '_> {
         writer: &mut W,
     ) -> Result<(), DeviceFailed> {
         match self.mode {
-            Mode::Replace => self.write_replaced(line, writer),
+            Mode::Replace => self.write_text(line, writer),
             Mode::Key | Mode::Carry | Mode::Explain | Mode::Locate => {
-                self.write_in_mode(line, writer)
+                self.write_text_line(line, writer)
             }
         }
     }
@@ -77,10 +93,10 @@ impl WritesLines for LineWriter<'_, '_> {
         writer: &mut W,
     ) -> Result<(), DeviceFailed> {
         match self.mode {
-            Mode::Key | Mode::Carry => self.begin_keyed(prefix, writer),
-            Mode::Replace => self.write_replaced(prefix, writer),
             Mode::Explain => Ok(()),
-            Mode::Locate => self.write_located(prefix, writer),
+            Mode::Key | Mode::Carry | Mode::Replace | Mode::Locate => {
+                self.write_text(prefix, writer)
+            }
         }
     }
 

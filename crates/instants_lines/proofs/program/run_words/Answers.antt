@@ -9,7 +9,7 @@ use Rattle.instants_timeline.specs.Settings.{setting_of}
 use Rattle.instants_lines_words.specs.Asked.{asking_of}
 use Rattle.instants_lines.specs.Asked.{begins_by}
 use Rattle.instants_lines.specs.Going.{Going}
-use Rattle.instants_lines.specs.Lacking.{lacking_in}
+use Rattle.instants_lines.specs.Lacking.{first_lacking, lacking_in}
 use Rattle.instants_lines.specs.Program.{AsksFor, writing}
 use Rattle.instants_lines.specs.Showing.{search_in}
 use Rattle.instants_lines.proofs.Saying.{asks_so, begun_so, ended_so, same_search, written_so}
@@ -34,7 +34,7 @@ pub returns-in-Some-clause-lacks : goal.returns-in-Some-clause-lacks
 returns-in-Some-clause-lacks g c = λ lacking e.
     let at = (goal.at.returns-in-Some-clause-lacks g c).In_ok-dates in
     let same : c.in-Some.lacking ≡ lacking = cc in
-    (_, asked_for g at, ap lacking_in (sym (searched g at)) ∙ sym c.in-Some.ensures ∙ ap Some same)
+    (_, asked_for g at, ap lacking_in (sym (searched g at)) ∙ ap (first_lacking c.given_by-given.result 1) (sym c.sources.ensures) ∙ sym c.in-Some.ensures ∙ ap Some same)
 
 pub returns-in_err-run_program-clause-ran : goal.returns-in_err-run_program-clause-ran
 returns-in_err-run_program-clause-ran g c =
@@ -61,7 +61,7 @@ returns-in_err-run_program-clause-names g c =
     let at = (goal.at.returns-in_err-run_program-clause-names g c).In_ok-dates in
     let p = err_from_is_err_and c.from_residual-in_err-run_program.result c.from_residual-in_err-run_program.ensures.1 in
     let Q : Type 0 = (one : Going) × AsksFor (map (λ word. word.now) c.args.words.now) one × (lacking_in one.search ≡ None) in
-    let all : Q = (_, asked_for g at, ap lacking_in (sym (searched g at)) ∙ sym c.in_default.ensures) in
+    let all : Q = (_, asked_for g at, ap lacking_in (sym (searched g at)) ∙ ap (first_lacking c.given_by-given.result 1) (sym c.sources.ensures) ∙ sym c.in_default.ensures) in
     rw (p.1, p.2) (begun_so Q all _)
 
 pub returns-clause-ran : goal.returns-clause-ran
@@ -76,7 +76,7 @@ returns-clause-ran g c =
 pub returns-clause-names : goal.returns-clause-names
 returns-clause-names g c =
     let at = (goal.at.returns-clause-names g c).In_ok-dates in
-    (_, asked_for g at, ap lacking_in (sym (searched g at)) ∙ sym c.in_default.ensures)
+    (_, asked_for g at, ap lacking_in (sym (searched g at)) ∙ ap (first_lacking c.given_by-given.result 1) (sym c.sources.ensures) ∙ sym c.in_default.ensures)
 
 pub returns-in_err-asked : goal.returns-in_err-asked
 returns-in_err-asked g c = search rules

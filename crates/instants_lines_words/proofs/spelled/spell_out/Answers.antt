@@ -1,34 +1,22 @@
-use Rattle.std.proofs.Common.{◌≡◌, ◌+◌, ◌-◌, ◌++◌, ◌∷◌, map, take, drop, length, append-nil, sym, ap, ◌∙◌, arith}
-use Rattle.std.proofs.lemmas.List.{take_all, drop-map, drop-drop, length-map, length-drop}
+use Rattle.std.proofs.Common.{◌≡◌, [], drop, map, append-nil, sym, ap, ◌∙◌, arith}
+use Rattle.std.proofs.lemmas.List.{drop_all, map-append}
 use Rattle.instants_lines_words.specs.Spelled.{spelled_out}
-use Rattle.instants_lines_words.proofs.Spelling.{spelled_none}
+use Rattle.instants_lines_words.proofs.Sources.{added, cut}
 use Rattle.instants_lines_words.proofs.spelled.spell_out.Goals as goal
 
+pub loop-word-preserved-then-stays : goal.loop-word-preserved-then-stays
+unfolding spelled_out
+loop-word-preserved-then-stays c =
+    added _ _ _ _ _ (ap (map (λ word. word.now)) c.in_ok-extend_from_slice.ensures.items ∙ map-append (λ word. word.now) c.loop-word.words.items _)
+    (rw (cut c.args.sources.now c.loop-word.word-index (omega arith), sym c.stays.ensures ∙ c.if-stays.true) at c.loop-word.invariant)
+
 pub loop-word-preserved : goal.loop-word-preserved
+unfolding spelled_out
 loop-word-preserved c =
-    let words = c.args.sources.now in
-    let all = map (λ word. word.now) words in
-    let at = c.loop-word.at in
-    let count = c.in_ok-at.field-0 in
-    let left : take (length words - at) (drop at words) ≡ drop at words = take_all (length words - at) (drop at words) (omega (arith, length-drop at words)) in
-    let first = sym left ∙ c.in-Some.ensures.cases.0 in
-    let cut = drop-map (λ word. word.now) at words ∙ ap (map (λ word. word.now)) first in
-    let more = ap length first in
-    let rest : drop (at + (1 + count)) all ≡ drop count (map (λ word. word.now) c.in-Some.after.now) = sym (drop-drop (1 + count) at all) ∙ ap (drop (1 + count)) cut ∙ sym (drop-drop count 1 (c.in-Some.word.now.now ∷ map (λ word. word.now) c.in-Some.after.now)) in
-    record {
-      within = omega (arith, more, length-drop at words, c.in_ok-at.ensures.within, c.loop-word.invariant.within);
-      added =
-          ap (λ l. map (λ word. word.now) c.spell_first.new.words.items ++ spelled_out l) rest
-          ∙ c.in_ok-at.ensures.spelled
-          ∙ sym (ap (λ l. map (λ word. word.now) c.loop-word.words.items ++ spelled_out l) cut)
-          ∙ c.loop-word.invariant.added;
-    }
+    added _ _ _ _ _ c.in_ok-push_word.ensures (rw (cut c.args.sources.now c.loop-word.word-index (omega arith), sym c.stays.ensures ∙ c.if-stays.false) at c.loop-word.invariant)
 
 pub returns : goal.returns
+unfolding spelled_out
 returns c =
-    let words = c.args.sources.now in
-    let all = map (λ word. word.now) words in
-    let at = c.loop-word.at in
-    let left : take (length words - at) (drop at words) ≡ drop at words = take_all (length words - at) (drop at words) (omega (arith, length-drop at words)) in
-    let none : length (drop at all) ≡ 0 = ap length (drop-map (λ word. word.now) at words) ∙ length-map (drop at words) (λ word. word.now) ∙ sym (ap length left) ∙ c.in_default.ensures.cases in
-    sym (append-nil (map (λ word. word.now) c.loop-word.words.items)) ∙ ap (λ l. map (λ word. word.now) c.loop-word.words.items ++ l) (sym (spelled_none (drop at all) none)) ∙ c.loop-word.invariant.added
+    let none : drop c.loop-word.word-index c.args.sources.now ≡ [] = drop_all c.loop-word.word-index c.args.sources.now (omega arith) in
+    sym (append-nil _) ∙ rw none at c.loop-word.invariant

@@ -1,52 +1,50 @@
-use Rattle.std.proofs.Common.{◌≡◌, ◌+◌, ◌-◌, [], ◌∷◌, ◌++◌, map, take, drop, length, sym, ap, ◌∙◌, arith}
-use Rattle.std.proofs.lemmas.List.{take_all, drop-map, drop-drop, length-map, length-drop}
-use Rattle.instants_lines_words.specs.Words.{also, sources_read}
-use Rattle.instants_lines_words.proofs.Sources.{after, after_nothing, after_one, all_read}
+use Rattle.std.proofs.Common.{◌≡◌, [], drop, sym, ap, ◌∙◌, arith}
+use Rattle.std.specs.Result.{result_err}
+use Rattle.std.proofs.lemmas.List.{drop_all}
+use Rattle.instants_lines_words.specs.Words.{sources_read}
+use Rattle.instants_lines_words.proofs.Sources.{cut, description, language, no_source, source}
 use Rattle.instants_lines_words.proofs.wrong_source.wrong_source.Goals as goal
 
-pub loop-word-init : goal.loop-word-init
-loop-word-init c = record { within = omega arith; fewer = omega arith; said = ([], after_nothing (sources_read 1 (map (λ word. word.now) c.args.words.now))) }
+pub loop-word-preserved-in-Some : goal.loop-word-preserved-in-Some
+loop-word-preserved-in-Some c =
+    let i = c.loop-word.invariant in
+    record {
+      few = omega arith;
+      language = tt;
+      wrong = sym (description _ _ _ c.in-Some.field-0.now (rw c.in-Some.is at i.language)) ∙ rw (cut c.args.words.now c.loop-word.word-index (omega arith), c.in-Some.is) at i.wrong;
+    }
 
-pub returns-in-Err-clause-some : goal.returns-in-Err-clause-some
-returns-in-Err-clause-some c =
-    let words = c.args.words.now in
-    let at = c.loop-word.at in
-    let said = c.loop-word.invariant.said in
-    let left : take (length words - at) (drop at words) ≡ drop at words = take_all (length words - at) (drop at words) (omega (arith, length-drop at words)) in
-    let cut = drop-map (λ word. word.now) at words ∙ ap (map (λ word. word.now)) (sym left ∙ c.in-Some.ensures.cases.0) in
-    said.1 ∙ ap (λ l. after said.0 (sources_read (c.loop-word.count + 1) l)) cut ∙ ap (after said.0) c.in-Err.ensures.wrong
+pub loop-word-preserved-then-is_language : goal.loop-word-preserved-then-is_language
+loop-word-preserved-then-is_language c =
+    let i = c.loop-word.invariant in
+    let is = sym c.is_language.ensures ∙ c.if-is_language.true in
+    record {
+      few = omega arith;
+      language = is;
+      wrong = ap result_err (sym (language _ _ _ is)) ∙ rw (cut c.args.words.now c.loop-word.word-index (omega arith), c.in_default.is) at i.wrong;
+    }
+
+pub returns-then-not-is_named : goal.returns-then-not-is_named
+returns-then-not-is_named c =
+    sym (no_source _ _ _ (sym c.is_language.ensures ∙ c.if-is_language.false) (sym c.is_named.ensures ∙ c.if-not-is_named.true)) ∙ rw (cut c.args.words.now c.loop-word.word-index (omega arith), c.in_default.is) at c.loop-word.invariant.wrong
 
 pub loop-word-preserved : goal.loop-word-preserved
 loop-word-preserved c =
-    let words = c.args.words.now in
-    let all = map (λ word. word.now) words in
-    let at = c.loop-word.at in
-    let count = c.loop-word.count in
-    let len = c.in-Ok.len in
-    let said = c.loop-word.invariant.said in
-    let left : take (length words - at) (drop at words) ≡ drop at words = take_all (length words - at) (drop at words) (omega (arith, length-drop at words)) in
-    let first = sym left ∙ c.in-Some.ensures.cases.0 in
-    let cut = drop-map (λ word. word.now) at words ∙ ap (map (λ word. word.now)) first in
-    let one = c.in-Ok.ensures.said in
-    let rest : drop len (c.in-Some.word.now.now ∷ map (λ word. word.now) c.in-Some.after.now) ≡ drop (at + len) all = ap (drop len) (sym cut) ∙ drop-drop len at all in
+    let i = c.loop-word.invariant in
     record {
-      within = omega (arith, ap length first, length-drop at words, c.in-Ok.ensures.within.1, c.loop-word.invariant.within);
-      fewer = omega (arith, c.loop-word.invariant.fewer, c.in-Ok.ensures.within.0);
-      said = (
-        said.0 ++ one.0 ∷ [],
-        said.1
-            ∙ ap (λ l. after said.0 (sources_read (count + 1) l)) cut
-            ∙ ap (after said.0) (one.1 ∙ ap (λ l. also one.0 (sources_read (count + 1 + 1) l)) rest)
-            ∙ after_one said.0 one.0 (sources_read (count + 1 + 1) (drop (at + len) all)),
-      );
+      few = omega arith;
+      language = i.language;
+      wrong = rw c.in_default.is (sym (source _ _ _ (sym c.is_language.ensures ∙ c.if-is_language.false) (sym c.is_named.ensures ∙ c.if-not-is_named.false)) ∙ rw (cut c.args.words.now c.loop-word.word-index (omega arith), c.in_default.is) at i.wrong);
     }
 
-pub returns-clause-none : goal.returns-clause-none
-returns-clause-none c =
-    let words = c.args.words.now in
-    let all = map (λ word. word.now) words in
-    let at = c.loop-word.at in
-    let said = c.loop-word.invariant.said in
-    let left : take (length words - at) (drop at words) ≡ drop at words = take_all (length words - at) (drop at words) (omega (arith, length-drop at words)) in
-    let none : length (drop at all) ≡ 0 = ap length (drop-map (λ word. word.now) at words) ∙ length-map (drop at words) (λ word. word.now) ∙ sym (ap length left) ∙ c.in_default.ensures.cases in
-    all_read _ said.0 (c.loop-word.count + 1) (drop at all) said.1 none
+pub returns-in-Some-before : goal.returns-in-Some-before
+unfolding sources_read
+returns-in-Some-before c =
+    let none : drop c.loop-word.word-index c.args.words.now ≡ [] = drop_all c.loop-word.word-index c.args.words.now (omega arith) in
+    rw (none, c.in-Some-before.is) at c.loop-word.invariant.wrong
+
+pub returns-in-None : goal.returns-in-None
+unfolding sources_read
+returns-in-None c =
+    let none : drop c.loop-word.word-index c.args.words.now ≡ [] = drop_all c.loop-word.word-index c.args.words.now (omega arith) in
+    rw (none, c.in-None.is) at c.loop-word.invariant.wrong

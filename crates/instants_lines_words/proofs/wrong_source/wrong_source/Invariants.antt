@@ -1,16 +1,14 @@
-use Rattle.std.proofs.Common.{◌≡◌, ◌+◌, ◌-◌, ◌≤◌, List, length, map, drop}
-use Rattle.instants_words.specs.Sources.{SourceSaid}
+use Rattle.std.proofs.Common.{◌≡◌, ◌+◌, ◌≤◌, true, None, is_some, option_map, map, drop}
+use Rattle.std.specs.Prelude.{IfSome}
+use Rattle.std.specs.Result.{result_err}
+use Rattle.instants_words.specs.Sources.{language_named}
 use Rattle.instants_lines_words.specs.Words.{sources_read}
-use Rattle.instants_lines_words.proofs.Sources.{after}
 use Rattle.instants_lines_words.proofs.wrong_source.wrong_source.Given as goal
 
--- the words so far say sources, which stand before those of the words that are left
+-- what is wrong with the words that are left is wrong with all
 abbrev pub invariant-loop-word : goal.invariant-loop-word
 invariant-loop-word l = record {
-  within : l.at ≤ length l.words;
-  fewer : l.count ≤ l.at;
-  said : (before : List SourceSaid) × (sources_read 1 (map (λ word. word.now) l.words) ≡ after before (sources_read (l.count + 1) (drop l.at (map (λ word. word.now) l.words))));
+  few : l.place ≤ l.word-index + 1;
+  language : IfSome l.before (λ name. is_some (language_named name.now) ≡ true);
+  wrong : result_err (sources_read (option_map (λ word. word.now) l.before) l.place (map (λ word. word.now) (drop l.word-index l.words))) ≡ result_err (sources_read None 1 (map (λ word. word.now) l.words));
 }
-
-abbrev pub decreases-loop-word : goal.decreases-loop-word
-decreases-loop-word l = length l.words - l.at
