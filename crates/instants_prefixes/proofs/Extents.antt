@@ -43,14 +43,12 @@ all_texts (t ∷ items) long are = absurd cc
 texts_extent : (language : Language) (items : List Tree) (ends : Ends) (texts : Texts) (text rest : List ℕ) (set : Record) → AreEnds items ends → ends.texts ≡ Some texts → reading_of_all language (listed items) empty text ≡ Ok (set, rest) → by_texts (length text - length rest) texts ≡ extent_by language text items
 texts_extent language items ends texts text rest set are is e =
     let (prefix, back) = are.texts texts is in
-    let front = split_at language (prefix_len is_silent items) items empty text (set, rest) e in
-    let whole = split_at language (last_place items) items empty text (set, rest) e in
-    let read = texts_read language _ texts.prefix empty text front.between prefix front.first in
-    let left = texts_read language _ texts.back whole.between.0 whole.between.1 (set, rest) back whole.others in
-    let begins : texts.prefix ≡ length text - length front.between.1 = omega (arith, read) in
-    let up_to : (length text - length rest) - texts.back ≡ length text - length whole.between.1 = omega (arith, left) in
+    let (front, first, after) = split_at language (prefix_len is_silent items) items empty text (set, rest) e in
+    let (last, before, others) = split_at language (last_place items) items empty text (set, rest) e in
+    let begins : texts.prefix ≡ length text - length front.1 = omega (arith, texts_read language _ texts.prefix empty text front prefix first) in
+    let up_to : (length text - length rest) - texts.back ≡ length text - length last.1 = omega (arith, texts_read language _ texts.back last.0 last.1 (set, rest) back others) in
     let all : take (text_place items) items ≡ items = take_all (text_place items) items (omega (arith, all_texts (drop (last_place items) items) texts.back back, length-drop (last_place items) items)) in
-    rw (front.first, whole.first, all, e, begins, up_to) refl
+    rw (first, before, all, e, begins, up_to) refl
 
 written_read : (written : Written) (text rest : List ℕ) → LeavesRest (Described written) text rest → (set : Record) × (reading_of_all (language_of written) (listed (items_written written)) empty text ≡ Ok (set, rest))
 written_read (Items items) text rest leaves = leaves

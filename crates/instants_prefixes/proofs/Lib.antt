@@ -2,7 +2,6 @@ pub mod Le
 pub mod Says
 pub mod Told
 pub mod NamedAlone
-pub mod Stands
 pub mod Completing
 pub mod FastPrefix
 pub mod ReadPrefixes

@@ -5,6 +5,7 @@ use Rattle.std.specs.Borrow.{Bor}
 use Rattle.std.proofs.lemmas.Grind.{common_steps}
 use Rattle.std.proofs.lemmas.Slice.Eq.{bytes_eq-Decides}
 use Rattle.description_items.specs.Tree.{Tree, Trees, Literal, Compound, none, also, listed}
+use Rattle.parsing_combinator.specs.Readings.{then_read}
 use Rattle.parsing_components.specs.declared.fields.Record.{Record}
 use Rattle.parsing_components.specs.declared.node.NodeStep.{NodeStep}
 use Rattle.parsing_components.specs.declared.node.NodeStep.TheVariants as steps
@@ -18,34 +19,27 @@ pub more_texts : (text : List ℕ) (o : Option ℕ) (long : ℕ) → option_map 
 more_texts text (Some n) long e = (n, refl, cc)
 more_texts text None long e = absurd cc
 
+read_then : (a : Answer) (f : Record → List ℕ → Answer) (read : Record × List ℕ) → then_read a f ≡ Ok read → (between : Record × List ℕ) × (a ≡ Ok between) × (f between.0 between.1 ≡ Ok read)
+read_then (Ok x) f read e = (x, refl, e)
+read_then (Err g) f read e = absurd cc
+
 module _ (language : Language) where
-  -- the first of them read, and then the others
-  pub record AreReadInTurn (xs ys : List Tree) (r : Record) (text : List ℕ) (read : Record × List ℕ) : Type 0 where
-    pub between : Record × List ℕ
-    pub first : reading_of_all language (listed xs) r text ≡ Ok between
-    pub others : reading_of_all language (listed ys) between.0 between.1 ≡ Ok read
-
-  then_split : (xs ys : List Tree) (a : Answer) (n : ℕ) (read : Record × List ℕ) → ((r : Record) (text : List ℕ) → reading_of_all language (listed (xs ++ ys)) r text ≡ Ok read → AreReadInTurn xs ys r text read)
-      → (then_counted a n (all_of (each_reads language (listed (xs ++ ys))))).0 ≡ Ok read → (between : Record × List ℕ) × ((then_counted a n (all_of (each_reads language (listed xs)))).0 ≡ Ok between) × (reading_of_all language (listed ys) between.0 between.1 ≡ Ok read)
-  then_split xs ys (Ok x) n read h e = let rest = h x.0 x.1 e in (rest.between, rest.first, rest.others)
-  then_split xs ys (Err f) n read h e = absurd cc
-
-  split : (xs ys : List Tree) (r : Record) (text : List ℕ) (read : Record × List ℕ) → reading_of_all language (listed (xs ++ ys)) r text ≡ Ok read → AreReadInTurn xs ys r text read
+  in_turn : (xs ys : List Tree) (r : Record) (text : List ℕ) → reading_of_all language (listed (xs ++ ys)) r text ≡ then_read (reading_of_all language (listed xs) r text) (reading_of_all language (listed ys))
   unfolding all_of each_reads
-  split [] ys r text read e = record { between = (r, text); first = refl; others = e }
-  split (x ∷ xs) ys r text read e =
-      let both = then_split xs ys (reads language x r text).0 (reads language x r text).1 read (λ s t h. split xs ys s t read h) e in
-      record { between = both.0; first = both.1; others = both.2 }
+  in_turn [] ys r text = refl
+  in_turn (x ∷ xs) ys r text = let others = in_turn xs ys in grind arith
 
-  pub split_at : (n : ℕ) (items : List Tree) (r : Record) (text : List ℕ) (read : Record × List ℕ) → reading_of_all language (listed items) r text ≡ Ok read → AreReadInTurn (take n items) (drop n items) r text read
-  split_at n items r text read e = split (take n items) (drop n items) r text read (rw (take-append-drop n items) e)
+  -- the items before a place read, and then those after it
+  pub split_at : (n : ℕ) (items : List Tree) (r : Record) (text : List ℕ) (read : Record × List ℕ) → reading_of_all language (listed items) r text ≡ Ok read
+      → (between : Record × List ℕ) × (reading_of_all language (listed (take n items)) r text ≡ Ok between) × (reading_of_all language (listed (drop n items)) between.0 between.1 ≡ Ok read)
+  split_at n items r text read e =
+      read_then (reading_of_all language (listed (take n items)) r text) (reading_of_all language (listed (drop n items))) read (sym (in_turn (take n items) (drop n items) r text) ∙ rw (take-append-drop n items) e)
 
   -- ---- a tree as its items
 
   one_item : (t : Tree) (r : Record) (text : List ℕ) → reading_of_all language (listed (t ∷ [])) r text ≡ reading language t r text
   unfolding all_of each_reads
-  one_item t r text =
-      elim (reading language t r text) as (λ a. (then_counted a (reads language t r text).1 (all_of [])).0 ≡ a) [ Ok x ↦ refl | Err f ↦ refl ]
+  one_item t r text = grind arith
 
   -- ---- texts
 
@@ -59,10 +53,8 @@ module _ (language : Language) where
   texts_read [] long r text read are e = let same : (r, text) ≡ read = cc in let none : 0 ≡ long = cc in omega (arith, none, ap (λ (x : Record × List ℕ). length x.1) same)
   texts_read (Literal piece ∷ items) long r text read are e =
       let (rest, others, sum) = more_texts piece (text_length items) long are in
-      let turns = split (Literal piece ∷ []) items r text read e in
-      let first = text_read piece text r turns.between (sym (one_item (Literal piece) r text) ∙ turns.first) in
-      let more = texts_read items rest turns.between.0 turns.between.1 read others turns.others in
-      omega (arith, first, more, sum)
+      let (between, one, all) = read_then (reading_of_all language (listed (Literal piece ∷ [])) r text) (reading_of_all language (listed items)) read (sym (in_turn (Literal piece ∷ []) items r text) ∙ e) in
+      omega (arith, text_read piece text r between (sym (one_item (Literal piece) r text) ∙ one), texts_read items rest between.0 between.1 read others all, sum)
   texts_read (t ∷ items) long r text read are e = absurd cc
 
 listed_children : (ts : Trees) → listed (children ts) ≡ ts

@@ -23,7 +23,7 @@ pub(crate) struct Texts {
 }
 
 /// What stands before the first item that says something and after the last that does.
-#[derive(Clone, Copy)]
+#[derive(Clone, Copy, Default)]
 pub(crate) struct Ends {
     /// How many items come before the first that says something.
     pub(crate) first: usize,
@@ -116,12 +116,7 @@ impl Ends {
                 Description::Items(items) => Ends::of_all(items.as_slice()),
                 Description::V3(tree) => ends_of_tree(tree),
             },
-            _ => Ends {
-                first: 0,
-                last: 0,
-                written: 0,
-                texts: None,
-            },
+            _ => Ends::default(),
         }
     }
 

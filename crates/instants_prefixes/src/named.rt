@@ -3,7 +3,6 @@ ghost use Rattle.std.specs.Prelude.{◌≡◌, option_map, if◌then◌else◌, 
 ghost use Rattle.parsing_record.specs.Record.{empty};
 ghost use Rattle.parsing_record.specs.Whole.{ReadsInto};
 ghost use Rattle.instants_sources.specs.Grammar.{grammar_of, written};
-ghost use Rattle.instants_sources.specs.Grammar as grammar;
 ghost use Rattle.instants_sources.specs.Reading.{reading_of};
 ghost use Rattle.instants_sources.specs.Written.{reads_written};
 ghost use Rattle.instants_prefixes.specs.Reading as Reading;
@@ -116,34 +115,9 @@ pub(crate) fn assumed(contents: Contents, given: &Given) -> Option<UtcOffset>
     }
 }
 
-// By RFC 2822, where the text begins with a weekday or a day.
-#[tactic(auto, unfolding(crate::specs::Reading::prefix_named))]
-fn named_by_rfc2822<'b>(text: &'b [u8], given: &Given) -> Option<(Named, &'b [u8])>
-    ensures { option_map (λ x. (x.0, x.1.now)) result
-        ≡ prefix_named given.now grammar.Rfc2822 text.now }
-{
-    if !byte_at(text, 0).is_ascii_alphanumeric() {
-        return None;
-    }
-    named_by_record(&Source::Rfc2822, text, given)
-}
-
-// By RFC 3339, the fast way first.
-#[tactic(auto, unfolding(crate::specs::Reading::prefix_named), using(crate::proofs::ReadPrefixes::rfc3339_prefix))]
-#[inline(always)]
-fn named_by_rfc3339<'b>(text: &'b [u8], given: &Given) -> Option<(Named, &'b [u8])>
-    ensures { option_map (λ x. (x.0, x.1.now)) result
-        ≡ prefix_named given.now grammar.Rfc3339 text.now }
-{
-    if let Some((fields, rest)) = fast_prefix(text) {
-        return Some((Named::of_fields(fields), rest));
-    }
-    named_by_record(&Source::Rfc3339, text, given)
-}
-
 /// The moment that a prefix of a text names by a source, with what is given where the prefix lacks it, and what stands after
-/// that prefix.
-#[tactic(auto, unfolding(crate::specs::Reading::prefix_named))]
+/// that prefix. RFC 3339 goes the fast way first.
+#[tactic(auto, unfolding(crate::specs::Reading::prefix_named), using(crate::proofs::ReadPrefixes::rfc3339_prefix))]
 #[inline(always)]
 pub(crate) fn prefix_named<'b>(
     source: &Source<'_>,
@@ -154,8 +128,11 @@ pub(crate) fn prefix_named<'b>(
         ≡ prefix_named given.now (grammar_of source.now) text.now }
 {
     match source {
-        Source::Items(_) | Source::V3(_) | Source::Iso8601 => named_by_record(source, text, given),
-        Source::Rfc2822 => named_by_rfc2822(text, given),
-        Source::Rfc3339 => named_by_rfc3339(text, given),
+        Source::Rfc2822 if !byte_at(text, 0).is_ascii_alphanumeric() => None,
+        Source::Rfc3339 => match fast_prefix(text) {
+            Some((fields, rest)) => Some((Named::of_fields(fields), rest)),
+            None => named_by_record(source, text, given),
+        },
+        _ => named_by_record(source, text, given),
     }
 }
