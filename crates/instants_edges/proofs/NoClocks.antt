@@ -8,9 +8,12 @@ use Rattle.std.proofs.lemmas.List.{get_or-drop, get_or-take, get_or_past, length
 use Rattle.base.specs.Bytes.{colon}
 use Rattle.instants_edges.specs.Words.{fits, begin_so}
 use Rattle.instants_edges.specs.Beside.{begins_seconds, has_clock_before}
-use Rattle.instants_edges.specs.Colons.{HasNoColon}
 use Rattle.instants_edges.proofs.Anywhere.{any_never}
 use Rattle.instants_edges.proofs.FirstBytes.{no_other}
+
+-- none stands before a place
+abbrev pub HasNoColon : List ℕ → ℕ → Type 0
+HasNoColon line place = (k : ℕ) → k < place → (get_or line k 0 == colon) ≡ false
 
 -- sixteen bytes more without one
 pub none_among : (line : List ℕ) (seen at place : ℕ) → at ≤ seen → place ≡ at + 16 → HasNoColon line seen

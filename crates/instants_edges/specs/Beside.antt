@@ -166,15 +166,12 @@ has_another_year line begins ends year = is_year_after year (after line ends) ||
 
 -- ---- a clock before a date
 
--- digits that may write an address of IPv6 or of hardware
-abbrev pub is_of_address : ℕ → Bool
-is_of_address byte = is_ascii_hexdigit byte || byte == colon
-
--- an address goes on over this place: two colons or more are among its digits before it
+-- an address of IPv6 or of hardware goes on over this place: two colons or more are among its digits before it
 abbrev pub is_in_address : List ℕ → ℕ → Bool
 is_in_address line place =
     let before = take place line in
-    nat_lt 1 (count_by (λ byte. byte == colon) (drop (length before - suffix_len is_of_address before) before))
+    let digits = suffix_len (λ byte. is_ascii_hexdigit byte || byte == colon) before in
+    nat_lt 1 (count_by (λ byte. byte == colon) (drop (length before - digits) before))
 
 -- hours, minutes and seconds begin here, and no more of a clock or an address
 abbrev pub begins_seconds : List ℕ → ℕ → Bool

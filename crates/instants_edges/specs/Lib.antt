@@ -2,5 +2,4 @@ pub mod Edge
 pub mod Text
 pub mod Words
 pub mod Beside
-pub mod Colons
 pub mod Pieces

@@ -32,17 +32,13 @@ iso_end before byte after = if is_stop byte after then Some 0 else None
 abbrev pub iso_text : List ℕ → List ℕ
 iso_text bytes = up_to_end iso_end 0 bytes
 
--- a word that begins with these bytes is `UT`
-abbrev pub is_ut : ℕ → List ℕ → Bool
-is_ut byte after = to_ascii_lowercase byte == 117 && to_ascii_lowercase (get_or after 0 0) == 116 && not (is_ascii_alphanumeric (get_or after 1 0))
-
 -- a date of RFC 2822 ends before a comment, with the word `UT` or `Z`, and before another word of one letter, which its section 4.3 reads as a zone too
 abbrev pub mail_end : ℕ → ℕ → List ℕ → Option ℕ
 mail_end before byte after =
     if byte == 40 then Some 0
     else if is_ascii_alphanumeric before || not (is_ascii_alphabetic byte) then None
     else if not (is_ascii_alphanumeric (get_or after 0 0)) then Some (if to_ascii_lowercase byte == lower_z then 1 else 0)
-    else if is_ut byte after then Some 2
+    else if (to_ascii_lowercase byte == 117 && to_ascii_lowercase (get_or after 0 0) == 116) && not (is_ascii_alphanumeric (get_or after 1 0)) then Some 2
     else None
 
 abbrev pub mail_text : ℕ → List ℕ → List ℕ

@@ -1,5 +1,6 @@
 //! Times of day beside a date and before it.
-ghost use Rattle.std.specs.Prelude.{◌≡◌, ◌≤◌, ◌==◌, not, length};
+ghost use Rattle.std.specs.Prelude.{◌≡◌, ◌≤◌, ◌==◌, ◌||◌, not, length};
+ghost use Rattle.std.specs.Char.{is_ascii_hexdigit};
 ghost use Rattle.std.specs.List.{prefix_len, suffix_len};
 ghost use Rattle.instants_edges.specs.Words as Words;
 ghost use Rattle.instants_edges.specs.Beside as Beside;
@@ -72,24 +73,16 @@ pub fn has_clock_beside(line: &[u8], begins: usize, ends: usize) -> bool
     has_clock(line, begins.saturating_sub(16), begins) || has_clock(line, ends, ends + 16)
 }
 
-// Whether a byte may stand in an address of IPv6 or of hardware.
-#[inline(always)]
-fn is_of_address(byte: u8) -> bool
-    ensures { result ≡ Beside.is_of_address byte }
-{
-    byte.is_ascii_hexdigit() || byte == b':'
-}
-
-// How many bytes that may stand in an address end the bytes.
+// How many bytes that may stand in an address of IPv6 or of hardware end the bytes.
 #[tactic(auto, using(crate::proofs::Prefixes::prefix_count))]
 fn address_length(bytes: &[u8]) -> usize
-    ensures value { result ≡ suffix_len Beside.is_of_address bytes.now }
+    ensures value { result ≡ suffix_len (λ byte. is_ascii_hexdigit byte || byte == 58) bytes.now }
     ensures within { result ≤ length bytes.now }
 {
     bytes
         .iter()
         .rev()
-        .take_while(|byte| is_of_address(**byte))
+        .take_while(|byte| byte.is_ascii_hexdigit() || **byte == b':')
         .count()
 }
 

@@ -2,7 +2,6 @@
 ghost use Rattle.std.specs.Prelude.{◌≡◌, ◌<◌, ◌≤◌, ◌==◌, ◌+◌, ℕ, true, false, length, slice_index, get_or};
 ghost use Rattle.std.specs.Int.{bit_at};
 ghost use Rattle.base.specs.Bytes.{colon};
-ghost use Rattle.instants_edges.specs.Colons.{HasNoColon};
 
 use std::simd::prelude::*;
 
@@ -40,7 +39,7 @@ fn has_colon(line: &[u8], at: usize) -> bool
 #[inline(always)]
 pub(crate) fn lacks_colon(line: &[u8], place: usize) -> bool
     requires { place ≤ length line.now }
-    ensures { result ≡ true → HasNoColon line.now place }
+    ensures { result ≡ true → (k : ℕ) → k < place → (get_or line.now k 0 == colon) ≡ false }
 {
     if place < LANES {
         return false;

@@ -42,16 +42,6 @@ pub fn iso_text(bytes: &[u8]) -> &[u8]
     bytes
 }
 
-// Whether a letter and the bytes after it are the word `UT`.
-#[tactic(auto, using(std::proofs::lemmas::Bool::Decides::nat_tests))]
-fn is_ut(byte: u8, after: &[u8]) -> bool
-    ensures { result ≡ Text.is_ut byte after.now }
-{
-    byte.to_ascii_lowercase() == b'u'
-        && byte_at(after, 0).to_ascii_lowercase() == b't'
-        && !byte_at(after, 1).is_ascii_alphanumeric()
-}
-
 // How many bytes a date of RFC 2822 has from a byte on, if it ends there.
 #[inline(always)]
 #[tactic(auto, using(std::proofs::lemmas::Bool::Decides::nat_tests))]
@@ -68,7 +58,14 @@ fn mail_end(before: u8, byte: u8, after: &[u8]) -> Option<usize>
     if !byte_at(after, 0).is_ascii_alphanumeric() {
         return Some(usize::from(byte.to_ascii_lowercase() == b'z'));
     }
-    if is_ut(byte, after) { Some(2) } else { None }
+    if byte.to_ascii_lowercase() != b'u' || byte_at(after, 0).to_ascii_lowercase() != b't' {
+        return None;
+    }
+    if byte_at(after, 1).is_ascii_alphanumeric() {
+        None
+    } else {
+        Some(2)
+    }
 }
 
 /// The bytes up to the first word `UT` or `Z`, or before another word of one letter or a parenthesis.

@@ -1,13 +1,15 @@
 -- Where a line says nothing, or nothing is given, there is no doubt.
-use Rattle.std.proofs.Common.{◌≡◌, Bool, true, false, ℕ, List, Option, None, refl, sym, arith}
+use Rattle.std.proofs.Common.{◌≡◌, Bool, true, false, ℕ, List, Option, None, refl, sym, arith, drop}
 use Rattle.std.specs.Prelude.{is_some, not, ◌||◌, if◌then◌else◌}
 use Rattle.std.proofs.Math.Bool.{and-false}
 use Rattle.std.proofs.lemmas.Bool.Decides.{nat_tests}
 use Rattle.parsing_components.specs.declared.fields.Record.{Record}
+use Rattle.instants_sources.specs.Grammar.{Grammar}
+use Rattle.instants_prefixes.specs.Reading.{record_at}
 use Rattle.instants_prefixes.specs.declared.prefix.Prefix.{Prefix}
 use Rattle.instants_prefixes.specs.declared.given.Given.{Given}
 use Rattle.instants_prefixes.specs.declared.given.Years.TheVariants.{Unknown}
-use Rattle.instants_found.specs.Beside.{otherwise, doubt_by}
+use Rattle.instants_found.specs.Beside.{joined, otherwise, why, doubt_by}
 use Rattle.instants_found.specs.declared.beside.Said.{Said}
 use Rattle.instants_found.specs.declared.doubt.Doubt.{Doubt}
 
@@ -26,3 +28,7 @@ says_nothing read said e =
 pub nothing_otherwise : (given : Given) (read : Record) (line : List ℕ) (start : ℕ) (prefix : Prefix) → is_some given.offset ≡ false → given.years ≡ Unknown → is_some given.time ≡ false → None ≡ otherwise given read line start prefix
 unfolding otherwise
 nothing_otherwise given read line start prefix offset years time = rw (offset, years, time) (simp and-false (none_of (is_some read.unix_timestamp_nanos) _ refl))
+
+pub nothing_why : (given : Given) (grammar : Grammar) (line : List ℕ) (start : ℕ) (prefix : Prefix) → None ≡ joined line start prefix → is_some given.offset ≡ false → given.years ≡ Unknown → is_some given.time ≡ false → None ≡ why given grammar line start prefix
+unfolding why
+nothing_why given grammar line start prefix e offset years time = rw (sym e) (nothing_otherwise given (record_at grammar (drop start line)) line start prefix offset years time)

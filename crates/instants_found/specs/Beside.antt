@@ -1,6 +1,6 @@
 -- Why a date that a source reads at a place does not stand whole in its line, if it does not.
 use Rattle.std.specs.Prelude.{ℕ, ◌+◌, ◌&&◌, ◌||◌, not, is_some, Bool, List, drop, Option, None, Some, unwrap_or, if◌then◌else◌, pos}
-use Rattle.std.specs.Option.{is_none}
+use Rattle.std.specs.Option.{is_none, option_or}
 use Rattle.parsing_components.specs.declared.fields.Record.{Record}
 use Rattle.instants_sources.specs.Grammar.{Grammar}
 use Rattle.instants_edges.specs.Edge.{is_edge, may_say}
@@ -51,9 +51,13 @@ doubt_by read said =
 unfoldable pub otherwise : Given → Record → List ℕ → ℕ → Prefix → Option Doubt
 otherwise given read line start prefix = doubt_by read (said given line start prefix)
 
--- why a date does not stand whole, the first of these: a word or a clock goes on after it, a clock stands before it and text of its description did not choose the place, or the line says otherwise beside it
-unfoldable pub why : Given → Grammar → List ℕ → ℕ → Prefix → Option Doubt
-why given grammar line start prefix =
+-- a word or a clock goes on after a date, or a clock stands before it and text of its description did not choose the place
+abbrev pub joined : List ℕ → ℕ → Prefix → Option Doubt
+joined line start prefix =
     if not (is_edge line (start + prefix.all)) then Some After
     else if not prefix.is_chosen && has_clock_before line (start + prefix.begins) then Some ClockBefore
-    else otherwise given (record_at grammar (drop start line)) line start prefix
+    else None
+
+-- why a date does not stand whole: something joins it, or the line says otherwise beside it
+unfoldable pub why : Given → Grammar → List ℕ → ℕ → Prefix → Option Doubt
+why given grammar line start prefix = option_or (joined line start prefix) (otherwise given (record_at grammar (drop start line)) line start prefix)

@@ -164,6 +164,22 @@ fn otherwise(
     said.doubt(&source.record(after(line, start)))
 }
 
+/// What joins the date that is read at a place, if anything does.
+#[inline(always)]
+pub(crate) fn joined(line: &[u8], start: usize, prefix: &Prefix) -> Option<Doubt>
+    requires begins { start + prefix.now.begins ≤ length line.now }
+    requires all { start + prefix.now.all ≤ length line.now }
+    ensures { result ≡ Beside.joined line.now start prefix.now }
+{
+    if !is_edge(line, start + prefix.all) {
+        return Some(Doubt::After);
+    }
+    if !prefix.is_chosen && has_clock_before(line, start + prefix.begins) {
+        return Some(Doubt::ClockBefore);
+    }
+    None
+}
+
 /// Why the date that a source reads at a place does not stand whole there, if it does not. The line can say nothing otherwise
 /// where nothing is given.
 #[inline(always)]
@@ -181,11 +197,8 @@ pub(crate) fn why(
     requires all { start + prefix.now.all ≤ length line.now }
     ensures { result ≡ Beside.why given.now (grammar_in source.now) line.now start prefix.now }
 {
-    if !is_edge(line, start + prefix.all) {
-        return Some(Doubt::After);
-    }
-    if !prefix.is_chosen && has_clock_before(line, start + prefix.begins) {
-        return Some(Doubt::ClockBefore);
+    if let Some(doubt) = joined(line, start, prefix) {
+        return Some(doubt);
     }
     if gives_nothing(given) {
         return None;

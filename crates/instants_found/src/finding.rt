@@ -6,7 +6,7 @@ ghost use Rattle.instants_found.specs.Found.{at_place, finding};
 ghost use Rattle.instants_found.specs.Starts.{HaveNoPrefix};
 ghost use Rattle.instants_found.specs.declared.found.Finding.TheVariants.{There};
 
-use crate::beside::{after, is_read, why};
+use crate::beside::{after, gives_nothing, is_read, joined};
 use crate::candidate::{Candidate, found_at, longer, read_candidate};
 use crate::found::{Finding, Found};
 use instants_edges::is_edge;
@@ -103,7 +103,8 @@ fn by_sources(
     None
 }
 
-// The date that the source of this number reads at a place, where a plan reads it and it stands whole.
+// The date that the source of this number reads at a place, where it is found at once: a plan reads it, nothing is given, and
+// nothing joins it.
 #[inline(always)]
 fn plain_date(
     source: &DateSource<'_>,
@@ -116,15 +117,18 @@ fn plain_date(
     ensures { IfSome result (λ date. Some (There date)
         ≡ option_map (finding start) (candidate given.now line.now start number (grammar_in source.now))) }
 {
+    if !gives_nothing(given) {
+        return None;
+    }
     let Some(prefix) = source.read_planned(after(line, start), given) else {
         return None;
     };
     if !is_read(source, line, start, &prefix) {
         return None;
     }
-    if why(source, given, line, start, &prefix).is_some() {
+    let None = joined(line, start, &prefix) else {
         return None;
-    }
+    };
     Some(found_at(start, number, prefix))
 }
 

@@ -1,5 +1,5 @@
 use Rattle.std.proofs.Common.{◌-◌}
-use Rattle.instants_edges.specs.Colons.{HasNoColon}
+use Rattle.instants_edges.proofs.NoClocks.{HasNoColon}
 use Rattle.instants_edges.proofs.colons.lacks_colon.Given as goal
 
 abbrev pub invariant-loop-at : goal.invariant-loop-at

@@ -1,5 +1,5 @@
 use Rattle.std.proofs.Common.{◌≡◌, Bool, true, Some, sym, ap, ◌∙◌}
-use Rattle.std.specs.Prelude.{is_some, not, option_map, if◌then◌else◌}
+use Rattle.std.specs.Prelude.{option_map, if◌then◌else◌}
 use Rattle.std.specs.Option.{is_none}
 use Rattle.instants_prefixes.specs.DateSource.{grammar_in}
 use Rattle.instants_found.specs.Beside.{why}
@@ -7,6 +7,7 @@ use Rattle.instants_found.specs.Candidate.{found_at}
 use Rattle.instants_found.specs.Found.{finding}
 use Rattle.instants_found.specs.declared.found.Found.{Found}
 use Rattle.instants_found.specs.declared.found.Finding.TheVariants.{Doubtful, There}
+use Rattle.instants_found.proofs.Needless.{nothing_why}
 use Rattle.instants_found.proofs.ReadAt.{by_read}
 use Rattle.instants_found.proofs.finding.plain_date.Goals as goal
 
@@ -16,7 +17,9 @@ returns c =
     let start = c.args.start in
     let grammar = grammar_in c.args.source.now in
     let prefix = c.in-Some.prefix in
-    let whole : is_none (why c.args.given.now grammar line start prefix) ≡ true = ap not (ap is_some (sym c.why.ensures) ∙ sym c.is_some.ensures ∙ c.if-is_some.false) in
+    let whole : is_none (why c.args.given.now grammar line start prefix) ≡ true =
+    ap is_none (sym (nothing_why c.args.given.now grammar line start prefix c.in-None.ensures
+    (c.gives_nothing.ensures.offset c.if-not-gives_nothing.false) (c.gives_nothing.ensures.years c.if-not-gives_nothing.false) (c.gives_nothing.ensures.time c.if-not-gives_nothing.false))) in
     ap (λ (d : Found). Some (There d)) c.found_at.ensures
     ∙ ap (λ (b : Bool). Some (if b then There (found_at start c.args.number prefix) else Doubtful start)) (sym whole)
     ∙ ap (option_map (finding start)) (by_read c.args.given.now line start c.args.number grammar prefix true (rw c.after.ensures at c.in-Some.ensures.prefix) (sym c.if-not-is_read.false ∙ c.is_read.ensures))
