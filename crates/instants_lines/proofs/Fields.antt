@@ -54,7 +54,7 @@ offset_field offset = zone_field (int_eq offset (pos 0)) (int_lt offset (pos 0))
 parts_field : (day : YearMonthDay) (second nanosecond : ℕ) (offset : ℤ) → is_field (date_text day ++ codes "T" ++ time_text second nanosecond ++ offset_text offset) ≡ true
 parts_field day second nanosecond offset = simp (list_all-append, date_field, time_field, offset_field)
 
-moment_field : (m : Shown) → is_field (moment_text m) ≡ true
+pub moment_field : (m : Shown) → is_field (moment_text m) ≡ true
 unfolding moment_text
 moment_field m = parts_field _ _ _ m.offset
 

@@ -114,11 +114,13 @@ module _ (going : Going) (line : List ℕ) (whole : is_explain going.mode ≡ fa
   same_text Explain own = absurd cc
   same_text Locate own = append-nil _ ∙ same_located going.search prefix line same_near
 
-  said_longer : line_said lines_steps many going line ≡ text_in going.mode going line ++ line_feed ∷ []
+  pub opened_is : opened lines_steps many going line ≡ text_in going.mode going line
   unfolding opened state_within
-  said_longer =
-      line_said-longer Going lines_steps many going line longer
-      ∙ rw (whole, whole) (ap (λ (text : List ℕ). text ++ line_feed ∷ []) (same_text going.mode whole))
+  opened_is = rw whole (same_text going.mode whole)
+
+  said_longer : line_said lines_steps many going line ≡ text_in going.mode going line ++ line_feed ∷ []
+  unfolding state_within
+  said_longer = line_said-longer Going lines_steps many going line longer ∙ rw (opened_is, whole, whole) refl
 
   next_longer : line_next lines_steps many going line ≡ below going line
   unfolding state_within
@@ -126,7 +128,7 @@ module _ (going : Going) (line : List ℕ) (whole : is_explain going.mode ≡ fa
 
 -- ---- a line of any length
 
-near_is : (mode : Mode) (limit : ℕ) → is_explain mode ≡ false → near mode limit ≡ limit + 256 + 64
+pub near_is : (mode : Mode) (limit : ℕ) → is_explain mode ≡ false → near mode limit ≡ limit + 256 + 64
 near_is mode limit whole = rw whole refl
 
 pub handed_said : (going : Going) (line : List ℕ) → is_explain going.mode ≡ false → line_said lines_steps (near going.mode going.search.limit) going line ≡ text_in going.mode going line ++ line_feed ∷ []

@@ -12,3 +12,4 @@ pub mod Carried
 pub mod Handed
 pub mod Fields
 pub mod WithoutKeys
+pub mod Replaced

@@ -18,7 +18,7 @@ use Rattle.instants_lines.proofs.States.{after_lines}
 
 -- ---- the lines of a stream have no line feed
 
-abbrev Frees : List (List ℕ) → Type 0
+abbrev pub Frees : List (List ℕ) → Type 0
 Frees [] = ⊤
 Frees (part ∷ others) = HasNoLineFeed part × Frees others
 
@@ -53,7 +53,7 @@ append_free : (some others : List (List ℕ)) → Frees some → Frees others �
 append_free [] others free free_too = free_too
 append_free (part ∷ some) others free free_too = (free.0, append_free some others free.1 free_too)
 
-whole_free : (stream : List ℕ) → Frees (whole_lines stream)
+pub whole_free : (stream : List ℕ) → Frees (whole_lines stream)
 unfolding whole_lines parts
 whole_free stream = but_last_free (slice_split (λ b. b == 10) stream) (split_free stream)
 

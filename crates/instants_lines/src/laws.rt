@@ -13,7 +13,7 @@ ghost use Rattle.instants_found.specs.declared.found.Finding.{Finding};
 ghost use Rattle.instants_found.specs.declared.found.Finding.TheVariants.{Doubtful, There};
 ghost use Rattle.instants_sources.specs.Grammar.{Grammar};
 ghost use Rattle.instants_sources.specs.Named.{named};
-ghost use Rattle.instants_stream.specs.Lines.{whole_lines, lines};
+ghost use Rattle.instants_stream.specs.Lines.{whole_lines, last_part, lines};
 ghost use Rattle.instants_stream.specs.Steps.{line_said, line_next, after, output};
 ghost use Rattle.instants_timeline.specs.Place.{Setting, first_named, answer_to};
 ghost use Rattle.instants_faults.specs.Refusal.{Refusal};
@@ -23,7 +23,7 @@ ghost use Rattle.instants_lines.specs.Fields.{IsLabel, is_field, without_fields}
 ghost use Rattle.instants_lines.specs.Going.{Going, IsKeyed, below, beginning, depth, goes_on, is_explain, key_of_line, lines_steps, near, text_in};
 ghost use Rattle.instants_lines.specs.Joining.{AreJoined, IsEnded};
 ghost use Rattle.instants_lines_words.specs.declared.mode.Mode.{Mode};
-ghost use Rattle.instants_lines_words.specs.declared.mode.Mode.TheVariants.{Carry, Explain};
+ghost use Rattle.instants_lines_words.specs.declared.mode.Mode.TheVariants.{Carry, Replace, Explain};
 
 pub use instants_lines_words::laws::words_in_full;
 use parsing_parsable::laws::{two_roads_of_rfc2822, two_roads_of_rfc3339};
@@ -131,6 +131,16 @@ pub fn handed_on()
     ensures next { (going : Going) (line : List ℕ) → is_explain going.mode ≡ false
         → line_next lines_steps (near going.mode going.search.limit) going line
         ≡ below going line }
+{}
+
+/// In mode `replace` the output has as many line feeds as the stream, and a last line without one stays so.
+pub fn lines_stay()
+    ensures fed { (going : Going) (stream : List ℕ) → going.mode ≡ Replace
+        → length (whole_lines (output lines_steps going (near going.mode going.search.limit) stream))
+        ≡ length (whole_lines stream) }
+    ensures last { (going : Going) (stream : List ℕ) → going.mode ≡ Replace
+        → (last_part (output lines_steps going (near going.mode going.search.limit) stream) ≡ [])
+        ↔ (last_part stream ≡ []) }
 {}
 
 /// In modes `key` and `carry` the lines of the output, without what stands before each one's first tab, and without the label

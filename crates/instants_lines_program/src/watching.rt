@@ -1,13 +1,21 @@
 //! Output none of whose lines is dated, as a call with the wrong sources gives it.
 
+ghost use Rattle.std.specs.Prelude.{◌≤◌, length};
+
+use memchr::memchr;
 use std::io::{self, Write};
 
-/// Writes to another writer lines after their keys, and looks at the keys until one is that of a date.
+// How many bytes are looked at of each write but the first.
+const LOOKED: usize = 1024;
+
+/// Writes to another writer lines after their keys, and looks at the keys until one is that of a date: at those of the first write,
+/// and at the first ones of each further one.
 #[derive(Drop)]
 pub struct Watching<W> {
     inner: W,
     // How many bytes of a line came, up to three.
     place: usize,
+    is_first: bool,
     has_lines: bool,
     has_date: bool,
 }
@@ -18,6 +26,7 @@ impl<W> Watching<W> {
         Watching {
             inner,
             place: 0,
+            is_first: true,
             has_lines: false,
             has_date: false,
         }
@@ -29,7 +38,8 @@ impl<W> Watching<W> {
     }
 
     // The keys of lines without a date are `! none` and `! doubt`; `! year` is that of a date.
-    fn look(&mut self, byte: u8) {
+    #[inline(always)]
+    fn take(&mut self, byte: u8) {
         if byte == b'\n' {
             self.place = 0;
             return;
@@ -42,16 +52,62 @@ impl<W> Watching<W> {
         self.place = 3.min(self.place.saturating_add(1));
         self.has_lines = true;
     }
+
+    // The bytes from the next one on that is to be taken: after the first three of a line that is its line feed.
+    #[inline(always)]
+    fn next<'a>(&self, bytes: &'a [u8]) -> &'a [u8]
+        ensures { length result.now ≤ length bytes.now }
+    {
+        if self.place < 3 {
+            return bytes;
+        }
+        match memchr(b'\n', bytes) {
+            Some(len) => &bytes[len..],
+            None => b"",
+        }
+    }
+
+    fn look_at(&mut self, bytes: &[u8]) {
+        let mut rest = bytes;
+        while let Some((byte, others)) = rest.split_first() {
+            if self.has_date {
+                return;
+            }
+            self.take(*byte);
+            rest = self.next(others);
+        }
+    }
+
+    // How many of so many bytes are looked at.
+    fn looked_at(&self, len: usize) -> usize
+        ensures { result ≤ len }
+    {
+        if self.is_first { len } else { LOOKED.min(len) }
+    }
+
+    fn look(&mut self, bytes: &[u8]) {
+        let len = self.looked_at(bytes.len());
+        self.is_first = false;
+        self.look_at(&bytes[..len]);
+        if len < bytes.len() {
+            self.place = place_after(bytes);
+        }
+    }
+}
+
+// How many bytes of a line came where these are the last ones: none, or enough.
+fn place_after(bytes: &[u8]) -> usize {
+    match bytes {
+        [.., b'\n'] => 0,
+        _ => 3,
+    }
 }
 
 impl<W: Write> Write for Watching<W> {
     fn write(&mut self, from: &[u8]) -> io::Result<usize> {
         let count = self.inner.write(from)?;
-        for byte in &from[..count] {
-            if self.has_date {
-                break;
-            }
-            self.look(*byte);
+        if !self.has_date {
+            self.look(&from[..count]);
         }
         Ok(count)
     }
