@@ -9,7 +9,7 @@ use Rattle.parsing_combinator.specs.Readings.{then_read}
 use Rattle.parsing_components.specs.declared.fields.Record.{Record}
 use Rattle.parsing_components.specs.declared.node.NodeStep.{NodeStep}
 use Rattle.parsing_components.specs.declared.node.NodeStep.TheVariants as steps
-use Rattle.parsing_record.specs.Meaning.{Answer, literally, then_counted, all_of}
+use Rattle.parsing_record.specs.Meaning.{Answer, literally, all_of}
 use Rattle.parsing_record.specs.Node.{step_tree}
 use Rattle.parsing_record.specs.Reads.{Language, reads, each_reads, reading, reading_of_all}
 use Rattle.instants_prefixes.specs.Ends.{text_length}

@@ -7,10 +7,9 @@ ghost use Rattle.instants_prefixes.specs.Ends.{AreEnds, items_in};
 
 use crate::contents::Contents;
 use crate::ends::Ends;
-use crate::extent::extent_by_texts;
+use crate::extent::{extent_by_texts, extent_of};
 use crate::given::Given;
 use crate::lacks::{Lack, lack_of};
-use crate::lengths::prefix_of;
 use crate::named::{assumed, prefix_named, record_of};
 use crate::prefix::Prefix;
 use crate::ruled_out::rules_out;
@@ -89,14 +88,20 @@ impl<'a> DateSource<'a> {
 
     // The prefix of bytes that the source reads as a date, with what is given where the date lacks it.
     #[inline(never)]
-    #[tactic(auto, using(crate::proofs::PrefixesAt::prefix_at_is))]
+    #[tactic(auto, unfolding(crate::specs::Lengths::lengths), using(crate::proofs::PrefixesAt::prefix_at_is))]
     fn read_any(&self, bytes: &[u8], given: &Given) -> Option<Prefix>
         ensures { result ≡ prefix_at given.now (grammar_in self.now) bytes.now }
     {
         let text = text_for(&self.source, bytes);
-        match prefix_named(&self.source, text, given) {
-            Some((moment, rest)) => Some(prefix_of(&self.source, &self.ends, text, moment, rest)),
-            None => None,
+        let Some((moment, rest)) = prefix_named(&self.source, text, given) else {
+            return None;
+        };
+        match &self.source {
+            Source::Items(described) | Source::V3(described) => {
+                let extent = extent_of(described.description(), &self.ends, text, rest);
+                Some(Prefix::of_extent(extent, text, moment, rest))
+            }
+            _ => Some(Prefix::whole(text, moment, rest)),
         }
     }
 

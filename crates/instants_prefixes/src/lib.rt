@@ -10,7 +10,6 @@ mod fast_prefix;
 mod given;
 mod kind;
 mod lacks;
-mod lengths;
 mod named;
 mod prefix;
 mod ruled_out;

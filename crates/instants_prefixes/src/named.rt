@@ -2,9 +2,8 @@
 ghost use Rattle.std.specs.Prelude.{◌≡◌, option_map, if◌then◌else◌, None};
 ghost use Rattle.parsing_record.specs.Record.{empty};
 ghost use Rattle.parsing_record.specs.Whole.{ReadsInto};
-ghost use Rattle.instants_sources.specs.Grammar.{grammar_of, written};
+ghost use Rattle.instants_sources.specs.Grammar.{grammar_of};
 ghost use Rattle.instants_sources.specs.Reading.{reading_of};
-ghost use Rattle.instants_sources.specs.Written.{reads_written};
 ghost use Rattle.instants_prefixes.specs.Reading as Reading;
 ghost use Rattle.instants_prefixes.specs.Reading.{prefix_of, prefix_named};
 
@@ -37,22 +36,6 @@ fn is_likely(nanoseconds: Option<i128>) -> bool
     far >= LEAST_LIKELY && far < LEAST_UNLIKELY
 }
 
-// Reads the start of a text by a description into a record.
-#[inline(always)]
-fn read_described<'b>(
-    description: &Description<'_>,
-    text: &'b [u8],
-    parsed: &mut Parsed,
-) -> Result<&'b [u8], Parse>
-    ensures reads { ReadsInto result parsed.old parsed.new
-        (reads_written (written description.now) parsed.old text.now) }
-{
-    match description {
-        Description::Items(items) => Items(items).parse_into(text, parsed),
-        Description::V3(tree) => tree.parse_into(text, parsed),
-    }
-}
-
 // Reads the start of a text by a source into a record.
 #[inline(always)]
 fn read_into<'b>(
@@ -64,9 +47,10 @@ fn read_into<'b>(
         (reading_of (grammar_of source.now) parsed.old text.now) }
 {
     match source {
-        Source::Items(described) | Source::V3(described) => {
-            read_described(described.description(), text, parsed)
-        }
+        Source::Items(described) | Source::V3(described) => match described.description() {
+            Description::Items(items) => Items(items).parse_into(text, parsed),
+            Description::V3(tree) => tree.parse_into(text, parsed),
+        },
         Source::Rfc2822 => Rfc2822.parse_into(text, parsed),
         Source::Rfc3339 => Rfc3339.parse_into(text, parsed),
         Source::Iso8601 => Iso8601.parse_into(text, parsed),
