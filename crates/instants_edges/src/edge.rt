@@ -37,6 +37,14 @@ fn follows_escape(line: &[u8], place: usize) -> bool
     byte_before(line, place, long + 2) == b'[' && byte_before(line, place, long + 3) == ESCAPE
 }
 
+// Whether a control sequence ends at a place.
+#[inline(always)]
+fn ends_sequence(line: &[u8], place: usize) -> bool
+    ensures { result ≡ Edge.ends_sequence line.now place }
+{
+    byte_before(line, place, 1).is_ascii_alphabetic() && follows_escape(line, place)
+}
+
 // Whether a place stands between the minutes of a clock and its seconds.
 #[inline(always)]
 #[tactic(auto, using(std::proofs::lemmas::Bool::Decides::nat_tests))]
@@ -62,7 +70,7 @@ pub fn is_edge(line: &[u8], place: usize) -> bool
     let after = byte_at(line, place);
     if before.is_ascii_alphanumeric() {
         if after.is_ascii_alphanumeric() {
-            return before.is_ascii_alphabetic() && follows_escape(line, place);
+            return ends_sequence(line, place);
         }
         if after == b'.' {
             return !byte_after(line, place).is_ascii_digit();
