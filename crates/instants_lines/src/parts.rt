@@ -83,6 +83,38 @@ pub(crate) fn tabbed(answer: Answer) -> Answer
     tabbed
 }
 
+// Writes a line and a line feed.
+#[inline(always)]
+#[tactic(auto, using(crate::proofs::Turns::in_turn))]
+fn write_fed<W: ByteWriter>(writer: &mut W, line: &[u8]) -> Result<(), DeviceFailed>
+    requires { W.failed writer.old ≡ false }
+    ensures { Wrote W.ByteWriter writer.old writer.new result (line.now ++ line_feed ∷ []) }
+{
+    writer.write_all(line)?;
+    writer.write_prefix(&LINE_FEED, 1)
+}
+
+// The same after a label; a line without one has a way of its own.
+#[inline(always)]
+#[tactic(auto, using(crate::proofs::Turns::in_turn, std::proofs::lemmas::List::append_assoc))]
+fn write_labelled_line<W: ByteWriter>(
+    writer: &mut W,
+    label: &Option<&str>,
+    line: &[u8],
+) -> Result<(), DeviceFailed>
+    requires { W.failed writer.old ≡ false }
+    ensures { Wrote W.ByteWriter writer.old writer.new result
+        (label_prefix (option_map (λ text. text.now) label.now) ++ (line.now ++ line_feed ∷ [])) }
+{
+    match label {
+        Some(_) => {
+            write_label(writer, label)?;
+            write_fed(writer, line)
+        }
+        None => write_fed(writer, line),
+    }
+}
+
 /// Writes an answer, a line after its label, and a line feed.
 #[inline(always)]
 #[tactic(auto, using(crate::proofs::Turns::in_turn))]
@@ -99,7 +131,5 @@ pub(crate) fn write_keyed<W: ByteWriter>(
 {
     let (bytes, len) = answer.padded();
     writer.write_prefix(bytes, len)?;
-    write_label(writer, label)?;
-    writer.write_all(line)?;
-    writer.write_prefix(&LINE_FEED, 1)
+    write_labelled_line(writer, label, line)
 }

@@ -2,14 +2,15 @@
 
 ghost use Rattle.std.specs.Prelude.{◌≤◌, length};
 
-use memchr::memchr;
 use std::io::{self, Write};
 
-// How many bytes are looked at of each write but the first.
-const LOOKED: usize = 1024;
+// How many bytes are looked at of the first write, and of each further one.
+const FIRST: usize = 16_384;
 
-/// Writes to another writer lines after their keys, and looks at the keys until one is that of a date: at those of the first write,
-/// and at the first ones of each further one.
+const LOOKED: usize = 256;
+
+/// Writes to another writer lines after their keys, and looks at the keys until one is that of a date: at those at the beginning
+/// of each write.
 #[derive(Drop)]
 pub struct Watching<W> {
     inner: W,
@@ -61,7 +62,7 @@ impl<W> Watching<W> {
         if self.place < 3 {
             return bytes;
         }
-        match memchr(b'\n', bytes) {
+        match bytes.iter().position(|byte| *byte == b'\n') {
             Some(len) => &bytes[len..],
             None => b"",
         }
@@ -82,7 +83,11 @@ impl<W> Watching<W> {
     fn looked_at(&self, len: usize) -> usize
         ensures { result ≤ len }
     {
-        if self.is_first { len } else { LOOKED.min(len) }
+        if self.is_first {
+            FIRST.min(len)
+        } else {
+            LOOKED.min(len)
+        }
     }
 
     fn look(&mut self, bytes: &[u8]) {

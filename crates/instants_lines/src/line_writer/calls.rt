@@ -170,9 +170,27 @@ impl<'a, 'b> LineWriter<'a, 'b> {
         }
     }
 
+    // Writes a line after the key of this date. The key is made where it is written from, with the tab after it.
+    #[inline]
+    fn write_dated<W: ByteWriter>(
+        &mut self,
+        date: &Found,
+        line: &[u8],
+        writer: &mut W,
+    ) -> Result<(), DeviceFailed>
+        requires { W.failed writer.old ≡ false }
+        ensures wrote { Wrote W.ByteWriter writer.old writer.new result
+            ((key_of_date (going_of self.old).search.setting date.now
+            ++ tab ∷ (label_prefix (going_of self.old).label ++ line.now)) ++ line_feed ∷ []) }
+        ensures next { going_of self.new ≡ below_by (going_of self.old) (depth line.now) (Some (There date.now)) }
+    {
+        self.take_date(date, line);
+        self.storage.push(b'\t');
+        write_keyed(writer, &self.storage, &self.label, line)
+    }
+
     // Writes a line after the key of its date, where none begins before a place and the date there is found at once: `None` where
-    // it is not, with nothing written. The key is made where it is written from, with the tab after it. A call of its own, which makes
-    // no room for what is found otherwise.
+    // it is not, with nothing written. A call of its own, which makes no room for what is found otherwise.
     #[inline(never)]
     fn write_plain<W: ByteWriter>(
         &mut self,
@@ -193,9 +211,7 @@ impl<'a, 'b> LineWriter<'a, 'b> {
         let Some(date) = self.dates.finder.plain_date(&self.given, line, first) else {
             return None;
         };
-        self.take_date(&date, line);
-        self.storage.push(b'\t');
-        Some(write_keyed(writer, &self.storage, &self.label, line))
+        Some(self.write_dated(&date, line, writer))
     }
 
     // Writes a line after its key and a tab, where no date begins before a place, by whatever is found in it. A call of its own,
