@@ -116,6 +116,7 @@ fn quote_place(bytes: &[u8]) -> usize
 }
 
 // Whether they do before a place and the first quotation mark, looked for byte by byte.
+#[cold]
 #[inline(never)]
 #[tactic(auto, using(crate::proofs::Anywhere::any_more, crate::proofs::Anywhere::any_none), unfolding(crate::specs::Beside::has_clock_before))]
 fn has_seconds(line: &[u8], place: usize) -> bool

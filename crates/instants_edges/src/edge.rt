@@ -29,6 +29,7 @@ fn parameters_before(line: &[u8], place: usize) -> usize
 }
 
 // Whether what stands before the byte before a place begins a control sequence. Few do, so it is a call of its own.
+#[cold]
 #[inline(never)]
 fn follows_escape(line: &[u8], place: usize) -> bool
     ensures { result ≡ Edge.follows_escape line.now place }
@@ -92,6 +93,7 @@ pub(crate) fn is_sign(byte: u8) -> bool
 }
 
 // Whether a sign at a place belongs to a date that begins there.
+#[cold]
 #[inline(never)]
 fn is_own_sign(line: &[u8], place: usize) -> bool
     ensures { result ≡ Edge.is_own_sign line.now place }

@@ -125,7 +125,8 @@ fn offset_after(bytes: &[u8]) -> Option<i32>
 }
 
 // Whether a sign and four digits stand at a place after no word.
-#[inline(always)]
+#[cold]
+#[inline(never)]
 fn is_signed_year(line: &[u8], place: usize) -> bool
     ensures { result ≡ Beside.is_signed_year line.now place }
 {
@@ -151,7 +152,10 @@ fn is_utc(line: &[u8], place: usize) -> bool
 fn says_offset(line: &[u8], counts: bool, place: usize) -> bool
     ensures { result ≡ Beside.says_offset line.now counts place }
 {
-    is_signed_year(line, place) || (counts && is_utc(line, place))
+    if is_sign(byte_at(line, place)) {
+        return is_signed_year(line, place) || (counts && is_utc(line, place));
+    }
+    counts && is_utc(line, place)
 }
 
 // Whether one does at a place from one up to another.

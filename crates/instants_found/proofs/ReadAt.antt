@@ -14,9 +14,10 @@ use Rattle.instants_prefixes.specs.Reading.{text_for, prefix_named}
 use Rattle.instants_prefixes.specs.declared.date_source.DateSource.{DateSource}
 use Rattle.instants_prefixes.specs.declared.given.Given.{Given}
 use Rattle.instants_prefixes.specs.declared.prefix.Prefix.{Prefix}
-use Rattle.instants_found.specs.Beside.{is_read}
-use Rattle.instants_found.specs.Candidate.{as_candidate, of_prefix, candidate, read_by}
+use Rattle.instants_found.specs.Beside.{is_read, why}
+use Rattle.instants_found.specs.Candidate.{as_candidate, candidate_with, of_prefix, candidate, read_by}
 use Rattle.instants_found.specs.declared.candidate.Candidate.{Candidate}
+use Rattle.instants_found.specs.declared.doubt.Doubt.{Doubt}
 
 module _ (given : Given) (line : List ℕ) (start number : ℕ) (grammar : Grammar) where
   pub no_candidate : HasNoPrefix (drop start line) grammar → candidate given line start number grammar ≡ None
@@ -31,6 +32,10 @@ module _ (given : Given) (line : List ℕ) (start number : ℕ) (grammar : Gramm
       → (if b then Some (as_candidate given line start number grammar prefix) else None) ≡ candidate given line start number grammar
   unfolding candidate
   by_read prefix b e read = ap (λ (t : Bool). if t then Some (as_candidate given line start number grammar prefix) else None) read ∙ ap (of_prefix given line start number grammar) e
+
+  pub made : (prefix : Prefix) (doubt : Option Doubt) → Some prefix ≡ prefix_at given grammar (drop start line) → true ≡ is_read grammar line start prefix → doubt ≡ why given grammar line start prefix
+      → Some (candidate_with line start number prefix doubt) ≡ candidate given line start number grammar
+  made prefix doubt e read is = ap (λ (o : Option Doubt). Some (candidate_with line start number prefix o)) is ∙ by_read prefix true e read
 
 -- what the source of a number reads
 pub by_source : (given : Given) (line : List ℕ) (start : ℕ) (sources : List DateSource) (number : ℕ) (source : DateSource) → number < length sources → source ≡ get_or sources number source

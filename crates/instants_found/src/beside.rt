@@ -26,6 +26,7 @@ pub(crate) fn after(line: &[u8], start: usize) -> &[u8]
 }
 
 // Whether what a source read is no number of Unix time.
+#[cold]
 #[inline(never)]
 fn is_no_unix_time(source: &DateSource<'_>, bytes: &[u8]) -> bool
     ensures { result

@@ -62,7 +62,6 @@ pub(crate) fn candidate_with(
 }
 
 /// The date that a source of this number reads at a place.
-#[inline(always)]
 #[tactic(auto, unfolding(crate::specs::Candidate::candidate))]
 pub(crate) fn read_candidate(
     source: &DateSource<'_>,

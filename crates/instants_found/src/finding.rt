@@ -6,8 +6,8 @@ ghost use Rattle.instants_found.specs.Found.{at_place, finding};
 ghost use Rattle.instants_found.specs.Starts.{HaveNoPrefix};
 ghost use Rattle.instants_found.specs.declared.found.Finding.TheVariants.{There};
 
-use crate::beside::{after, gives_nothing, is_read, joined};
-use crate::candidate::{Candidate, found_at, longer, read_candidate};
+use crate::beside::{after, gives_nothing, is_read, joined, why};
+use crate::candidate::{Candidate, candidate_with, found_at, longer, read_candidate};
 use crate::found::{Finding, Found};
 use instants_edges::is_edge;
 use instants_prefixes::{DateSource, Given, lacks_byte, rules_out};
@@ -91,14 +91,27 @@ fn by_sources(
     ensures { result ≡ option_map (finding start)
         (longest given.now (map grammar_in sources.now) line.now start (length sources.now)) }
 {
+    let bytes = after(line, start);
     for number in 0..sources.len() {
-        let Some(one) = read_candidate(&sources[number], given, line, start, number) else {
+        let source = &sources[number];
+        if lacks_byte(source.source(), bytes) {
+            continue;
+        }
+        let Some(prefix) = source.read(bytes, given) else {
             continue;
         };
-        if others_may_read(sources, number + 1, after(line, start)) {
+        if !is_read(source, line, start, &prefix) {
+            continue;
+        }
+        let doubt = why(source, given, line, start, &prefix);
+        if others_may_read(sources, number + 1, bytes) {
+            let one = candidate_with(line, start, number, prefix, doubt);
             return Some(with_others(sources, given, line, start, number, one));
         }
-        return Some(finding(start, one));
+        if doubt.is_some() {
+            return Some(Finding::Doubtful(start));
+        }
+        return Some(Finding::There(found_at(start, number, prefix)));
     }
     None
 }

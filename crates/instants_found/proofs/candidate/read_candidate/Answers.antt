@@ -1,8 +1,6 @@
-use Rattle.std.proofs.Common.{Option, true, false, Some, sym, ap, ◌∙◌}
+use Rattle.std.proofs.Common.{false, Some, sym, ap, ◌∙◌}
 use Rattle.instants_prefixes.specs.DateSource.{grammar_in}
-use Rattle.instants_found.specs.Candidate.{candidate_with}
-use Rattle.instants_found.specs.declared.doubt.Doubt.{Doubt}
-use Rattle.instants_found.proofs.ReadAt.{no_candidate, unread, by_read}
+use Rattle.instants_found.proofs.ReadAt.{no_candidate, unread, by_read, made}
 use Rattle.instants_found.proofs.candidate.read_candidate.Goals as goal
 
 pub returns-then-lacks_byte-clause-is : goal.returns-then-lacks_byte-clause-is
@@ -18,7 +16,6 @@ returns-then-not-is_read-clause-is c =
 
 pub returns-clause-is : goal.returns-clause-is
 returns-clause-is c =
-    let line = c.args.line.now in
-    let prefix = c.in-Some.prefix in
-    ap Some (c.candidate_with.ensures ∙ ap (λ (o : Option Doubt). candidate_with line c.args.start c.args.number prefix o) c.why-doubt.ensures)
-    ∙ by_read c.args.given.now line c.args.start c.args.number (grammar_in c.args.source.now) prefix true (rw c.after-bytes.ensures at c.in-Some.ensures.prefix) (sym c.if-not-is_read.false ∙ c.is_read.ensures)
+    ap Some c.candidate_with.ensures
+    ∙ made c.args.given.now c.args.line.now c.args.start c.args.number (grammar_in c.args.source.now) c.in-Some.prefix c.why-doubt.result (rw c.after-bytes.ensures at c.in-Some.ensures.prefix)
+    (sym c.if-not-is_read.false ∙ c.is_read.ensures) c.why-doubt.ensures
