@@ -75,7 +75,7 @@ pub(crate) static FORMATS: [Format; 52] = [
         description: "\"time\":\"[year]-[month]-[day]T[hour]:[minute]:[second][optional [.[subsecond]]]Z\"",
         lacks: Lacking::Utc,
     },
-    // JSON with the key of its time, where a message may have a date of its own: Bunyan, logrus, Logstash, CloudTrail.
+    // JSON with the key of its time, where a message may have a date of its own: Bunyan, zerolog, logrus, Logstash, Cloud Logging.
     //     {"msg":"until 2027-01-01T00:00:00Z","ts":"2021-01-02T03:04:05.123+01:00"}
     //     2021-01-02T02:04:05.123000000Z
     Format {
@@ -381,7 +381,7 @@ pub(crate) static FORMATS: [Format; 52] = [
         description: "[unix_timestamp precision:millisecond]",
         lacks: Lacking::Nothing,
     },
-    // Nagios, Unbound, VPC flow logs.
+    // Nagios, Unbound.
     //     [1609556645] SERVICE ALERT: host;up
     //     2021-01-02T03:04:05.000000000Z
     Format {
