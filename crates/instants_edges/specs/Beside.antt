@@ -102,14 +102,11 @@ is_signed_year line place =
 abbrev pub is_utc : List ℕ → ℕ → Bool
 is_utc line place = not (word (codes "utc" ∷ codes "gmt" ∷ codes "z" ∷ []) (drop place line) == 0) && is_edge line place
 
--- one of these stands here; UTC counts only where another offset is given
-abbrev pub says_offset : List ℕ → Bool → ℕ → Bool
-says_offset line counts place = is_signed_year line place || (counts && is_utc line place)
-
 -- the line says another offset after a date that is read from a place up to another, or there is one inside of what is read, or UTC is named there
 unfoldable pub has_another_offset : List ℕ → ℕ → ℕ → ℤ → Bool
 has_another_offset line start ends given =
-    option_map_or (λ said. not (int_eq said given)) (offset_after (after line ends)) false || is_any (says_offset line (not (int_eq given (pos 0)))) start ends
+    option_map_or (λ said. not (int_eq said given)) (offset_after (after line ends)) false || is_any (is_signed_year line) start ends ||
+    (not (int_eq given (pos 0)) && is_any (is_utc line) start ends)
 
 -- ---- a time of day
 

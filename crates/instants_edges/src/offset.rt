@@ -125,8 +125,7 @@ fn offset_after(bytes: &[u8]) -> Option<i32>
 }
 
 // Whether a sign and four digits stand at a place after no word.
-#[cold]
-#[inline(never)]
+#[inline(always)]
 fn is_signed_year(line: &[u8], place: usize) -> bool
     ensures { result ≡ Beside.is_signed_year line.now place }
 {
@@ -147,24 +146,26 @@ fn is_utc(line: &[u8], place: usize) -> bool
         && is_edge(line, place)
 }
 
-// Whether one of these stands at a place. UTC counts only where it is said to.
-#[inline(always)]
-fn says_offset(line: &[u8], counts: bool, place: usize) -> bool
-    ensures { result ≡ Beside.says_offset line.now counts place }
-{
-    if is_sign(byte_at(line, place)) {
-        return is_signed_year(line, place) || (counts && is_utc(line, place));
-    }
-    counts && is_utc(line, place)
-}
-
-// Whether one does at a place from one up to another.
+// Whether a sign and four digits do at a place from one up to another.
 #[tactic(auto, using(crate::proofs::Anywhere::any_more, crate::proofs::Anywhere::any_none))]
-fn has_offset(line: &[u8], start: usize, ends: usize, counts: bool) -> bool
-    ensures { result ≡ Beside.is_any (Beside.says_offset line.now counts) start ends }
+fn has_signed_year(line: &[u8], start: usize, ends: usize) -> bool
+    ensures { result ≡ Beside.is_any (Beside.is_signed_year line.now) start ends }
 {
     for place in start..ends {
-        if says_offset(line, counts, place) {
+        if is_signed_year(line, place) {
+            return true;
+        }
+    }
+    false
+}
+
+// Whether UTC is named at one of them.
+#[tactic(auto, using(crate::proofs::Anywhere::any_more, crate::proofs::Anywhere::any_none))]
+fn has_utc(line: &[u8], start: usize, ends: usize) -> bool
+    ensures { result ≡ Beside.is_any (Beside.is_utc line.now) start ends }
+{
+    for place in start..ends {
+        if is_utc(line, place) {
             return true;
         }
     }
@@ -179,5 +180,6 @@ pub fn has_another_offset(line: &[u8], start: usize, ends: usize, given: UtcOffs
     ensures { result ≡ Beside.has_another_offset line.now start ends given }
 {
     matches!(offset_after(after(line, ends)), Some(said) if said != given.whole_seconds())
-        || has_offset(line, start, ends, given.whole_seconds() != 0)
+        || has_signed_year(line, start, ends)
+        || (given.whole_seconds() != 0 && has_utc(line, start, ends))
 }
