@@ -3,10 +3,11 @@ use Rattle.std.proofs.Common.{◌≡◌, ◌<◌, ◌∙◌, inl, inr, ℕ, fals
 use Rattle.std.specs.Char.{is_ascii_digit}
 use Rattle.std.proofs.lemmas.List.{get_or-take}
 use Rattle.parsing_item_layouts.specs.FirstBytes.{IsRefusedAt}
-use Rattle.instants_prefixes.specs.NoPrefix.{begins_day, begins_part}
+use Rattle.instants_prefixes.specs.NoPrefix.{begins_day, begins_year}
 use Rattle.instants_prefixes.specs.Reading.{window, text_for}
 use Rattle.instants_prefixes.proofs.ReadPrefixes.{no_digit}
-use Rattle.instants_prefixes.proofs.NoneNamed.{described_none, day_none, part_none, nothing_rfc2822, nothing_iso8601}
+use Rattle.instants_prefixes.proofs.NoneNamed.{described_none, day_none, nothing_rfc2822}
+use Rattle.instants_prefixes.proofs.NoYear.{part_none, nothing_iso8601}
 use Rattle.instants_prefixes.proofs.Windows.{first_of_text}
 use Rattle.instants_sources.specs.Grammar.{Described, Rfc2822, Rfc3339, Iso8601, Written}
 use Rattle.instants_sources.specs.Written.{reads_written}
@@ -31,7 +32,7 @@ day_cannot byte none = λ bytes at given.
       | inr first ↦ day_none (text_for Rfc2822 bytes) (rw (first ∙ at) none) given
     ]
 
-pub part_cannot : (byte : ℕ) → begins_part byte ≡ false → CannotStand 0 byte Iso8601
+pub part_cannot : (byte : ℕ) → begins_year byte ≡ false → CannotStand 0 byte Iso8601
 part_cannot byte none = λ bytes at given.
     elim (first_of_text Iso8601 bytes) [
       | inl nothing ↦ rw nothing (nothing_iso8601 given)

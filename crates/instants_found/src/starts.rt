@@ -1,7 +1,7 @@
 //! The bytes that can stand at the first and at the fourth place of a date.
 ghost use Rattle.std.specs.Prelude.{◌≡◌, true, false, All, map, get_or};
 ghost use Rattle.instants_sources.specs.Grammar.{grammar_of};
-ghost use Rattle.instants_prefixes.specs.NoPrefix.{begins_day, begins_part};
+ghost use Rattle.instants_prefixes.specs.NoPrefix.{begins_day, begins_year};
 ghost use Rattle.instants_found.specs.Ranges.{AreWithin, is_within};
 ghost use Rattle.instants_found.specs.Starts.{AreMarked, CannotStand, index_of};
 
@@ -26,11 +26,11 @@ fn begins_day(byte: u8) -> bool
     byte.is_ascii_digit() || matches!(byte.to_ascii_lowercase(), b'f' | b'm' | b's' | b't' | b'w')
 }
 
-// Whether one of ISO 8601 can: a number, a sign or a designator.
-fn begins_part(byte: u8) -> bool
-    ensures { result ≡ begins_part byte }
+// Whether one of ISO 8601 can: a year, with a sign or without one.
+fn begins_year(byte: u8) -> bool
+    ensures { result ≡ begins_year byte }
 {
-    byte.is_ascii_digit() || byte == b'+' || byte == b'-' || byte == b'T' || byte == b'Z'
+    byte.is_ascii_digit() || byte == b'+' || byte == b'-'
 }
 
 // Whether a date of a source can begin with a byte: `true` says nothing of it.
@@ -41,7 +41,7 @@ fn can_begin(source: &Source<'_>, byte: u8) -> bool
         Source::Items(described) | Source::V3(described) => described.can_begin(byte),
         Source::Rfc2822 => begins_day(byte),
         Source::Rfc3339 => byte.is_ascii_digit(),
-        Source::Iso8601 => begins_part(byte),
+        Source::Iso8601 => begins_year(byte),
     }
 }
 

@@ -12,6 +12,7 @@ pub mod Extents
 pub mod PrefixesAt
 pub mod Planned
 pub mod NoneNamed
+pub mod NoYear
 pub mod Windows
 pub mod RuledOut
 pub mod Unread

@@ -1,32 +1,31 @@
 -- Texts by which a source names nothing.
-use Rattle.std.proofs.Common.{◌≡◌, ℕ, zero, suc, Bool, true, false, eqb, List, [], ◌∷◌, get_or, drop, Option, None, Some, Ok, Err, refl, arith}
-use Rattle.std.specs.Prelude.{nat_le, if◌then◌else◌}
+use Rattle.std.proofs.Common.{◌≡◌, ◌≤◌, ◌+◌, ◌-◌, ◌*◌, ◌∙◌, ◌⊎◌, inl, inr, length, ℕ, zero, suc, Bool, true, false, eqb, List, [], ◌∷◌, get_or, drop, Option, None, Some, Ok, Err, refl, arith}
+use Rattle.std.specs.Prelude.{codes, nat_le, if◌then◌else◌}
 use Rattle.std.specs.Result.{result_ok}
 use Rattle.std.specs.Char.{is_ascii_digit, is_ascii_alphanumeric}
+use Rattle.std.proofs.lemmas.Bool.{le-leb}
 use Rattle.std.proofs.lemmas.Bool.Decides.{nat_tests}
+use Rattle.std.proofs.Math.Bool.{and-false}
 use Rattle.std.proofs.lemmas.List.Sums.{prefix_len_passes}
 use Rattle.base.specs.Bytes.{hyphen}
 use Rattle.calendar_count.specs.declared.weekday.Weekday.{Weekday}
-use Rattle.parsing_combinator.specs.Pieces.{byte, digits, digit_count, byte_of, skip_of}
-use Rattle.parsing_iso8601.specs.Reading as iso8601
-use Rattle.parsing_iso8601.specs.Dates as iso8601_dates
-use Rattle.parsing_iso8601.specs.Times as iso8601_times
-use Rattle.parsing_iso8601.specs.Offsets as iso8601_offsets
-use Rattle.parsing_iso8601.specs.Numbers as iso8601_numbers
+use Rattle.parsing_combinator.specs.Fault.{Fault, literal, component}
+use Rattle.parsing_combinator.specs.Pieces.{byte, digits, digit_count, skip_of}
+use Rattle.parsing_combinator.specs.Readings.{within}
+use Rattle.parsing_combinator.proofs.Fixed.{digits_one, digits_two}
 use Rattle.parsing_record.specs.Meaning.{Answer}
 use Rattle.parsing_components.specs.declared.fields.Record.{Record}
 use Rattle.parsing_record.specs.Record.{empty}
 use Rattle.parsing_rfc2822.specs.Reading as rfc2822
 use Rattle.parsing_rfc2822.specs.Names.{weekday, weekday_of}
 use Rattle.parsing_rfc2822.specs.WhiteSpace.{comments_and_white_space}
-use Rattle.parsing_rfc2822.proofs.WhiteSpaceLemmas.{none_at}
+use Rattle.parsing_rfc2822.proofs.WhiteSpaceLemmas.{none_at, none_of_nothing}
 use Rattle.parsing_rfc3339.specs.Reading as rfc3339
-use Rattle.parsing_parsable.specs.Staged.{reads_rfc2822, reads_rfc3339, reads_iso8601}
-use Rattle.instants_sources.specs.Grammar.{Described, Rfc2822, Rfc3339, Iso8601, Written}
+use Rattle.parsing_parsable.specs.Staged.{reads_rfc2822, reads_rfc3339}
+use Rattle.instants_sources.specs.Grammar.{Described, Rfc2822, Rfc3339, Written}
 use Rattle.instants_sources.specs.Written.{reads_written}
-use Rattle.instants_sources.proofs.RuledOut.{part_due_of_nothing}
 use Rattle.instants_prefixes.specs.Given.{Given}
-use Rattle.instants_prefixes.specs.NoPrefix.{begins_day, begins_part}
+use Rattle.instants_prefixes.specs.NoPrefix.{begins_day}
 use Rattle.instants_prefixes.specs.Reading.{prefix_named, prefix_of}
 
 -- what is refused names nothing
@@ -57,7 +56,7 @@ unfolding prefix_named reads_rfc3339 rfc3339.rfc3339 rfc3339.date digits
 hyphen_none text other given = let none = no_byte hyphen text 4 other in none_prefix given (reads_rfc3339 empty text) (grind (arith, nat_tests))
 
 -- where the fourth byte is no digit there are fewer than four
-few_digits : (text : List ℕ) → is_ascii_digit (get_or text 3 0) ≡ false → nat_le 4 (digit_count text) ≡ false
+pub few_digits : (text : List ℕ) → is_ascii_digit (get_or text 3 0) ≡ false → nat_le 4 (digit_count text) ≡ false
 few_digits text e = grind (arith, nat_tests, prefix_len_passes is_ascii_digit text 3 0)
 
 -- its year has four digits
@@ -102,22 +101,65 @@ pub comma_none : (text : List ℕ) → is_ascii_digit (get_or text 0 0) ≡ fals
 unfolding prefix_named
 comma_none text digit none given = where_so (is_ascii_alphanumeric (get_or text 0 0)) _ (λ word. none_prefix given (reads_rfc2822 empty text) (no_comma text word digit none))
 
--- ---- ISO 8601
+digit_is : (c : ℕ) → is_ascii_digit c ≡ true → (is_ascii_alphanumeric c ≡ true) × (c ≤ 57)
+digit_is c e = (grind (arith, nat_tests), grind (arith, nat_tests))
 
-no_part : (bytes : List ℕ) → begins_part (get_or bytes 0 0) ≡ false → result_ok (reads_iso8601 empty bytes) ≡ None
-unfolding reads_iso8601 iso8601.iso8601 iso8601.dated iso8601_dates.year_and_kind iso8601_numbers.year iso8601_numbers.plain_year iso8601_times.time iso8601_times.designator iso8601_numbers.number iso8601_offsets.offset iso8601_offsets.signed_offset byte_of skip_of digits
-no_part [] none = part_due_of_nothing [] empty (omega arith)
-no_part (c ∷ rest) none = grind (arith, nat_tests)
+no_weekday : (c : ℕ) (rest : List ℕ) → is_ascii_digit c ≡ true → weekday (c ∷ rest) ≡ None
+unfolding weekday weekday_of
+no_weekday c rest digit = grind (arith, nat_tests)
 
--- it begins with a part of a date
-pub part_none : (text : List ℕ) → begins_part (get_or text 0 0) ≡ false → (given : Given) → prefix_named given Iso8601 text ≡ None
+-- where neither white space nor a comment stands no month is read
+no_month : (rest : List ℕ) → 41 ≤ get_or rest 0 41 → rfc2822.month_and_year rest ≡ Err literal
+unfolding rfc2822.month_and_year
+no_month [] h = rw none_of_nothing refl
+no_month (e ∷ rest) h = rw (none_at e rest h) refl
+
+-- what stands after the one digit or the two that begin a text
+abbrev pub after_day : List ℕ → List ℕ
+after_day text = if is_ascii_digit (get_or text 1 0) then drop 2 text else drop 1 text
+
+two_digits : (c d : ℕ) (rest : List ℕ) → is_ascii_digit c ≡ true → is_ascii_digit d ≡ true → digits 2 (c ∷ d ∷ rest) ≡ Some ((c - 48) * 10 + (d - 48), rest)
+two_digits c d rest one other = digits_two (c ∷ d ∷ rest) ∙ rw (le-leb 2 (length (c ∷ d ∷ rest)) (omega arith), one, other) refl
+
+one_digit : (c : ℕ) (rest : List ℕ) → is_ascii_digit c ≡ true → is_ascii_digit (get_or rest 0 0) ≡ false → (digits 2 (c ∷ rest) ≡ None) × (digits 1 (c ∷ rest) ≡ Some (c - 48, rest))
+one_digit c rest digit other = (
+  digits_two (c ∷ rest) ∙ rw (digit, other, and-false (nat_le 2 (length (c ∷ rest)))) refl,
+  digits_one (c ∷ rest) ∙ rw (le-leb 1 (length (c ∷ rest)) (omega arith), digit) refl,
+)
+
+-- a day is read or refused, and this stands after it
+abbrev pub IsDayBefore : List ℕ → List ℕ → Type 0
+IsDayBefore text after = ((day : ℕ) × (rfc2822.day true text ≡ Ok ((None, day), after))) ⊎ ((fault : Fault) × (rfc2822.day true text ≡ Err fault))
+
+by_digits : (text after : List ℕ) (day : ℕ) → comments_and_white_space text ≡ None → weekday text ≡ None → rfc2822.one_or_two_digits text ≡ Some (day, after) → IsDayBefore text after
+unfolding rfc2822.day rfc2822.optional_weekday
+by_digits text after day space name read = elim (within true 1 31 day) as (λ b. within true 1 31 day ≡ b → IsDayBefore text after) [
+  | true ↦ λ e. inl (day, rw (space, name, read, e) refl)
+  | false ↦ λ e. inr (component (codes "day"), rw (space, name, read, e) refl)
+] refl
+
+day_of : (c : ℕ) (others : List ℕ) → is_ascii_digit c ≡ true → IsDayBefore (c ∷ others) (after_day (c ∷ others))
+unfolding rfc2822.one_or_two_digits
+day_of c [] digit = let one = one_digit c [] digit refl in by_digits (c ∷ []) [] (c - 48) (no_space c [] (digit_is c digit).0) (no_weekday c [] digit) (rw (one.0, one.1) refl)
+day_of c (d ∷ rest) digit =
+    let read = by_digits (c ∷ d ∷ rest) in
+    elim (is_ascii_digit d) as (λ b. is_ascii_digit d ≡ b → IsDayBefore (c ∷ d ∷ rest) (if b then rest else d ∷ rest)) [
+      | true ↦ λ e. read rest ((c - 48) * 10 + (d - 48)) (no_space c (d ∷ rest) (digit_is c digit).0) (no_weekday c (d ∷ rest) digit) (rw (two_digits c d rest digit e) refl)
+      | false ↦ λ e. let one = one_digit c (d ∷ rest) digit e in read (d ∷ rest) (c - 48) (no_space c (d ∷ rest) (digit_is c digit).0) (no_weekday c (d ∷ rest) digit) (rw (one.0, one.1) refl)
+    ] refl
+
+no_room : (text : List ℕ) → is_ascii_digit (get_or text 0 0) ≡ true → 41 ≤ get_or (after_day text) 0 41 → result_ok (reads_rfc2822 empty text) ≡ None
+unfolding reads_rfc2822 rfc2822.rfc2822
+no_room [] digit h = absurd cc
+no_room (c ∷ others) digit h = elim (day_of c others digit) [
+  | inl (day, is) ↦ rw (is, no_month (after_day (c ∷ others)) h) refl
+  | inr (fault, is) ↦ rw is refl
+]
+
+-- white space or a comment stands after its day
+pub space_none : (text : List ℕ) → is_ascii_digit (get_or text 0 0) ≡ true → 41 ≤ get_or (after_day text) 0 41 → (given : Given) → prefix_named given Rfc2822 text ≡ None
 unfolding prefix_named
-part_none text none given = none_prefix given (reads_iso8601 empty text) (no_part text none)
-
--- ---- the empty text
+space_none text digit h given = where_so (is_ascii_alphanumeric (get_or text 0 0)) _ (λ word. none_prefix given (reads_rfc2822 empty text) (no_room text digit h))
 
 pub nothing_rfc2822 : (given : Given) → prefix_named given Rfc2822 [] ≡ None
 nothing_rfc2822 given = day_none [] refl given
-
-pub nothing_iso8601 : (given : Given) → prefix_named given Iso8601 [] ≡ None
-nothing_iso8601 given = part_none [] refl given

@@ -1,16 +1,18 @@
 -- Bytes at which no date begins, as their first ones show.
-use Rattle.std.proofs.Common.{◌≡◌, ◌⊎◌, ℕ, Bool, false, eqb, List, get_or, None, refl, sym, ap, ◌∙◌, arith}
+use Rattle.std.proofs.Common.{◌≡◌, ◌≤◌, ◌⊎◌, inl, inr, ℕ, zero, suc, Bool, true, false, eqb, List, [], ◌∷◌, get_or, take, None, refl, sym, ap, ◌∙◌, arith}
 use Rattle.std.specs.Result.{result_ok}
 use Rattle.std.specs.Char.{is_ascii_digit}
 use Rattle.base.specs.Bytes.{hyphen}
 use Rattle.parsing_components.specs.declared.fields.Record.{Record}
 use Rattle.parsing_rfc2822.specs.Reading as rfc2822
-use Rattle.instants_sources.specs.Grammar.{Described, Rfc2822, Rfc3339, Written}
+use Rattle.instants_sources.specs.Grammar.{Described, Iso8601, Rfc2822, Rfc3339, Written}
 use Rattle.instants_sources.specs.Written.{reads_written}
+use Rattle.instants_prefixes.specs.Given.{Given}
 use Rattle.instants_prefixes.specs.NoPrefix.{HasNoPrefix}
 use Rattle.instants_prefixes.specs.Reading.{text_for, prefix_named}
-use Rattle.instants_prefixes.proofs.NoneNamed.{described_none, hyphen_none, year_none, comma_none}
-use Rattle.instants_prefixes.proofs.Windows.{text_byte}
+use Rattle.instants_prefixes.proofs.NoneNamed.{after_day, described_none, hyphen_none, year_none, comma_none, space_none, nothing_rfc2822}
+use Rattle.instants_prefixes.proofs.NoYear.{no_year_of_few, no_year_of_mark, nothing_iso8601, without_year}
+use Rattle.instants_prefixes.proofs.Windows.{first_of_text, text_byte, text_prefix}
 
 -- a test that no byte passes that is not there
 still_fails : (p : ℕ → Bool) (there byte : ℕ) → p 0 ≡ false → (there ≡ byte) ⊎ (there ≡ 0) → p byte ≡ false → p there ≡ false
@@ -30,6 +32,55 @@ pub comma_due : (bytes : List ℕ) → is_ascii_digit (get_or bytes 0 0) ≡ fal
 comma_due bytes digit e given =
     let text = text_for Rfc2822 bytes in
     comma_none text (still_fails is_ascii_digit (get_or text 0 0) (get_or bytes 0 0) refl (text_byte Rfc2822 bytes 0) digit) (still_fails (λ b. eqb b rfc2822.comma) (get_or text 3 0) (get_or bytes 3 0) refl (text_byte Rfc2822 bytes 3) e) given
+
+-- a prefix is empty, or the same stands after its day, or nothing
+kept : (n : ℕ) (bytes : List ℕ) → is_ascii_digit (get_or bytes 0 0) ≡ true → 41 ≤ get_or (after_day bytes) 0 41
+    → (take n bytes ≡ []) ⊎ ((is_ascii_digit (get_or (take n bytes) 0 0) ≡ true) × (41 ≤ get_or (after_day (take n bytes)) 0 41))
+kept zero bytes digit h = inl refl
+kept (suc n) [] digit h = inl refl
+kept (suc zero) (b ∷ bs) digit h = inr (digit, omega arith)
+kept (suc (suc n)) (b ∷ []) digit h = inr (digit, h)
+kept (suc (suc zero)) (b ∷ c ∷ bs) digit h = inr (digit, grind arith)
+kept (suc (suc (suc n))) (b ∷ c ∷ []) digit h = inr (digit, h)
+kept (suc (suc (suc n))) (b ∷ c ∷ d ∷ bs) digit h = inr (digit, grind arith)
+
+none_in : (count : ℕ) (bytes : List ℕ) → is_ascii_digit (get_or bytes 0 0) ≡ true → 41 ≤ get_or (after_day bytes) 0 41 → (given : Given) → prefix_named given Rfc2822 (take count bytes) ≡ None
+none_in count bytes digit h given = elim (kept count bytes digit h) [
+  | inl e ↦ rw e (nothing_rfc2822 given)
+  | inr (d, after) ↦ space_none (take count bytes) d after given
+]
+
+nothing_taken : (count : ℕ) → take {A = ℕ} count [] ≡ []
+nothing_taken zero = refl
+nothing_taken (suc n) = refl
+
+none_near : (count : ℕ) (bytes : List ℕ) → is_ascii_digit (get_or bytes 0 0) ≡ true → 41 ≤ get_or (after_day bytes) 0 41 → (given : Given) → prefix_named given Rfc2822 (take count (take 256 bytes)) ≡ None
+none_near count bytes digit h given = elim (kept 256 bytes digit h) [
+  | inl e ↦ rw (e, nothing_taken count) (nothing_rfc2822 given)
+  | inr (d, after) ↦ none_in count (take 256 bytes) d after given
+]
+
+pub space_due : (bytes : List ℕ) → is_ascii_digit (get_or bytes 0 0) ≡ true → 41 ≤ get_or (after_day bytes) 0 0 → HasNoPrefix bytes Rfc2822
+space_due bytes digit h given =
+    let (count, within, is) = text_prefix Rfc2822 bytes in
+    let there : 41 ≤ get_or (after_day bytes) 0 41 = grind arith in
+    ap (prefix_named given Rfc2822) is ∙ none_near count bytes digit there given
+
+-- ISO 8601: no moment is named where no year is read
+pub four_digits_due : (bytes : List ℕ) → is_ascii_digit (get_or bytes 0 0) ≡ true → is_ascii_digit (get_or bytes 3 0) ≡ false → HasNoPrefix bytes Iso8601
+four_digits_due bytes digit other given =
+    let text = text_for Iso8601 bytes in
+    elim (first_of_text Iso8601 bytes) [
+      | inl e ↦ rw e (nothing_iso8601 given)
+      | inr e ↦ without_year text given (no_year_of_few text (ap is_ascii_digit e ∙ digit) (still_fails is_ascii_digit (get_or text 3 0) (get_or bytes 3 0) refl (text_byte Iso8601 bytes 3) other))
+    ]
+
+pub digit_due : (bytes : List ℕ) → is_ascii_digit (get_or bytes 0 0) ≡ false → is_ascii_digit (get_or bytes 1 0) ≡ false → HasNoPrefix bytes Iso8601
+digit_due bytes digit other given =
+    let text = text_for Iso8601 bytes in
+    without_year text given
+    (no_year_of_mark text (still_fails is_ascii_digit (get_or text 0 0) (get_or bytes 0 0) refl (text_byte Iso8601 bytes 0) digit)
+    (still_fails is_ascii_digit (get_or text 1 0) (get_or bytes 1 0) refl (text_byte Iso8601 bytes 1) other))
 
 pub described_due : (written : Written) (bytes text : List ℕ) → text ≡ text_for (Described written) bytes → ((r : Record) → result_ok (reads_written written r text) ≡ None) → HasNoPrefix bytes (Described written)
 described_due written bytes text is refused given = ap (prefix_named given (Described written)) (sym is) ∙ described_none written text refused given

@@ -13,7 +13,7 @@ all_of_it : (bytes : List ℕ) → IsPrefix bytes bytes
 all_of_it bytes = (length bytes, omega arith, sym (take-length bytes))
 
 -- the text of a source is a prefix of the bytes within the window
-text_prefix : (grammar : Grammar) (bytes : List ℕ) → IsPrefix (text_for grammar bytes) (take 256 bytes)
+pub text_prefix : (grammar : Grammar) (bytes : List ℕ) → IsPrefix (text_for grammar bytes) (take 256 bytes)
 unfolding text_for
 text_prefix Rfc2822 bytes = mail_is_prefix 0 (take 256 bytes)
 text_prefix Iso8601 bytes = iso_is_prefix (take 256 bytes)

@@ -1,8 +1,7 @@
 -- Bytes at which a source reads no date.
 use Rattle.std.specs.Prelude.{◌≡◌, ◌==◌, ◌||◌, ℕ, Bool, List, get_or, None, codes}
 use Rattle.std.specs.Char.{is_ascii_digit, to_ascii_lowercase}
-use Rattle.base.specs.Bytes.{plus, hyphen, upper_z}
-use Rattle.parsing_iso8601.specs.Designators.{time_designator}
+use Rattle.base.specs.Bytes.{plus, hyphen}
 use Rattle.instants_sources.specs.Grammar.{Grammar}
 use Rattle.instants_prefixes.specs.Given.{Given}
 use Rattle.instants_prefixes.specs.Reading.{text_for, prefix_named}
@@ -19,6 +18,6 @@ begins_name name letter = to_ascii_lowercase letter == get_or name 0 0
 abbrev pub begins_day : ℕ → Bool
 begins_day byte = ((((is_ascii_digit byte || begins_name (codes "fri") byte) || begins_name (codes "mon") byte) || begins_name (codes "sat") byte) || begins_name (codes "tue") byte) || begins_name (codes "wed") byte
 
--- one of ISO 8601 with a digit, a sign or a designator, `T` or `Z`
-abbrev pub begins_part : ℕ → Bool
-begins_part byte = (((is_ascii_digit byte || byte == plus) || byte == hyphen) || byte == time_designator) || byte == upper_z
+-- one of ISO 8601 that says a day begins with its year: a digit or a sign
+abbrev pub begins_year : ℕ → Bool
+begins_year byte = (is_ascii_digit byte || byte == plus) || byte == hyphen

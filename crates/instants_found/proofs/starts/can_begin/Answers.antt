@@ -14,4 +14,4 @@ pub returns-in-Rfc3339 : goal.returns-in-Rfc3339
 returns-in-Rfc3339 c = λ e. rw c.in-Rfc3339.is (year_cannot c.args.byte (sym c.is_ascii_digit.ensures.value ∙ e))
 
 pub returns-in-Iso8601 : goal.returns-in-Iso8601
-returns-in-Iso8601 c = λ e. rw c.in-Iso8601.is (part_cannot c.args.byte (sym c.begins_part.ensures ∙ e))
+returns-in-Iso8601 c = λ e. rw c.in-Iso8601.is (part_cannot c.args.byte (sym c.begins_year.ensures ∙ e))
