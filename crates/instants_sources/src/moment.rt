@@ -112,6 +112,21 @@ impl<'a> Source<'a> {
         }
     }
 
+    /// The same of a line that hasn't the usual shape of a well-known format.
+    #[inline(always)]
+    pub fn read_other(&self, line: &[u8], assumed: Option<UtcOffset>) -> Option<Fields>
+        ensures { IfSome result
+            (λ fields. named assumed (grammar_of self.now) line.now ≡ Ok (moment_of fields)) }
+    {
+        directly_named();
+        match self {
+            Source::Rfc2822 => parsing_rfc2822_shapes::read_other_fields(line),
+            Source::Rfc3339 => parsing_rfc3339::read_rare_fields(line),
+            Source::Iso8601 => parsing_iso8601_shapes::read_fields(line),
+            _ => self.read_planned(line, assumed),
+        }
+    }
+
     /// The moment that the whole line names, with an offset assumed or none, if it names one.
     pub fn moment(&self, line: &[u8], assumed: &Option<UtcOffset>) -> Option<OffsetDateTime>
         ensures { result ≡ result_ok (named assumed.now (grammar_of self.now) line.now) }

@@ -8,3 +8,4 @@ pub mod Known
 pub mod Ran
 pub mod CutDevices
 pub mod Gathering
+pub mod Wrote

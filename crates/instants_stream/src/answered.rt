@@ -1,10 +1,10 @@
 //! The run where each line is answered by itself.
-ghost use Rattle.std.specs.Prelude.{◌≡◌, ◌<◌, true, false, [], ◌∷◌, ◌++◌, codes, length, Err, OnOk, OnErr};
-ghost use Rattle.std.specs.Io.KnownBytes.{Appends, Keeps};
+ghost use Rattle.std.specs.Prelude.{◌≡◌, ◌<◌, false, [], ◌∷◌, ◌++◌, codes, length, Err};
+ghost use Rattle.std.specs.Io.KnownBytes.{Keeps};
 ghost use Rattle.base.specs.Bytes.{line_feed};
-ghost use Rattle.instants_stream.specs.Known.{AppendsPrefix};
 ghost use Rattle.instants_stream.specs.Ran.{Ran};
 ghost use Rattle.instants_stream.specs.Answers.{by_answers};
+ghost use Rattle.instants_stream.specs.Wrote.{Wrote};
 
 use crate::answers_lines::AnswersLines;
 use crate::devices::{ByteReader, ByteWriter, DeviceFailed};
@@ -21,12 +21,8 @@ fn write_last_answer<A: AnswersLines, W: ByteWriter>(
     writer: &mut W,
 ) -> Result<(), DeviceFailed>
     requires { W.failed writer.old ≡ false }
-    ensures written { OnOk result (Appends (W.held writer.old) (W.held writer.new)
-        (A.answer answers.now line.now ++ line_feed ∷ [])) }
-    ensures ok { OnOk result (W.failed writer.new ≡ W.failed writer.old) }
-    ensures prefix { OnErr result (AppendsPrefix (W.held writer.old) (W.held writer.new)
-        (A.answer answers.now line.now ++ line_feed ∷ [])) }
-    ensures err { OnErr result (W.failed writer.new ≡ true) }
+    ensures { Wrote W.ByteWriter writer.old writer.new result
+        (A.answer answers.now line.now ++ line_feed ∷ []) }
 {
     let mut answer = answers.answer_line(line);
     answer.push(LINE_FEED);
@@ -38,12 +34,8 @@ fn write_last_answer<A: AnswersLines, W: ByteWriter>(
 #[inline(never)]
 fn write_long<W: ByteWriter>(writer: &mut W) -> Result<(), DeviceFailed>
     requires { W.failed writer.old ≡ false }
-    ensures written { OnOk result (Appends (W.held writer.old) (W.held writer.new)
-        (codes "! long" ++ line_feed ∷ [])) }
-    ensures ok { OnOk result (W.failed writer.new ≡ W.failed writer.old) }
-    ensures prefix { OnErr result (AppendsPrefix (W.held writer.old) (W.held writer.new)
-        (codes "! long" ++ line_feed ∷ [])) }
-    ensures err { OnErr result (W.failed writer.new ≡ true) }
+    ensures { Wrote W.ByteWriter writer.old writer.new result
+        (codes "! long" ++ line_feed ∷ []) }
 {
     writer.write_all(b"! long\n")
 }

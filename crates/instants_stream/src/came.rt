@@ -5,6 +5,7 @@ ghost use Rattle.base.specs.Bytes.{line_feed};
 ghost use Rattle.instants_stream.specs.Known.{AppendsPrefix};
 ghost use Rattle.instants_stream.specs.Lines.{HasNoLineFeed, whole_lines, last_part};
 ghost use Rattle.instants_stream.specs.Steps.{passed, opened, state_within, line_said, line_next, written, after, owed_of, state_of};
+ghost use Rattle.instants_stream.specs.Wrote.{Wrote};
 ghost use Rattle.instants_stream.specs.Came.{came_said, came_state, came_begun, kept, GoesOn, end_said};
 
 use crate::devices::{ByteWriter, DeviceFailed};
@@ -35,12 +36,8 @@ fn pass_on<S: WritesLines, W: ByteWriter>(
     writer: &mut W,
 ) -> Result<(), DeviceFailed>
     requires { W.failed writer.old ≡ false }
-    ensures written { OnOk result (Appends (W.held writer.old) (W.held writer.new)
-        (passed (S.steps.hands_on (S.state steps.now)) bytes.now)) }
-    ensures ok { OnOk result (W.failed writer.new ≡ W.failed writer.old) }
-    ensures prefix { OnErr result (AppendsPrefix (W.held writer.old) (W.held writer.new)
-        (passed (S.steps.hands_on (S.state steps.now)) bytes.now)) }
-    ensures err { OnErr result (W.failed writer.new ≡ true) }
+    ensures { Wrote W.ByteWriter writer.old writer.new result
+        (passed (S.steps.hands_on (S.state steps.now)) bytes.now) }
 {
     if steps.hands_on() {
         return writer.write_all(bytes);
@@ -58,14 +55,10 @@ fn open_line<S: WritesLines, W: ByteWriter>(
 ) -> Result<(), DeviceFailed>
     requires longer { limit < length bytes.now }
     requires writer { W.failed writer.old ≡ false }
-    ensures written { OnOk result (Appends (W.held writer.old) (W.held writer.new)
-        (opened S.steps limit (S.state steps.old) bytes.now)) }
+    ensures wrote { Wrote W.ByteWriter writer.old writer.new result
+        (opened S.steps limit (S.state steps.old) bytes.now) }
     ensures state { OnOk result
         (S.state steps.new ≡ state_within S.steps limit (S.state steps.old) bytes.now) }
-    ensures ok { OnOk result (W.failed writer.new ≡ W.failed writer.old) }
-    ensures prefix { OnErr result (AppendsPrefix (W.held writer.old) (W.held writer.new)
-        (opened S.steps limit (S.state steps.old) bytes.now)) }
-    ensures err { OnErr result (W.failed writer.new ≡ true) }
 {
     steps.begin_line(&bytes[..limit + 1], writer)?;
     pass_on(steps, &bytes[limit + 1..], writer)
@@ -80,22 +73,16 @@ fn write_any<S: WritesLines, W: ByteWriter>(
     writer: &mut W,
 ) -> Result<(), DeviceFailed>
     requires { W.failed writer.old ≡ false }
-    ensures written { OnOk result (Appends (W.held writer.old) (W.held writer.new)
-        (line_said S.steps limit (S.state steps.old) line.now)) }
+    ensures wrote { Wrote W.ByteWriter writer.old writer.new result
+        (line_said S.steps limit (S.state steps.old) line.now) }
     ensures state { OnOk result
         (S.state steps.new ≡ line_next S.steps limit (S.state steps.old) line.now) }
-    ensures ok { OnOk result (W.failed writer.new ≡ W.failed writer.old) }
-    ensures prefix { OnErr result (AppendsPrefix (W.held writer.old) (W.held writer.new)
-        (line_said S.steps limit (S.state steps.old) line.now)) }
-    ensures err { OnErr result (W.failed writer.new ≡ true) }
 {
     if line.len() > limit {
         open_line(steps, limit, line, writer)?;
-        steps.end_line(writer)?;
-        return Ok(());
+        return steps.end_line(writer);
     }
-    steps.write_line(line, writer)?;
-    Ok(())
+    steps.write_line(line, writer)
 }
 
 // How many bytes stand before the first line feed, and all where there is none, where the first `searched` are known to be none.
@@ -126,14 +113,10 @@ fn write_whole_lines<S: WritesLines, W: ByteWriter>(
     requires free { HasNoLineFeed (take searched bytes.now) }
     ensures within { IfOk result (λ start. start ≤ length bytes.now) }
     ensures rest { IfOk result (λ start. drop start bytes.now ≡ last_part bytes.now) }
-    ensures written { OnOk result (Appends (W.held writer.old) (W.held writer.new)
-        (written S.steps limit (S.state steps.old) (whole_lines bytes.now))) }
+    ensures wrote { Wrote W.ByteWriter writer.old writer.new result
+        (written S.steps limit (S.state steps.old) (whole_lines bytes.now)) }
     ensures state { OnOk result (S.state steps.new ≡
         after S.steps limit (S.state steps.old) (whole_lines bytes.now)) }
-    ensures ok { OnOk result (W.failed writer.new ≡ W.failed writer.old) }
-    ensures prefix { OnErr result (AppendsPrefix (W.held writer.old) (W.held writer.new)
-        (written S.steps limit (S.state steps.old) (whole_lines bytes.now))) }
-    ensures err { OnErr result (W.failed writer.new ≡ true) }
 {
     let mut rest = bytes;
     // The end of the next line is found before a line is read, so that it isn't waited for.
@@ -215,16 +198,11 @@ pub(crate) fn write_came<S: WritesLines, W: ByteWriter>(
         (λ left. drop left.start bytes.now ≡ kept left.is_begun (last_part bytes.now)) }
     ensures begun { IfOk result (λ left. left.is_begun
         ≡ came_begun limit is_begun (whole_lines bytes.now) (last_part bytes.now)) }
-    ensures written { OnOk result (Appends (W.held writer.old) (W.held writer.new)
+    ensures wrote { Wrote W.ByteWriter writer.old writer.new result
         (came_said S.steps limit is_begun
-        (S.state steps.old) (whole_lines bytes.now) (last_part bytes.now))) }
+        (S.state steps.old) (whole_lines bytes.now) (last_part bytes.now)) }
     ensures state { OnOk result (S.state steps.new ≡ came_state S.steps limit is_begun
         (S.state steps.old) (whole_lines bytes.now) (last_part bytes.now)) }
-    ensures ok { OnOk result (W.failed writer.new ≡ W.failed writer.old) }
-    ensures prefix { OnErr result (AppendsPrefix (W.held writer.old) (W.held writer.new)
-        (came_said S.steps limit is_begun
-        (S.state steps.old) (whole_lines bytes.now) (last_part bytes.now))) }
-    ensures err { OnErr result (W.failed writer.new ≡ true) }
 {
     let first = go_on(steps, bytes, is_begun, writer)?;
     let rest = &bytes[first.start..];
@@ -251,12 +229,8 @@ pub(crate) fn write_end<S: WritesLines, W: ByteWriter>(
     writer: &mut W,
 ) -> Result<(), DeviceFailed>
     requires { W.failed writer.old ≡ false }
-    ensures written { OnOk result (Appends (W.held writer.old) (W.held writer.new)
-        (end_said S.steps is_begun (S.state steps.old) line.now)) }
-    ensures ok { OnOk result (W.failed writer.new ≡ W.failed writer.old) }
-    ensures prefix { OnErr result (AppendsPrefix (W.held writer.old) (W.held writer.new)
-        (end_said S.steps is_begun (S.state steps.old) line.now)) }
-    ensures err { OnErr result (W.failed writer.new ≡ true) }
+    ensures { Wrote W.ByteWriter writer.old writer.new result
+        (end_said S.steps is_begun (S.state steps.old) line.now) }
 {
     if is_begun {
         return steps.end_last_line(writer);

@@ -26,6 +26,7 @@ pub use devices::{ByteReader, ByteWriter, DeviceFailed};
 pub use over::lines_over;
 pub use put::TooLittleRoom;
 pub use run::{RunFault, write_lines};
+pub use search::line_len;
 pub use std_reader::StdReader;
 pub use std_writer::StdWriter;
 pub use writes_lines::WritesLines;

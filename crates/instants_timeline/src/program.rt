@@ -95,8 +95,8 @@ pub fn run_words<'a, R: ByteReader, W: ByteWriter>(
     ensures handed_on { IfSome (run_of result) (λ ended. ended ≡ Err RunFault.Read
         → W.failed writer.new ≡ false → Keeps (W.held writer.new) (W.handed_on writer.new)) }
 {
-    let (timeline, limit) = asked_timeline(alloc, words)?;
-    run_program(&timeline, alloc, limit, reader, writer)?;
+    let asked = asked_timeline(alloc, words)?;
+    run_program(&asked.0, alloc, asked.1, reader, writer)?;
     Ok(())
 }
 

@@ -27,7 +27,8 @@ use parsing_values::Fields;
 
 impl Timeline<'_> {
     // Writes a moment as it is shown at the target, or that its year there is not written. A call of its own, since few are
-    // read the exact way.
+    // read the exact way, and few that fields name have a day that is counted.
+    #[cold]
     #[inline(never)]
     fn fill_shown(&self, named: OffsetDateTime, room: &mut [u8]) -> usize
         requires { 64 ≤ length room.old }
@@ -36,18 +37,6 @@ impl Timeline<'_> {
         ensures size { length room.new ≡ length room.old }
     {
         answer_moment(self.target, named).fill_line(room)
-    }
-
-    // Writes a moment whose day was counted, as few are of those that fields name.
-    #[cold]
-    #[inline(never)]
-    fn fill_counted(&self, named: OffsetDateTime, room: &mut [u8]) -> usize
-        requires { 64 ≤ length room.old }
-        ensures line { HoldsLine (place_text (shown_or_refused (setting_of self.now).target
-            (Ok named))) result room.new }
-        ensures size { length room.new ≡ length room.old }
-    {
-        self.fill_shown(named, room)
     }
 
     // Writes the moment that fields name: nearly all are written with no day counted.
@@ -60,7 +49,7 @@ impl Timeline<'_> {
     {
         match fill_fields(&fields, self.target, room) {
             Some(len) => len,
-            None => self.fill_counted(fields.moment(), room),
+            None => self.fill_shown(fields.moment(), room),
         }
     }
 
@@ -101,28 +90,6 @@ impl Timeline<'_> {
                 Some(Plan::Places(places)) => { self.fill_found(places.read_plain(line), room) }
                 _ => None,
             },
-        }
-    }
-
-    // Writes the answer to a line by the other shapes of a source: `None` says nothing of the line.
-    #[inline(always)]
-    fn fill_other(&self, source: &Source, line: &[u8], room: &mut [u8]) -> Option<usize>
-        requires { 64 ≤ length room.old }
-        ensures line { IfSome result (λ len. HoldsAnswer (setting_of self.now) (result_ok
-            (named (setting_of self.now).assumed (grammar_of source.now) line.now)) len room.new) }
-        ensures size { length room.new ≡ length room.old }
-    {
-        directly_named();
-        match source {
-            Source::Rfc2822 => self.fill_found(
-                parsing_rfc2822_shapes::read_other_fields(line),
-                room,
-            ),
-            Source::Rfc3339 => self.fill_found(parsing_rfc3339::read_rare_fields(line), room),
-            Source::Iso8601 => self.fill_found(parsing_iso8601_shapes::read_fields(line), room),
-            Source::Items(_) | Source::V3(_) => {
-                self.fill_found(source.read_planned(line, self.assumed), room)
-            }
         }
     }
 
@@ -238,7 +205,7 @@ impl Timeline<'_> {
         ensures line { HoldsLine (answer_to (setting_of self.now) line.now) result room.new }
         ensures size { length room.new ≡ length room.old }
     {
-        if let Some(len) = self.fill_other(source, line, room) {
+        if let Some(len) = self.fill_found(source.read_other(line, self.assumed), room) {
             return len;
         }
         match source.read_exact(line, self.assumed) {

@@ -1,5 +1,5 @@
 //! Lines placed on one timeline.
-ghost use Rattle.std.specs.Prelude.{◌≡◌, ◌≢◌, ◌<◌, ◌+◌, ◌∷◌, drop, length, map, None, Ok, IfOk, IfErr, IfSome};
+ghost use Rattle.std.specs.Prelude.{◌≡◌, ◌≢◌, ◌<◌, ◌+◌, [], ◌∷◌, ◌++◌, drop, length, map, None, Ok, IfOk, IfErr, IfSome, OnOk};
 ghost use Rattle.parsing_combinator.specs.FaultOf.{fault_of, Gives};
 ghost use Rattle.parsing_combinator.specs.ShortName.{HasShortName};
 ghost use Rattle.calendar.specs.UtcOffset.{IsClockOffset};
@@ -22,6 +22,14 @@ use instants_sources::Source;
 use instants_words::SourceText;
 use parsing_combinator::Parse;
 use std::alloc::{AllocError, Global};
+
+// Puts an item after others.
+fn push<T: Drop>(items: &mut Vec<T>, item: T) -> Result<(), AllocError>
+    ensures { OnOk result (items.new.items ≡ items.old.items ++ item ∷ []) }
+{
+    items.push(item).map_err(AllocError::from)?;
+    Ok(())
+}
 
 impl<'a> Timeline<'a> {
     /// A timeline of these sources, in the order in which they are tried, shown at the target offset.
@@ -46,7 +54,7 @@ impl<'a> Timeline<'a> {
         let mut read = Vec::with_capacity(alloc, sources.len())?;
         for text in sources {
             match Source::new(alloc, *text) {
-                Ok(source) => read.push(source).map_err(AllocError::from)?,
+                Ok(source) => push(&mut read, source)?,
                 Err(fault) => return Err(NewFault::refused(read.len() + 1, fault)),
             }
         }

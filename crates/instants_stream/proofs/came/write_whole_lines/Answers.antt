@@ -1,14 +1,13 @@
 use Rattle.std.proofs.Common.{◌≤◌, ◌≡◌, ℕ, ◌+◌, ◌-◌, ◌<◌, List, [], ◌∷◌, ◌++◌, length, get_or, take, drop, Option, refl, sym, ap, ◌∙◌, subst, arith, length-drop}
 use Rattle.std.proofs.KnownBytes.{Appends-nil, Appends-trans}
 use Rattle.std.proofs.lemmas.List.{drop-drop, take_all}
-use Rattle.std.proofs.lemmas.Result.{err_from_is_err_and}
 use Rattle.std.specs.Io.KnownBytes.{Appends}
 use Rattle.instants_stream.specs.Lines.{HasNoLineFeed, whole_lines, last_part}
 use Rattle.instants_stream.specs.Steps.{Steps, written, after, line_said, line_next}
 use Rattle.instants_stream.specs.Known.{AppendsPrefix}
 use Rattle.instants_stream.proofs.Lines.{whole_lines_none, last_part_of_none}
 use Rattle.instants_stream.proofs.Written.{written-next, after-next, written-begins}
-use Rattle.instants_stream.proofs.Known.{AppendsPrefix-after, AppendsPrefix-more}
+use Rattle.instants_stream.proofs.Known.{AppendsPrefix-after, AppendsPrefix-more, wrote_err}
 use Rattle.instants_stream.proofs.WholeLines.{whole_lines-prefix, next_ended, next_lines, rest_is_last, lines_are_all}
 use Rattle.instants_stream.proofs.came.write_whole_lines.Goals as goal
 
@@ -77,17 +76,16 @@ loop-preserved g c =
       within = to.within;
       rest_is = to.rest_is;
       ended = to.ended;
-      written = said_more g.S.WritesLines.State g.S.WritesLines.steps c.args.limit first state new bytes _ _ _ to i.stands _ _ _ i.written c.in_ok-write_any.ensures.written;
+      written = said_more g.S.WritesLines.State g.S.WritesLines.steps c.args.limit first state new bytes _ _ _ to i.stands _ _ _ i.written c.in_ok-write_any.ensures.wrote.0;
       stands = stands_more g.S.WritesLines.State g.S.WritesLines.steps c.args.limit first state new bytes _ _ _ to i.stands c.in_ok-write_any.ensures.state;
       inside = omega (arith, c.line_end-len.ensures.within, c.if-len-rest-2.false);
       before = c.line_end-len.ensures.before;
       line_feed = c.line_end-len.ensures.line_feed (omega (arith, c.line_end-len.ensures.within, c.if-len-rest-2.false));
-      works = c.in_ok-write_any.ensures.ok ∙ i.works;
+      works = c.in_ok-write_any.ensures.wrote.1 ∙ i.works;
     }
 
-pub returns-in_err-write_any-clause-prefix : goal.returns-in_err-write_any-clause-prefix
-returns-in_err-write_any-clause-prefix g c =
-    let p = err_from_is_err_and c.from_residual.result c.from_residual.ensures.1 in
+pub returns-in_err-write_any-clause-wrote : goal.returns-in_err-write_any-clause-wrote
+returns-in_err-write_any-clause-wrote g c =
     let i = c.loop.invariant in
     let bytes = c.args.bytes.now in
     let rest = c.loop.rest.now in
@@ -95,9 +93,9 @@ returns-in_err-write_any-clause-prefix g c =
     let first = g.S.WritesLines.state c.args.steps.now in
     let some = whole_lines (take (length bytes - length c.after_line-rest.result.now) bytes) in
     let said : AppendsPrefix (g.W.ByteWriter.held c.args.writer.now) (g.W.ByteWriter.held c.write_any.new.writer) (written g.S.WritesLines.steps c.args.limit first some) =
-    rw (to.lines, written-next g.S.WritesLines.State g.S.WritesLines.steps c.args.limit first (g.S.WritesLines.state c.loop.steps) (whole_lines (take (length bytes - length rest) bytes)) _ i.stands) (AppendsPrefix-after _ _ _ _ _ i.written c.in_err-write_any.ensures.prefix) in
+    rw (to.lines, written-next g.S.WritesLines.State g.S.WritesLines.steps c.args.limit first (g.S.WritesLines.state c.loop.steps) (whole_lines (take (length bytes - length rest) bytes)) _ i.stands) (AppendsPrefix-after _ _ _ _ _ i.written c.in_err-write_any.ensures.wrote.2) in
     let begins = written-begins g.S.WritesLines.State g.S.WritesLines.steps c.args.limit first (whole_lines bytes) some (whole_lines (drop (length bytes - length c.after_line-rest.result.now) bytes)) (whole_lines-prefix bytes _ to.ended) in
-    rw (p.1, begins.1) (AppendsPrefix-more _ _ _ begins.0 said)
+    wrote_err g.W.ByteWriter c.args.writer.now c.args.writer.now c.write_any.new.writer _ _ _ c.from_residual.ensures.1 (rw begins.1 (AppendsPrefix-more _ _ _ begins.0 said)) c.in_err-write_any.ensures.wrote.3
 
 -- no line feed is left
 free : (bytes rest : List ℕ) (start len : ℕ) → rest ≡ drop start bytes → len ≡ length rest → HasNoLineFeed (take len rest) → HasNoLineFeed (drop start bytes)
@@ -110,9 +108,9 @@ none bytes len all before = free bytes bytes 0 len refl all before
 pub returns-then-len-rest-clause-rest : goal.returns-then-len-rest-clause-rest
 returns-then-len-rest-clause-rest g c = rest_is_last c.args.bytes.now 0 last_part_of_none (none c.args.bytes.now _ (omega (arith, c.if-len-rest.true)) c.line_end_noted-len.ensures.before)
 
-pub returns-then-len-rest-clause-written : goal.returns-then-len-rest-clause-written
+pub returns-then-len-rest-clause-wrote : goal.returns-then-len-rest-clause-wrote
 unfolding written
-returns-then-len-rest-clause-written g c = rw (lines_are_all c.args.bytes.now 0 last_part_of_none (none c.args.bytes.now _ (omega (arith, c.if-len-rest.true)) c.line_end_noted-len.ensures.before), whole_lines_none) (Appends-nil _)
+returns-then-len-rest-clause-wrote g c = rw (lines_are_all c.args.bytes.now 0 last_part_of_none (none c.args.bytes.now _ (omega (arith, c.if-len-rest.true)) c.line_end_noted-len.ensures.before), whole_lines_none) (Appends-nil _, refl, tt, tt)
 
 pub returns-then-len-rest-clause-state : goal.returns-then-len-rest-clause-state
 unfolding after
@@ -126,15 +124,15 @@ returns-then-len-rest-2-clause-rest g c =
     let to = next bytes c.loop.rest.now c.after_line-rest.result.now c.loop.len i.within i.rest_is i.ended i.inside i.before i.line_feed c.after_line-rest.ensures in
     rest_is_last bytes _ to.ended (free bytes _ _ _ to.rest_is (omega (arith, c.if-len-rest-2.true)) c.line_end-len.ensures.before)
 
-pub returns-then-len-rest-2-clause-written : goal.returns-then-len-rest-2-clause-written
-returns-then-len-rest-2-clause-written g c =
+pub returns-then-len-rest-2-clause-wrote : goal.returns-then-len-rest-2-clause-wrote
+returns-then-len-rest-2-clause-wrote g c =
     let i = c.loop.invariant in
     let bytes = c.args.bytes.now in
     let to = next bytes c.loop.rest.now c.after_line-rest.result.now c.loop.len i.within i.rest_is i.ended i.inside i.before i.line_feed c.after_line-rest.ensures in
     let first = g.S.WritesLines.state c.args.steps.now in
     let state = g.S.WritesLines.state c.loop.steps in
     let new = g.S.WritesLines.state c.write_any.new.steps in
-    rw (lines_are_all bytes _ to.ended (free bytes _ _ _ to.rest_is (omega (arith, c.if-len-rest-2.true)) c.line_end-len.ensures.before)) (said_more g.S.WritesLines.State g.S.WritesLines.steps c.args.limit first state new bytes _ _ _ to i.stands _ _ _ i.written c.in_ok-write_any.ensures.written)
+    rw (lines_are_all bytes _ to.ended (free bytes _ _ _ to.rest_is (omega (arith, c.if-len-rest-2.true)) c.line_end-len.ensures.before)) (said_more g.S.WritesLines.State g.S.WritesLines.steps c.args.limit first state new bytes _ _ _ to i.stands _ _ _ i.written c.in_ok-write_any.ensures.wrote.0, c.in_ok-write_any.ensures.wrote.1 ∙ i.works, tt, tt)
 
 pub returns-then-len-rest-2-clause-state : goal.returns-then-len-rest-2-clause-state
 returns-then-len-rest-2-clause-state g c =

@@ -56,10 +56,10 @@ returns-in_default-write_came-clause-ran g c =
     let count = c.in-Ok.count in
     let fits : filled ≤ length buffer = omega arith in
     let more = pending_more buffer into start filled count (length buffer - filled) i.ordered fits c.in-Ok.ensures.within in
-    let wrote = rw more at c.in_default-write_came.ensures.prefix in
+    let wrote = rw more at c.in_default-write_came.ensures.wrote.2 in
     let handed = on_ok c.hand_on.result c.is_err.result c.is_err.ensures.value c.if-is_err.false c.hand_on.ensures.held in
     failed_to_write (more_fails _ _ _ _ (g.S.WritesLines.state c.loop-limit.steps) _ _ _ _ _ _ _ (handed_on _ _ _ _ _ _ _ _ _ _ _ i.progress _ handed) _ _ c.in-Ok.ensures.moved wrote)
-    (c.in-Ok.ensures.ok ∙ i.reader_works) c.in_default-write_came.ensures.err
+    (c.in-Ok.ensures.ok ∙ i.reader_works) c.in_default-write_came.ensures.wrote.3
 
 -- where the run stands when what came is written
 stands : (g : _) (c : In-Ok-write_came g)
@@ -87,7 +87,7 @@ stands g c =
     let short : filled + count - (start + left.start) ≤ c.args.limit = omega (arith, wrote.short, whole, i.ordered) in
     let line_is : pending (put_mid filled k buffer into) (start + left.start) (filled + count) ≡ kept left.is_begun (last_part (pending buffer start filled ++ take count into)) = pending_rest (put_mid filled k buffer into) start (filled + count) left.start ordered ∙ wrote.rest ∙ ap (λ l. kept left.is_begun (last_part l)) more in
     let handed = on_ok c.hand_on.result c.is_err.result c.is_err.ensures.value c.if-is_err.false c.hand_on.ensures.held in
-    let progress = more_came _ _ _ _ (g.S.WritesLines.state c.loop-limit.steps) _ _ _ _ _ _ _ (handed_on _ _ _ _ _ _ _ _ _ _ _ i.progress _ handed) _ _ c.in-Ok.ensures.moved (g.S.WritesLines.state c.write_came.new.steps) _ _ (rw more at wrote.written) (rw more at wrote.state) (rw more at wrote.begun) line_is in
+    let progress = more_came _ _ _ _ (g.S.WritesLines.state c.loop-limit.steps) _ _ _ _ _ _ _ (handed_on _ _ _ _ _ _ _ _ _ _ _ i.progress _ handed) _ _ c.in-Ok.ensures.moved (g.S.WritesLines.state c.write_came.new.steps) _ _ (rw more at wrote.wrote.0) (rw more at wrote.state) (rw more at wrote.begun) line_is in
     (progress, ordered, short, next_fits, size)
 
 pub loop-limit-preserved-then-start-filled : goal.loop-limit-preserved-then-start-filled
@@ -104,7 +104,7 @@ loop-limit-preserved-then-start-filled g c =
       ordered = omega arith;
       within = omega (arith, i.room);
       reader_works = c.in-Ok.ensures.ok ∙ i.reader_works;
-      writer_works = c.in-Ok-write_came.ensures.ok ∙ on_ok c.hand_on.result c.is_err.result c.is_err.ensures.value c.if-is_err.false c.hand_on.ensures.ok ∙ i.writer_works;
+      writer_works = c.in-Ok-write_came.ensures.wrote.1 ∙ on_ok c.hand_on.result c.is_err.result c.is_err.ensures.value c.if-is_err.false c.hand_on.ensures.ok ∙ i.writer_works;
     }
 
 pub loop-limit-preserved-then-filled-buffer : goal.loop-limit-preserved-then-filled-buffer
@@ -124,7 +124,7 @@ loop-limit-preserved-then-filled-buffer g c =
       ordered = omega arith;
       within = omega (arith, i.room, short);
       reader_works = c.in-Ok.ensures.ok ∙ i.reader_works;
-      writer_works = c.in-Ok-write_came.ensures.ok ∙ on_ok c.hand_on.result c.is_err.result c.is_err.ensures.value c.if-is_err.false c.hand_on.ensures.ok ∙ i.writer_works;
+      writer_works = c.in-Ok-write_came.ensures.wrote.1 ∙ on_ok c.hand_on.result c.is_err.result c.is_err.ensures.value c.if-is_err.false c.hand_on.ensures.ok ∙ i.writer_works;
     }
 
 pub loop-limit-preserved : goal.loop-limit-preserved
@@ -139,7 +139,7 @@ loop-limit-preserved g c =
       ordered = ordered;
       within = room;
       reader_works = c.in-Ok.ensures.ok ∙ i.reader_works;
-      writer_works = c.in-Ok-write_came.ensures.ok ∙ on_ok c.hand_on.result c.is_err.result c.is_err.ensures.value c.if-is_err.false c.hand_on.ensures.ok ∙ i.writer_works;
+      writer_works = c.in-Ok-write_came.ensures.wrote.1 ∙ on_ok c.hand_on.result c.is_err.result c.is_err.ensures.value c.if-is_err.false c.hand_on.ensures.ok ∙ i.writer_works;
     }
 
 pub loop-limit-smaller-then-start-filled : goal.loop-limit-smaller-then-start-filled
@@ -192,21 +192,21 @@ paused g c none =
 pub returns-then-is_err-2-clause-ran : goal.returns-then-is_err-2-clause-ran
 returns-then-is_err-2-clause-ran g c =
     let (progress, ends) = paused g (goal.at.returns-then-is_err-2-clause-ran g c).In-Ok c.if-count-eq0.true in
-    let wrote = on_err c.write_end.result c.is_err-2.result c.is_err-2.ensures.value c.if-is_err-2.true c.write_end.ensures.prefix in
+    let wrote = on_err c.write_end.result c.is_err-2.result c.is_err-2.ensures.value c.if-is_err-2.true c.write_end.ensures.2 in
     failed_to_write (fails_at_end _ _ _ _ _ _ _ _ _ _ _ _ progress ends wrote) (c.in-Ok.ensures.ok ∙ c.loop-limit.invariant.reader_works) (search rules)
 
 -- the flush failed
 pub returns-then-is_err-3-clause-ran : goal.returns-then-is_err-3-clause-ran
 returns-then-is_err-3-clause-ran g c =
     let (progress, ends) = paused g (goal.at.returns-then-is_err-3-clause-ran g c).In-Ok c.if-count-eq0.true in
-    let wrote = on_ok c.write_end.result c.is_err-2.result c.is_err-2.ensures.value c.if-is_err-2.false c.write_end.ensures.written in
+    let wrote = on_ok c.write_end.result c.is_err-2.result c.is_err-2.ensures.value c.if-is_err-2.false c.write_end.ensures.0 in
     let stays = on_err c.flush.result c.is_err-3.result c.is_err-3.ensures.value c.if-is_err-3.true c.flush.ensures.kept in
     failed_to_write (fails_at_flush _ _ _ _ _ _ _ _ _ (through _ _ _ _ _ _ _ _ _ _ _ _ progress ends wrote) stays) (search rules) (search rules)
 
 pub returns-clause-ran : goal.returns-clause-ran
 returns-clause-ran g c =
     let (progress, ends) = paused g (goal.at.returns-clause-ran g c).In-Ok c.if-count-eq0.true in
-    let wrote = on_ok c.write_end.result c.is_err-2.result c.is_err-2.ensures.value c.if-is_err-2.false c.write_end.ensures.written in
+    let wrote = on_ok c.write_end.result c.is_err-2.result c.is_err-2.ensures.value c.if-is_err-2.false c.write_end.ensures.0 in
     let held = on_ok c.flush.result c.is_err-3.result c.is_err-3.ensures.value c.if-is_err-3.false c.flush.ensures.moved in
     record {
       whole = done _ _ _ _ _ _ _ _ _ (through _ _ _ _ _ _ _ _ _ _ _ _ progress ends wrote) held;

@@ -2,13 +2,14 @@ use Rattle.std.proofs.Common.{◌+◌, drop, ap}
 use Rattle.std.specs.Result.{result_ok}
 use Rattle.instants_sources.specs.Grammar.{grammar_of}
 use Rattle.instants_timeline.specs.Settings.{setting_of}
-use Rattle.instants_timeline.proofs.FirstNamed.{answer_is_at, held_at, names_from_next}
+use Rattle.instants_timeline.proofs.FirstNamed.{answer_is_at, held_at, held_found, names_from_next}
 use Rattle.instants_timeline.proofs.timeline.Timeline.fill_unusual.Goals as goal
 
 pub returns-in-Some-clause-line : goal.returns-in-Some-clause-line
 returns-in-Some-clause-line c =
     let setting = setting_of c.args.self.now in
-    held_at setting c.args.line.now c.fill_other.new.room c.in-Some.len c.args.place (grammar_of c.args.source.now) (drop (c.args.place + 1) setting.sources) c.requires.from c.requires.source c.in-Some.ensures.line
+    held_at setting c.args.line.now c.fill_found.new.room c.in-Some.len c.args.place (grammar_of c.args.source.now) (drop (c.args.place + 1) setting.sources) c.requires.from c.requires.source
+    (held_found setting c.read_other.result (grammar_of c.args.source.now) c.args.line.now c.fill_found.new.room c.in-Some.len c.read_other.ensures c.in-Some.ensures.line)
 
 pub returns-in-Ok-clause-line : goal.returns-in-Ok-clause-line
 returns-in-Ok-clause-line c =

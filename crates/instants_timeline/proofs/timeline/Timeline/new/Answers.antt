@@ -18,7 +18,7 @@ returns-in-Err-clause-refused c =
 
 pub loop-text-preserved : goal.loop-text-preserved
 loop-text-preserved c =
-    let pushed : c.push.new.self.items ≡ c.loop-text.read.items ++ c.in-Ok.source ∷ [] = search rules in
+    let pushed : c.push.new.items.items ≡ c.loop-text.read.items ++ c.in-Ok.source ∷ [] = search rules in
     let before = map grammar_of c.loop-text.read.items in
     let one = grammar_of c.in-Ok.source in
     record {
