@@ -1,19 +1,9 @@
 //! Lines of a text, one after another.
-ghost use Rattle.std.specs.Prelude.{◌≡◌, ◌<◌, ◌≤◌, ◌+◌, ◌∷◌, length, take, slice_index, IfNone, IfSome};
-ghost use Rattle.base.specs.Bytes.{line_feed};
-ghost use Rattle.instants_stream.specs.Lines.{HasNoLineFeed, lines};
+ghost use Rattle.std.specs.Prelude.{◌≡◌, ◌<◌, ◌≤◌, ◌+◌, ◌∷◌, length};
+ghost use Rattle.instants_stream.specs.Lines.{lines};
 
 use crate::candidate::MOST;
-
-// How many bytes stand before the first line feed.
-fn line_len(text: &[u8]) -> Option<usize>
-    ensures none { IfNone result (HasNoLineFeed text.now) }
-    ensures within { IfSome result (λ len. len < length text.now) }
-    ensures line_feed { IfSome result (λ len. slice_index text.now len ≡ line_feed) }
-    ensures before { IfSome result (λ len. HasNoLineFeed (take len text.now)) }
-{
-    text.iter().position(|byte| *byte == b'\n')
-}
+use instants_stream::line_len;
 
 /// The first line, and what stands after its line feed.
 pub(crate) fn first_line(text: &[u8]) -> (&[u8], &[u8])
@@ -22,7 +12,7 @@ pub(crate) fn first_line(text: &[u8]) -> (&[u8], &[u8])
     ensures shorter { length result.0.now + length result.1.now ≤ length text.now }
     ensures some { length result.1.now < length text.now }
 {
-    match line_len(text) {
+    match line_len(text, 0) {
         Some(len) => (&text[..len], &text[len + 1..]),
         None => (text, b""),
     }

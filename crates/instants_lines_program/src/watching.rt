@@ -2,21 +2,15 @@
 
 ghost use Rattle.std.specs.Prelude.{◌≤◌, length};
 
+use instants_stream::line_len;
 use std::io::{self, Write};
 
-// How many bytes are looked at of the first write, and of each further one.
-const FIRST: usize = 16_384;
-
-const LOOKED: usize = 256;
-
-/// Writes to another writer lines after their keys, and looks at the keys until one is that of a date: at those at the beginning
-/// of each write.
+/// Writes to another writer lines after their keys, and looks at the keys until one is that of a date.
 #[derive(Drop)]
 pub struct Watching<W> {
     inner: W,
     // How many bytes of a line came, up to three.
     place: usize,
-    is_first: bool,
     has_lines: bool,
     has_date: bool,
 }
@@ -27,7 +21,6 @@ impl<W> Watching<W> {
         Watching {
             inner,
             place: 0,
-            is_first: true,
             has_lines: false,
             has_date: false,
         }
@@ -62,7 +55,7 @@ impl<W> Watching<W> {
         if self.place < 3 {
             return bytes;
         }
-        match bytes.iter().position(|byte| *byte == b'\n') {
+        match line_len(bytes, 0) {
             Some(len) => &bytes[len..],
             None => b"",
         }
@@ -78,41 +71,13 @@ impl<W> Watching<W> {
             rest = self.next(others);
         }
     }
-
-    // How many of so many bytes are looked at.
-    fn looked_at(&self, len: usize) -> usize
-        ensures { result ≤ len }
-    {
-        if self.is_first {
-            FIRST.min(len)
-        } else {
-            LOOKED.min(len)
-        }
-    }
-
-    fn look(&mut self, bytes: &[u8]) {
-        let len = self.looked_at(bytes.len());
-        self.is_first = false;
-        self.look_at(&bytes[..len]);
-        if len < bytes.len() {
-            self.place = place_after(bytes);
-        }
-    }
-}
-
-// How many bytes of a line came where these are the last ones: none, or enough.
-fn place_after(bytes: &[u8]) -> usize {
-    match bytes {
-        [.., b'\n'] => 0,
-        _ => 3,
-    }
 }
 
 impl<W: Write> Write for Watching<W> {
     fn write(&mut self, from: &[u8]) -> io::Result<usize> {
         let count = self.inner.write(from)?;
         if !self.has_date {
-            self.look(&from[..count]);
+            self.look_at(&from[..count]);
         }
         Ok(count)
     }
