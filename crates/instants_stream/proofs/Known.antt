@@ -42,11 +42,13 @@ on_err (Err y) b e f h = h
 
 module _ {W T E : Type 0} (to : writer.Ghosts W) (w between w_new : W) where
   -- what a write that failed did
-  pub wrote_err : (r : Result T E) (bytes : List ℕ) (Q : E → Type 0) → IsErrAnd r Q → AppendsPrefix (to.held w) (to.held w_new) bytes → to.failed w_new ≡ true → Wrote to w w_new r bytes
+  pub wrote_err : (r : Result T E) (bytes : List ℕ) (Q : E → Type 0) → IsErrAnd r Q
+      → AppendsPrefix (to.held w) (to.held w_new) bytes → to.failed w_new ≡ true → Wrote to w w_new r bytes
   wrote_err (Ok x) bytes Q is prefix failed = absurd is
   wrote_err (Err e) bytes Q is prefix failed = (tt, tt, prefix, failed)
 
   -- a write after another that ended well
-  pub wrote_after : (r : Result T E) (xs ys : List ℕ) → Appends (to.held w) (to.held between) xs → to.failed between ≡ to.failed w → Wrote to between w_new r ys → Wrote to w w_new r (xs ++ ys)
+  pub wrote_after : (r : Result T E) (xs ys : List ℕ) → Appends (to.held w) (to.held between) xs
+      → to.failed between ≡ to.failed w → Wrote to between w_new r ys → Wrote to w w_new r (xs ++ ys)
   wrote_after (Ok x) xs ys first same then = (Appends-trans (to.held w) (to.held between) (to.held w_new) xs ys first then.0, then.1 ∙ same, tt, tt)
   wrote_after (Err e) xs ys first same then = (tt, tt, AppendsPrefix-after (to.held w) (to.held between) (to.held w_new) xs ys first then.2, then.3)

@@ -8,7 +8,8 @@ use Rattle.instants_stream.proofs.came.open_line.Goals as goal
 pub returns-in_err-begin_line-clause-wrote : goal.returns-in_err-begin_line-clause-wrote
 unfolding opened
 returns-in_err-begin_line-clause-wrote g c =
-    wrote_err g.W.ByteWriter c.args.writer.now c.args.writer.now c.begin_line.new.writer _ _ _ c.from_residual.ensures.1 (AppendsPrefix-more _ _ _ _ c.in_err-begin_line.ensures.prefix) c.in_err-begin_line.ensures.err
+    wrote_err g.W.ByteWriter c.args.writer.now c.args.writer.now c.begin_line.new.writer _ _ _ c.from_residual.ensures.1
+    (AppendsPrefix-more _ _ _ _ c.in_err-begin_line.ensures.prefix) c.in_err-begin_line.ensures.err
 
 pub returns-clause-wrote : goal.returns-clause-wrote
 unfolding opened state_within

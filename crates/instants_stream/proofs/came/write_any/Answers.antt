@@ -9,12 +9,14 @@ pub returns-in_err-open_line-clause-wrote : goal.returns-in_err-open_line-clause
 returns-in_err-open_line-clause-wrote g c =
     let wrote = c.in_err-open_line.ensures.wrote in
     rw (line_said-longer g.S.WritesLines.State g.S.WritesLines.steps c.args.limit (g.S.WritesLines.state c.args.steps.now) c.args.line.now (omega (arith, c.if-line-limit.true)))
-    (wrote_err g.W.ByteWriter c.args.writer.now c.args.writer.now c.open_line.new.writer _ _ _ c.from_residual.ensures.1 (AppendsPrefix-more _ _ _ _ wrote.2) wrote.3)
+    (wrote_err g.W.ByteWriter c.args.writer.now c.args.writer.now c.open_line.new.writer _ _ _ c.from_residual.ensures.1
+    (AppendsPrefix-more _ _ _ _ wrote.2) wrote.3)
 
 pub returns-then-line-limit-clause-wrote : goal.returns-then-line-limit-clause-wrote
 returns-then-line-limit-clause-wrote g c =
     let wrote = c.in_ok-open_line.ensures.wrote in
-    let end : Wrote g.W.ByteWriter c.open_line.new.writer c.end_line.new.writer c.end_line.result (g.S.WritesLines.steps.ended (g.S.WritesLines.state c.open_line.new.steps)) = (c.end_line.ensures.written, c.end_line.ensures.ok, c.end_line.ensures.prefix, c.end_line.ensures.err) in
+    let end : Wrote g.W.ByteWriter c.open_line.new.writer c.end_line.new.writer c.end_line.result (g.S.WritesLines.steps.ended (g.S.WritesLines.state c.open_line.new.steps)) =
+    (c.end_line.ensures.written, c.end_line.ensures.ok, c.end_line.ensures.prefix, c.end_line.ensures.err) in
     rw (line_said-longer g.S.WritesLines.State g.S.WritesLines.steps c.args.limit (g.S.WritesLines.state c.args.steps.now) c.args.line.now (omega (arith, c.if-line-limit.true)))
     (wrote_after g.W.ByteWriter c.args.writer.now c.open_line.new.writer c.end_line.new.writer _ _ _ wrote.0 wrote.1 (rw c.in_ok-open_line.ensures.state at end))
 

@@ -35,7 +35,9 @@ write_whole_lines-requires-clause-free g c =
     rw (take_rest c.args.bytes.now c.in_ok-first.first.start) (free_after c.args.is_begun c.args.searched c.in_ok-first.first.start c.args.bytes.now c.requires.begun c.in_ok-first.ensures.new c.requires.free)
 
 pub returns-in_err-first-clause-wrote : goal.returns-in_err-first-clause-wrote
-returns-in_err-first-clause-wrote g c = wrote_err g.W.ByteWriter c.args.writer.now c.args.writer.now c.go_on.new.writer _ _ _ c.from_residual.ensures.1 (c.in_err-first.ensures.prefix c.args.limit) c.in_err-first.ensures.err
+returns-in_err-first-clause-wrote g c =
+    wrote_err g.W.ByteWriter c.args.writer.now c.args.writer.now c.go_on.new.writer _ _ _ c.from_residual.ensures.1
+    (c.in_err-first.ensures.prefix c.args.limit) c.in_err-first.ensures.err
 
 pub returns-in_err-start-clause-wrote : goal.returns-in_err-start-clause-wrote
 returns-in_err-start-clause-wrote g c =
