@@ -83,15 +83,12 @@ fn advance((day, (weekday, sundays, mondays), week, julian_day): Views) -> Views
 
 #[test]
 fn walks_eight_centuries(rt: HostRuntime) {
-    let mut date = dates::date_of(-401, Month::January, 1);
+    let first = dates::date_of(-401, Month::January, 1);
     let last = dates::date_of(401, Month::December, 31);
     let mut views = ((-401, 1, 1, 1), (4, 0, 0), (-402, 53), 1_574_598);
-    let mut days = 0u32;
-    for expected in date.iter_to(last) {
-        assert!(rt; (date, views_of(date)) == (expected, views));
-        days = days.wrapping_add(1);
-        date = date.next_day().unwrap_or(Date::MAX);
+    for date in first.iter_to(last) {
+        assert!(rt; views_of(date) == views);
         views = advance(views);
     }
-    assert!(rt; (days, views.0) == (293_290, (402, 1, 1, 1)));
+    assert!(rt; views.0 == (402, 1, 1, 1));
 }

@@ -4,9 +4,12 @@ ghost use Rattle.calendar_count.specs.Range.{IsCount};
 use calendar::{Month, util};
 use calendar_count::{closed, march};
 
-// Whether the year is a leap year, its days and its weeks, and the days of its February and April.
-fn lengths(year: i32) -> (bool, u16, u8, u8, u8) {
+// A year, whether it is a leap year, its days and its weeks, and the days of its February and April.
+type Year = (i32, bool, u16, u8, u8, u8);
+
+fn lengths(year: i32) -> Year {
     (
+        year,
         util::is_leap_year(year),
         util::days_in_year(year),
         util::weeks_in_year(year),
@@ -15,88 +18,68 @@ fn lengths(year: i32) -> (bool, u16, u8, u8, u8) {
     )
 }
 
-static YEARS: [(i32, (bool, u16, u8, u8, u8)); 4] = [
-    (2000, (true, 366, 52, 29, 30)),
-    (1900, (false, 365, 52, 28, 30)),
-    (2020, (true, 366, 53, 29, 30)),
-    (i32::MAX, (false, 365, 52, 28, 30)),
+static YEARS: [Year; 4] = [
+    (2000, true, 366, 52, 29, 30),
+    (1900, false, 365, 52, 28, 30),
+    (2020, true, 366, 53, 29, 30),
+    (i32::MAX, false, 365, 52, 28, 30),
 ];
 
 #[test]
 fn lengths_of_years(rt: HostRuntime) {
-    for row in &YEARS {
-        let (year, expected) = *row;
-        assert!(rt; lengths(year) == expected);
+    for year in &YEARS {
+        assert!(rt; lengths(year.0) == *year);
     }
 }
 
-// From 0000-01-01 to 9999-12-31, by their Julian days, which are the counts less 363521074.
-fn have_four_digits() -> [bool; 4] {
-    [
-        closed::has_four_digit_year(365_242_133),
-        closed::has_four_digit_year(365_242_134),
-        closed::has_four_digit_year(368_894_558),
-        closed::has_four_digit_year(368_894_559),
-    ]
-}
+// The day of a count, the count of that day, the days of its year before it, and whether four digits write the year.
+type Shown = ((i32, u8, u8), u32, (i32, u16), bool);
 
-#[test]
-fn years_of_four_digits(rt: HostRuntime) {
-    assert!(rt; have_four_digits() == [false, true, true, false]);
-}
-
-// The day of a count, and the count of that day where there is one.
-fn there_and_back(count: u32) -> ((i32, u8, u8), u32)
+fn shown(count: u32) -> Shown
     requires { IsCount count }
 {
     let (year, month, day) = march::day_of_count(count);
+    let (years, days) = closed::split_years(count);
+    let mut back = 0;
     if closed::has_year(year) && 1 <= month && month <= 12 && closed::has_day(year, month, day) {
-        return ((year, month, day), march::count_of_day(year, month, day));
+        back = march::count_of_day(year, month, day);
     }
-    ((year, month, day), 0)
+    (
+        (year, month, day),
+        back,
+        (closed::year_after(years), days),
+        closed::has_four_digit_year(count),
+    )
 }
 
-// The first and the last day, 1970-01-01, and the day before the Julian days begin.
-fn all_there_and_back() -> [((i32, u8, u8), u32); 4] {
+fn all_shown() -> [Shown; 9] {
     [
-        there_and_back(0),
-        there_and_back(730_484_633),
-        there_and_back(365_961_662),
-        there_and_back(363_521_073),
+        shown(0),
+        shown(363_521_073),
+        shown(365_242_133),
+        shown(365_242_134),
+        shown(365_961_662),
+        shown(365_972_678),
+        shown(368_894_558),
+        shown(368_894_559),
+        shown(730_484_633),
     ]
 }
 
-static DAYS: [((i32, u8, u8), u32); 4] = [
-    ((-999_999, 1, 1), 0),
-    ((999_999, 12, 31), 730_484_633),
-    ((1970, 1, 1), 365_961_662),
-    ((-4713, 11, 23), 363_521_073),
+// The first and the last day, the day before the Julian days begin, the ends of the years of four digits, and days between.
+static SHOWN: [Shown; 9] = [
+    ((-999_999, 1, 1), 0, (-999_999, 0), false),
+    ((-4713, 11, 23), 363_521_073, (-4713, 326), false),
+    ((-1, 12, 31), 365_242_133, (-1, 364), false),
+    ((0, 1, 1), 365_242_134, (0, 0), true),
+    ((1970, 1, 1), 365_961_662, (1970, 0), true),
+    ((2000, 2, 29), 365_972_678, (2000, 59), true),
+    ((9999, 12, 31), 368_894_558, (9999, 364), true),
+    ((10_000, 1, 1), 368_894_559, (10_000, 0), false),
+    ((999_999, 12, 31), 730_484_633, (999_999, 364), false),
 ];
 
 #[test]
 fn days_and_counts(rt: HostRuntime) {
-    assert!(rt; all_there_and_back() == DAYS);
-}
-
-// The year of a count, and how many days of it are before.
-fn year_at(count: u32) -> (i32, u16)
-    requires { IsCount count }
-{
-    let (years, days) = closed::split_years(count);
-    (closed::year_after(years), days)
-}
-
-// The first and the last day, 1970-01-01 and 2000-02-29.
-fn years_at() -> [(i32, u16); 4] {
-    [
-        year_at(0),
-        year_at(730_484_633),
-        year_at(365_961_662),
-        year_at(365_972_678),
-    ]
-}
-
-#[test]
-fn years_of_counts(rt: HostRuntime) {
-    assert!(rt; years_at() == [(-999_999, 0), (999_999, 364), (1970, 0), (2000, 59)]);
+    assert!(rt; all_shown() == SHOWN);
 }

@@ -1,78 +1,89 @@
 //! Each law at a value that is known from outside.
-use crate::{dates, durations};
+use crate::dates::{answered, leap_day};
+use crate::durations;
 use calendar::laws::{self, times};
-use calendar::{ComponentRange, Date, Month, SignedDuration, Time, UtcOffset, Weekday};
+use calendar::{Date, Month, SignedDuration, Time, UtcOffset, Weekday};
 use std::cmp::Ordering;
 
-fn leap_day() -> Date {
-    dates::date_of(2024, Month::February, 29)
-}
-
-fn found(leap: Date) -> [Result<Date, ComponentRange>; 4] {
+fn days(leap: Date) -> [Date; 7] {
     [
-        laws::day_of_calendar_date(leap),
-        laws::day_of_ordinal_date(leap),
-        laws::day_of_iso_week_date(leap),
-        laws::day_of_julian_day(leap),
-    ]
-}
-
-fn led(leap: Date) -> [Option<Date>; 2] {
-    [
-        laws::day_and_back(leap, SignedDuration::WEEK),
-        laws::day_at_difference(leap, Date::MIN),
+        answered(laws::day_of_calendar_date(leap)),
+        answered(laws::day_of_ordinal_date(leap)),
+        answered(laws::day_of_iso_week_date(leap)),
+        answered(laws::day_of_julian_day(leap)),
+        laws::day_and_back(leap, SignedDuration::WEEK).unwrap_or(Date::MIN),
+        laws::day_at_difference(Date::MIN, leap).unwrap_or(Date::MIN),
+        laws::day_at_difference(leap, Date::MIN).unwrap_or(leap),
     ]
 }
 
 #[test]
 fn laws_of_dates(rt: HostRuntime) {
-    let leap = leap_day();
-    assert!(rt; found(leap) == [Ok(leap); 4] && led(leap) == [Some(leap), Some(Date::MIN)]);
-}
-
-fn show_views() -> [bool; 4] {
     laws::views();
     laws::both_ends();
     laws::order_of_days();
-    let week_date = (2024, 9, Weekday::Thursday);
-    let epoch = Date::from_calendar_date(1970, Month::January, 1);
-    [
-        laws::iso_week_date_of_day(2024, 9, Weekday::Thursday) == Some(week_date),
-        laws::julian_day_of_day(2_451_545) == Some(2_451_545),
-        laws::ends_of_calendar() == [Date::MIN, Date::MAX],
-        Ok(laws::day_of_unix_epoch()) == epoch,
-    ]
+    let (leap, first) = (leap_day(), Date::MIN);
+    assert!(rt; days(leap) == [leap, leap, leap, leap, leap, leap, first]);
+    let [least, greatest] = laws::ends_of_calendar();
+    let ends = [least, laws::day_of_unix_epoch(), greatest];
+    assert!(rt; ends == [first, answered(Date::from_julian_day(2_440_588)), Date::MAX]);
 }
 
-fn months_and_back() -> bool {
-    let back = (
+type Shown = (
+    Option<(i32, u8, Weekday)>,
+    Option<i32>,
+    Month,
+    Weekday,
+    Ordering,
+);
+
+fn shown() -> Shown {
+    (
+        laws::iso_week_date_of_day(2024, 9, Weekday::Thursday),
+        laws::julian_day_of_day(2_451_545),
         laws::month_and_back(Month::May, 200),
         laws::weekday_and_back(Weekday::Sunday, 200),
-    );
-    let order = laws::order_of_months(Month::May, Month::June);
-    back == (Month::May, Weekday::Sunday) && order == Ordering::Less
+        laws::order_of_months(Month::May, Month::June),
+    )
 }
 
-fn offsets_and_back() -> bool {
-    let offset = UtcOffset::from_hms(-3, 30, 0).unwrap_or(UtcOffset::UTC);
-    let offsets = [times::offset_of_utc(), times::turned_twice(offset)];
-    laws::offset_of_whole_seconds(offset) == Ok(offset) && offsets == [UtcOffset::UTC, offset]
+static SHOWN: Shown = (
+    Some((2024, 9, Weekday::Thursday)),
+    Some(2_451_545),
+    Month::May,
+    Weekday::Sunday,
+    Ordering::Less,
+);
+
+fn offsets(offset: UtcOffset) -> [UtcOffset; 3] {
+    [
+        laws::offset_of_whole_seconds(offset).unwrap_or(UtcOffset::UTC),
+        times::turned_twice(offset),
+        times::offset_of_utc(),
+    ]
 }
 
 #[test]
 fn laws_of_views_months_and_offsets(rt: HostRuntime) {
-    assert!(rt; show_views() == [true; 4] && months_and_back() && offsets_and_back());
+    assert!(rt; shown() == SHOWN);
+    let utc = UtcOffset::UTC;
+    let offset = UtcOffset::from_hms(-3, 30, 0).unwrap_or(utc);
+    assert!(rt; offsets(offset) == [offset, offset, utc]);
 }
 
-fn times_led_to() -> bool {
+fn led_to() -> [u64; 4] {
     let sample = Time::from_seconds_nanoseconds(84_050, 123_456_789);
     let later = Time::from_seconds_nanoseconds(1250, 0);
-    let led = [
-        times::led_by_duration_until(sample, later),
-        times::moved_and_back(sample, SignedDuration::MIN),
-    ];
-    times::ends_of_day() == [Time::MIDNIGHT, Time::MAX] && led == [later, sample]
+    let [first, last] = times::ends_of_day();
+    [
+        times::led_by_duration_until(sample, later).nanosecond_of_day(),
+        times::moved_and_back(sample, SignedDuration::MIN).nanosecond_of_day(),
+        first.nanosecond_of_day(),
+        last.nanosecond_of_day(),
+    ]
 }
+
+static LED_TO: [u64; 4] = [1_250_000_000_000, 84_050_123_456_789, 0, 86_399_999_999_999];
 
 fn units() -> [SignedDuration; 11] {
     [
@@ -90,13 +101,10 @@ fn units() -> [SignedDuration; 11] {
     ]
 }
 
-fn durations_led_to() -> bool {
-    let sample = durations::sample();
-    let led = laws::durations::added_and_taken_away(sample, SignedDuration::WEEK);
-    laws::durations::constants() == units() && led == Some(sample)
-}
-
 #[test]
 fn laws_of_times_and_durations(rt: HostRuntime) {
-    assert!(rt; times_led_to() && durations_led_to());
+    assert!(rt; led_to() == LED_TO);
+    assert!(rt; laws::durations::constants() == units());
+    let (sample, week) = (durations::sample(), SignedDuration::WEEK);
+    assert!(rt; laws::durations::added_and_taken_away(sample, week) == Some(sample));
 }

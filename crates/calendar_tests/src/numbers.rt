@@ -2,11 +2,14 @@
 use calendar::SignedDuration;
 
 // By numbers of all types, one after the other: before the duration, and after it.
-fn multiplied() -> (i128, i128) {
+fn multiplied_before() -> i128 {
     let one = SignedDuration::nanoseconds(1);
-    let before = 5u32 * (3u16 * (2u8 * (-5i32 * (-3i16 * (-2i8 * one)))));
-    let after = one * -2i8 * -3i16 * -5i32 * 2u8 * 3u16 * 5u32;
-    (before.whole_nanoseconds(), after.whole_nanoseconds())
+    (5u32 * (3u16 * (2u8 * (-5i32 * (-3i16 * (-2i8 * one)))))).whole_nanoseconds()
+}
+
+fn multiplied_after() -> i128 {
+    let one = SignedDuration::nanoseconds(1);
+    (one * -2i8 * -3i16 * -5i32 * 2u8 * 3u16 * 5u32).whole_nanoseconds()
 }
 
 fn divided() -> i128 {
@@ -38,6 +41,10 @@ fn divided_in_place() -> i128 {
 
 #[test]
 fn multiplies_and_divides(rt: HostRuntime) {
-    assert!(rt; multiplied() == (-900, -900) && multiplied_in_place() == -900);
-    assert!(rt; divided() == 3000 && divided_in_place() == 3000);
+    let products = [
+        multiplied_before(),
+        multiplied_after(),
+        multiplied_in_place(),
+    ];
+    assert!(rt; products == [-900; 3] && [divided(), divided_in_place()] == [3000; 2]);
 }

@@ -24,25 +24,25 @@ fn told(offset: UtcOffset) -> Told {
     )
 }
 
-static EAST: Told = (
-    (0, 30, 0),
-    (0, 30, 30, 0),
-    (true, false, false),
-    (1800, -1800),
-);
-
-static WEST: Told = (
-    (-1, -30, -5),
-    (-1, -90, -30, -5),
-    (false, true, false),
-    (-5405, 5405),
-);
+static TOLD: [Told; 2] = [
+    (
+        (-1, -30, -5),
+        (-1, -90, -30, -5),
+        (false, true, false),
+        (-5405, 5405),
+    ),
+    (
+        (0, 30, 0),
+        (0, 30, 30, 0),
+        (true, false, false),
+        (1800, -1800),
+    ),
+];
 
 // The parts take the sign of the first that has one.
 #[test]
 fn tells_offsets(rt: HostRuntime) {
     let west = UtcOffset::from_hms(-1, 30, 5).unwrap_or(UtcOffset::UTC);
     let east = UtcOffset::from_whole_seconds(1800).unwrap_or(UtcOffset::UTC);
-    assert!(rt; told(west) == WEST && told(east) == EAST);
-    assert!(rt; west < east);
+    assert!(rt; [told(west), told(east)] == TOLD && west < east);
 }

@@ -11,8 +11,9 @@ fn refused<T: Drop>(answer: Result<T, ComponentRange>) -> Refused {
     }
 }
 
-fn all_refused() -> [Refused; 6] {
+fn all_refused() -> [Refused; 7] {
     [
+        refused(Month::try_from(13)),
         refused(Date::from_calendar_date(2021, Month::February, 29)),
         refused(Date::from_julian_day(i32::MAX)),
         refused(Date::from_iso_week_date(2021, 53, Weekday::Monday)),
@@ -22,7 +23,8 @@ fn all_refused() -> [Refused; 6] {
     ]
 }
 
-static REFUSED: [Refused; 6] = [
+static REFUSED: [Refused; 7] = [
+    ("month", false),
     ("day", true),
     ("julian_day", false),
     ("week", true),
@@ -31,24 +33,19 @@ static REFUSED: [Refused; 6] = [
     ("seconds", false),
 ];
 
-#[test]
-fn refuses(rt: HostRuntime) {
-    let refused = all_refused();
-    assert!(rt; refused == REFUSED);
-}
-
 // There is no day past both ends of the calendar.
-fn ends() -> [bool; 4] {
+fn ends() -> [Option<Date>; 4] {
     let (first, last) = (Date::MIN, Date::MAX);
     [
-        last.next_day().is_none(),
-        first.previous_day().is_none(),
-        last.checked_add(SignedDuration::DAY).is_none(),
-        last.saturating_add(SignedDuration::MAX) == last,
+        last.next_day(),
+        first.previous_day(),
+        last.checked_add(SignedDuration::DAY),
+        Some(last.saturating_add(SignedDuration::MAX)),
     ]
 }
 
 #[test]
-fn ends_with_the_calendar(rt: HostRuntime) {
-    assert!(rt; ends() == [true; 4]);
+fn refuses_and_ends(rt: HostRuntime) {
+    assert!(rt; all_refused() == REFUSED);
+    assert!(rt; ends() == [None, None, None, Some(Date::MAX)]);
 }

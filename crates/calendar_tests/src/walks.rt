@@ -7,29 +7,18 @@ fn three_days() -> DateIter {
     date_of(2024, Month::February, 28).iter_to(date_of(2024, Month::March, 1))
 }
 
-// From both ends to the middle.
-fn walks_from_both_ends() -> bool {
-    let leap = date_of(2024, Month::February, 29);
-    let after = date_of(2024, Month::March, 1);
+// From both ends to the middle, and to an end.
+fn walked() -> [Option<Date>; 7] {
     let mut days = three_days();
-    let len = (days.len(), days.size_hint());
-    let given = [days.nth(1), days.next_back(), days.next()];
-    len == (3, (3, Some(3))) && given == [Some(leap), Some(after), None]
-}
-
-fn walked_to_an_end() -> [Option<Date>; 4] {
     [
+        days.nth(1),
+        days.next_back(),
+        days.next(),
         three_days().last(),
         three_days().min(),
         three_days().max(),
         three_days().nth_back(2),
     ]
-}
-
-fn walks_to_an_end() -> bool {
-    let before = date_of(2024, Month::February, 28);
-    let after = date_of(2024, Month::March, 1);
-    walked_to_an_end() == [Some(after), Some(before), Some(after), Some(before)]
 }
 
 fn counted_by_a_copy() -> Option<usize> {
@@ -38,16 +27,26 @@ fn counted_by_a_copy() -> Option<usize> {
 
 #[test]
 fn walks_days(rt: HostRuntime) {
-    assert!(rt; walks_from_both_ends());
-    assert!(rt; walks_to_an_end() && three_days().is_sorted());
-    assert!(rt; counted_by_a_copy() == Some(3));
+    let before = Some(date_of(2024, Month::February, 28));
+    let leap = Some(date_of(2024, Month::February, 29));
+    let after = Some(date_of(2024, Month::March, 1));
+    assert!(rt; walked() == [leap, after, None, after, before, after, before]);
+    let days = three_days();
+    let counts = (days.len(), days.size_hint(), counted_by_a_copy());
+    assert!(rt; counts == (3, (3, Some(3)), Some(3)) && days.is_sorted());
 }
 
-// The Julian days of the `n`th such weekday later and earlier, as both calls say.
-fn nth_by_both(day: Date, weekday: Weekday, n: u8) -> Option<[i32; 4]> {
+// The Julian days of the next such weekday and the last one, and of the `n`th later and earlier, as both calls say.
+fn found(day: Date, weekday: Weekday, n: u8) -> Option<[i32; 8]> {
     let later = day.checked_nth_next_occurrence(weekday, n)?;
     let earlier = day.checked_nth_prev_occurrence(weekday, n)?;
+    let next = day.checked_next_occurrence(weekday)?;
+    let last = day.checked_prev_occurrence(weekday)?;
     Some([
+        next.to_julian_day(),
+        day.next_occurrence(weekday).to_julian_day(),
+        last.to_julian_day(),
+        day.prev_occurrence(weekday).to_julian_day(),
         later.to_julian_day(),
         day.nth_next_occurrence(weekday, n).to_julian_day(),
         earlier.to_julian_day(),
@@ -55,25 +54,21 @@ fn nth_by_both(day: Date, weekday: Weekday, n: u8) -> Option<[i32; 4]> {
     ])
 }
 
-// The same of the next one and the last one.
-fn next_by_both(day: Date, weekday: Weekday) -> Option<[i32; 4]> {
-    let later = day.checked_next_occurrence(weekday)?;
-    let earlier = day.checked_prev_occurrence(weekday)?;
-    Some([
-        later.to_julian_day(),
-        day.next_occurrence(weekday).to_julian_day(),
-        earlier.to_julian_day(),
-        day.prev_occurrence(weekday).to_julian_day(),
-    ])
-}
-
 // From 1 January 1970, a Thursday, whose Julian day is 2440588.
+static SUNDAYS: [i32; 8] = [
+    2_440_591, 2_440_591, 2_440_584, 2_440_584, 2_440_605, 2_440_605, 2_440_570, 2_440_570,
+];
+
+static THURSDAYS: [i32; 8] = [
+    2_440_595, 2_440_595, 2_440_581, 2_440_581, 2_440_595, 2_440_595, 2_440_581, 2_440_581,
+];
+
 #[test]
 fn finds_weekdays(rt: HostRuntime) {
-    let day = Date::UNIX_EPOCH;
-    let sundays = [2_440_605, 2_440_605, 2_440_570, 2_440_570];
-    let thursdays = [2_440_595, 2_440_595, 2_440_581, 2_440_581];
-    assert!(rt; nth_by_both(day, Weekday::Sunday, 3) == Some(sundays));
-    assert!(rt; next_by_both(day, Weekday::Thursday) == Some(thursdays));
-    assert!(rt; nth_by_both(day, Weekday::Friday, 0) == None);
+    let found = [
+        found(Date::UNIX_EPOCH, Weekday::Sunday, 3),
+        found(Date::UNIX_EPOCH, Weekday::Thursday, 1),
+        found(Date::UNIX_EPOCH, Weekday::Friday, 0),
+    ];
+    assert!(rt; found == [Some(SUNDAYS), Some(THURSDAYS), None]);
 }

@@ -12,8 +12,8 @@ type Shown = (
     (u8, u8, u8, u32),
 );
 
-// The nanoseconds since 1970 of a moment, of its time on the first day of 1970, and of its midnight; and its year.
-type Counted = ([i128; 3], i32);
+// The nanoseconds since 1970 of a moment, of its time on the first day of 1970, and of its midnight.
+type Counted = [i128; 3];
 
 fn of_utc(utc: UtcDateTime) -> (Shown, Counted) {
     let shown = (
@@ -23,14 +23,13 @@ fn of_utc(utc: UtcDateTime) -> (Shown, Counted) {
         utc.to_iso_week_date(),
         utc.as_hms_nano(),
     );
-    let first = utc.replace_date(date_of(1970, Month::January, 1));
-    let midnight = utc.replace_time(Time::MIDNIGHT);
     let counts = [
         utc.instant_nanos(),
-        first.instant_nanos(),
-        midnight.instant_nanos(),
+        utc.replace_date(date_of(1970, Month::January, 1))
+            .instant_nanos(),
+        utc.replace_time(Time::MIDNIGHT).instant_nanos(),
     ];
-    (shown, (counts, utc.year()))
+    (shown, counts)
 }
 
 fn of_timestamp(timestamp: Timestamp) -> (Shown, Counted) {
@@ -41,27 +40,34 @@ fn of_timestamp(timestamp: Timestamp) -> (Shown, Counted) {
         timestamp.to_iso_week_date(),
         timestamp.as_hms_nano(),
     );
-    let first = timestamp.replace_date(date_of(1970, Month::January, 1));
-    let midnight = timestamp.replace_time(Time::MIDNIGHT);
     let counts = [
         timestamp.instant_nanos(),
-        first.instant_nanos(),
-        midnight.instant_nanos(),
+        timestamp
+            .replace_date(date_of(1970, Month::January, 1))
+            .instant_nanos(),
+        timestamp.replace_time(Time::MIDNIGHT).instant_nanos(),
     ];
-    (shown, (counts, WallClock::year(timestamp)))
+    (shown, counts)
 }
+
+const WANTED: (Shown, Counted) = (
+    (
+        Weekday::Thursday,
+        LEAP_DAY,
+        (2024, 60),
+        (2024, 9, Weekday::Thursday),
+        EVENING,
+    ),
+    [
+        1_709_251_198_123_456_789,
+        86_398_123_456_789,
+        1_709_164_800_000_000_000,
+    ],
+);
 
 #[test]
 fn both_name_the_same(rt: HostRuntime) {
     let utc = UtcDateTime::new(leap_day(), evening());
-    let thursday = Weekday::Thursday;
-    let shown = (thursday, LEAP_DAY, (2024, 60), (2024, 9, thursday), EVENING);
-    let counts = [
-        1_709_251_198_123_456_789,
-        86_398_123_456_789,
-        1_709_164_800_000_000_000,
-    ];
-    let wanted = (shown, (counts, 2024));
-    assert!(rt; of_utc(utc) == wanted);
-    assert!(rt; of_timestamp(Timestamp::from(utc)) == wanted);
+    let given = [of_utc(utc), of_timestamp(Timestamp::from(utc))];
+    assert!(rt; given == [WANTED; 2] && WallClock::year(utc) == 2024);
 }

@@ -1,32 +1,25 @@
 //! Runs at values that are known from outside, alike for both kinds of moment.
-use crate::kinds::DateTime;
+use crate::kinds::{parts, shown};
 use crate::rows::{Parts, date_of, offset_of, timestamp_of};
 use calendar::{Month, SignedDuration, Time, UtcOffset, Weekday};
-use datetime::{
-    Moment, MomentCall, MomentReply, OffsetDateTime, Timestamp, UtcDateTime, run_calls,
-};
+use datetime::{Moment, MomentCall, MomentReply, OffsetDateTime, Timestamp, run_calls};
 use std::alloc::Global;
 
-// Whether the calls from a moment on have these replies, and lead to so many nanoseconds. That memory
-// runs out fails the test.
-fn answers<M: Moment>(
+// Whether the calls from a moment on have these replies, and lead to so many nanoseconds, or `None` where memory runs out.
+pub fn answers<M: Moment>(
     alloc: Global,
     start: M,
     calls: &[MomentCall],
     replies: &[MomentReply],
     last: i128,
-) -> bool {
+) -> Option<bool> {
     match run_calls(alloc, start, calls) {
-        Ok(answer) => is_so(&answer, replies, last),
-        Err(_) => false,
+        Ok(answer) => Some(answer.1.as_slice() == replies && answer.0.instant_nanos() == last),
+        Err(_) => None,
     }
 }
 
-fn is_so<M: Moment>(answer: &(M, Vec<MomentReply>), replies: &[MomentReply], last: i128) -> bool {
-    answer.1.as_slice() == replies && answer.0.instant_nanos() == last
-}
-
-// From one instant, by both calendars.
+// From one instant, by both calendars. That memory runs out fails the test.
 fn both_answer(
     alloc: Global,
     start: Timestamp,
@@ -34,23 +27,67 @@ fn both_answer(
     replies: &[MomentReply],
     last: i128,
 ) -> bool {
-    answers(alloc, start, calls, replies, last)
-        && answers(alloc, start.to_utc(), calls, replies, last)
+    let by_timestamp = answers(alloc, start, calls, replies, last);
+    let by_utc = answers(alloc, start.to_utc(), calls, replies, last);
+    [by_timestamp, by_utc] == [Some(true); 2]
 }
 
+// A start, calls from there on, their replies, and to how many nanoseconds they lead.
+type Run = (Timestamp, [MomentCall; 3], [MomentReply; 3], i128);
+
+// A refused call is answered, and the run goes on from where it was.
+const RUNS: [Run; 3] = [
+    (
+        Timestamp::UNIX_EPOCH,
+        [
+            MomentCall::CheckedSub(SignedDuration::NANOSECOND),
+            MomentCall::AsHmsNano,
+            MomentCall::Weekday,
+        ],
+        [
+            MomentReply::CheckedSub(Some(-1)),
+            MomentReply::AsHmsNano(23, 59, 59, 999_999_999),
+            MomentReply::Weekday(Weekday::Wednesday),
+        ],
+        -1,
+    ),
+    (
+        Timestamp::MAX,
+        [
+            MomentCall::CheckedAdd(SignedDuration::NANOSECOND),
+            MomentCall::ToCalendarDate,
+            MomentCall::AsHmsNano,
+        ],
+        [
+            MomentReply::CheckedAdd(None),
+            MomentReply::ToCalendarDate(999_999, Month::December, 31),
+            MomentReply::AsHmsNano(23, 59, 59, 999_999_999),
+        ],
+        31_494_784_780_799_999_999_999,
+    ),
+    (
+        Timestamp::MIN,
+        [
+            MomentCall::CheckedSub(SignedDuration::NANOSECOND),
+            MomentCall::ToOrdinalDate,
+            MomentCall::Weekday,
+        ],
+        [
+            MomentReply::CheckedSub(None),
+            MomentReply::ToOrdinalDate(-999_999, 1),
+            MomentReply::Weekday(Weekday::Monday),
+        ],
+        -31_619_087_596_800_000_000_000,
+    ),
+];
+
+// A run of no calls stays where it starts.
 #[test]
-fn moves_the_start(rt: HostRuntime) {
-    let calls = [
-        MomentCall::CheckedAdd(SignedDuration::nanoseconds(-1)),
-        MomentCall::AsHmsNano,
-        MomentCall::Weekday,
-    ];
-    let replies = [
-        MomentReply::CheckedAdd(Some(-1)),
-        MomentReply::AsHmsNano(23, 59, 59, 999_999_999),
-        MomentReply::Weekday(Weekday::Wednesday),
-    ];
-    assert!(rt; both_answer(rt.alloc(), Timestamp::UNIX_EPOCH, &calls, &replies, -1));
+fn answers_runs(rt: HostRuntime) {
+    for run in &RUNS {
+        assert!(rt; both_answer(rt.alloc(), run.0, &run.1, &run.2, run.3));
+    }
+    assert!(rt; both_answer(rt.alloc(), Timestamp::UNIX_EPOCH, &[], &[], 0));
 }
 
 fn every_call() -> [MomentCall; 12] {
@@ -92,59 +129,9 @@ fn every_reply() -> [MomentReply; 12] {
 
 #[test]
 fn answers_every_call(rt: HostRuntime) {
+    let (calls, replies) = (every_call(), every_reply());
     let start = timestamp_of(951_782_400, 0);
-    assert!(rt;
-        both_answer(
-            rt.alloc(),
-            start,
-            &every_call(),
-            &every_reply(),
-            1_000_000_000
-        )
-    );
-}
-
-const LAST_REPLIES: [MomentReply; 4] = [
-    MomentReply::CheckedAdd(None),
-    MomentReply::CheckedToOffset(None),
-    MomentReply::ToCalendarDate(999_999, Month::December, 31),
-    MomentReply::AsHmsNano(23, 59, 59, 999_999_999),
-];
-
-// A refused call is answered, and the run goes on from where it was.
-#[test]
-fn goes_on_at_the_end(rt: HostRuntime) {
-    let calls = [
-        MomentCall::CheckedAdd(SignedDuration::NANOSECOND),
-        MomentCall::CheckedToOffset(offset_of(0, 0, 1)),
-        MomentCall::ToCalendarDate,
-        MomentCall::AsHmsNano,
-    ];
-    let last = 31_494_784_780_799_999_999_999;
-    assert!(rt; both_answer(rt.alloc(), Timestamp::MAX, &calls, &LAST_REPLIES, last));
-}
-
-const FIRST_REPLIES: [MomentReply; 4] = [
-    MomentReply::CheckedSub(None),
-    MomentReply::CheckedToOffset(None),
-    MomentReply::ToOrdinalDate(-999_999, 1),
-    MomentReply::Weekday(Weekday::Monday),
-];
-
-#[test]
-fn goes_on_at_the_beginning(rt: HostRuntime) {
-    let calls = [
-        MomentCall::CheckedSub(SignedDuration::NANOSECOND),
-        MomentCall::CheckedToOffset(offset_of(0, 0, -1)),
-        MomentCall::ToOrdinalDate,
-        MomentCall::Weekday,
-    ];
-    let first = -31_619_087_596_800_000_000_000;
-    assert!(rt; both_answer(rt.alloc(), Timestamp::MIN, &calls, &FIRST_REPLIES, first));
-}
-
-fn shown_by_both(start: Timestamp) -> (Parts, Parts) {
-    (start.parts(), start.to_utc().parts())
+    assert!(rt; both_answer(rt.alloc(), start, &calls, &replies, 1_000_000_000));
 }
 
 static SHOWN: [(i64, u32, Parts); 4] = [
@@ -165,38 +152,26 @@ static SHOWN: [(i64, u32, Parts); 4] = [
 #[test]
 fn shows_dates_by_both_calendars(rt: HostRuntime) {
     for row in &SHOWN {
-        let (seconds, nanosecond, wanted) = *row;
-        let shown = Timestamp::new(seconds, nanosecond).ok().map(shown_by_both);
-        assert!(rt; shown == Some((wanted, wanted)));
+        let start = timestamp_of(row.0, row.1);
+        assert!(rt; [parts(start), parts(start.to_utc())] == [row.2; 2]);
     }
-}
-
-// Whether a run of no calls is answered by nothing, and stays where it starts.
-fn stays(alloc: Global, start: UtcDateTime) -> bool {
-    match run_calls(alloc, start, &[]) {
-        Ok((moment, replies)) => replies.is_empty() && moment == start,
-        Err(_) => false,
-    }
-}
-
-#[test]
-fn takes_no_memory_for_no_calls(rt: HostRuntime) {
-    assert!(rt; stays(rt.alloc(), Timestamp::UNIX_EPOCH.to_utc()));
 }
 
 // What the moment in the reply to a lone call shows.
-fn shown_in(alloc: Global, calls: &[MomentCall]) -> Option<(Parts, Option<UtcOffset>)> {
-    let (_, replies) = run_calls(alloc, Timestamp::UNIX_EPOCH, calls).ok()?;
-    match replies.as_slice() {
-        [MomentReply::CheckedToOffset(Some(shown))] => Some(shown.shown()),
-        _ => None,
+fn shown_in(alloc: Global, calls: &[MomentCall]) -> Option<(Parts, UtcOffset)> {
+    match run_calls(alloc, Timestamp::UNIX_EPOCH, calls) {
+        Ok((_, replies)) => match replies.as_slice() {
+            [MomentReply::CheckedToOffset(Some(moment))] => Some(shown(*moment)),
+            _ => None,
+        },
+        Err(_) => None,
     }
 }
 
 #[test]
 fn shows_at_the_offset(rt: HostRuntime) {
     let west = offset_of(-13, 0, 0);
-    let shown = shown_in(rt.alloc(), &[MomentCall::CheckedToOffset(west)]);
+    let given = shown_in(rt.alloc(), &[MomentCall::CheckedToOffset(west)]);
     let eve = ((1969, Month::December, 31), (11, 0, 0, 0));
-    assert!(rt; shown == Some((eve, Some(west))));
+    assert!(rt; given == Some((eve, west)));
 }

@@ -20,14 +20,14 @@ fn known_days_and_places(rt: HostRuntime) {
         day_of_count(365_972_678),
         day_of_count(730_484_633),
     ];
-    let weeks = [
+    let places = (
         sunday_week_of_count(365_981_444),
         monday_week_of_count(365_981_444),
-    ];
-    let weekday = weekday_of_count(365_961_662);
-    assert!(rt; days == KNOWN_DAYS && weeks == [8, 9] && weekday == 3);
-    assert!(rt; place_of_count(365_972_984) == (2000, 366));
-    assert!(rt; iso_week_of_count(365_980_291) == (2020, 53));
+        weekday_of_count(365_961_662),
+        place_of_count(365_972_984),
+        iso_week_of_count(365_980_291),
+    );
+    assert!(rt; days == KNOWN_DAYS && places == (8, 9, 3, (2000, 366), (2020, 53)));
 }
 
 // A year, a month and a day; an hour, a minute and a second.
@@ -55,7 +55,6 @@ static SECONDS: [(i64, Shown); 7] = [
 #[test]
 fn known_seconds(rt: HostRuntime) {
     for row in &SECONDS {
-        let (seconds, expected) = *row;
-        assert!(rt; shown(seconds) == Some(expected));
+        assert!(rt; shown(row.0) == Some(row.1));
     }
 }

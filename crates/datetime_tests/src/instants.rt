@@ -1,30 +1,48 @@
 //! Instants counted from 1970, beside each other and of different types.
-use crate::kinds::DateTime;
-use crate::rows::{EVENING, LEAP_DAY, east, evening, leap_day, refused, timestamp_of};
-use calendar::{ComponentRange, Month, SignedDuration, UtcOffset};
-use datetime::{OffsetDateTime, PlainDateTime, Timestamp, UtcDateTime, WallClock, laws};
+use crate::kinds::shown;
+use crate::rows::{
+    EVENING, LEAP_DAY, Parts, Refused, east, evening, leap_day, refused, timestamp_of,
+};
+use calendar::{ComponentRange, Date, Month, SignedDuration, Time, UtcOffset};
+use datetime::{OffsetDateTime, PlainDateTime, Timestamp, UtcDateTime, WallClock};
 use std::cmp::Ordering;
 
 // One instant in three types.
 type Instants = (Timestamp, UtcDateTime, OffsetDateTime);
 
 fn leap_evening() -> Instants {
-    let utc = UtcDateTime::new(leap_day(), evening());
-    let shown = utc
-        .checked_to_offset(east())
-        .unwrap_or(laws::epoch_at_offset_zero());
-    (timestamp_of(1_709_251_198, 123_456_789), utc, shown)
+    (
+        timestamp_of(1_709_251_198, 123_456_789),
+        UtcDateTime::new(leap_day(), evening()),
+        next_morning(),
+    )
+}
+
+fn second_later() -> Instants {
+    let later = timestamp_of(1_709_251_199, 123_456_789);
+    (later, later.to_utc(), OffsetDateTime::from(later))
+}
+
+// At half past five on the next day, where the offset is 5:30.
+fn next_morning() -> OffsetDateTime {
+    let time = Time::from_hms_nano(5, 29, 58, 123_456_789).unwrap_or(Time::MIDNIGHT);
+    let date = Date::from_calendar_date(2024, Month::March, 1).unwrap_or(Date::MAX);
+    OffsetDateTime::new_in_offset(date, time, east())
 }
 
 #[test]
 fn converts_instants(rt: HostRuntime) {
-    let (timestamp, utc, shown) = leap_evening();
+    let (timestamp, utc, _) = leap_evening();
+    let shown = [
+        shown(OffsetDateTime::from(utc)),
+        shown(OffsetDateTime::from(timestamp)),
+        shown(OffsetDateTime::new_utc(leap_day(), evening())),
+    ];
+    assert!(rt; shown == [((LEAP_DAY, EVENING), UtcOffset::UTC); 3]);
     assert!(rt; (Timestamp::from(utc), UtcDateTime::from(timestamp)) == (timestamp, utc));
-    let at_zero = [OffsetDateTime::from(utc), OffsetDateTime::from(timestamp)];
-    assert!(rt; at_zero == [shown; 2]);
-    let wanted = ((LEAP_DAY, EVENING), Some(UtcOffset::UTC));
-    assert!(rt; at_zero.map(DateTime::shown) == [wanted; 2]);
 }
+
+type Answers = ([bool; 6], [Ordering; 6]);
 
 // The first by each other type: equality both ways, and the order both ways.
 fn answers(
@@ -51,8 +69,6 @@ fn answers(
     )
 }
 
-type Answers = ([bool; 6], [Ordering; 6]);
-
 fn differences(
     (timestamp, utc, shown): Instants,
     (later, later_utc, later_shown): Instants,
@@ -67,159 +83,170 @@ fn differences(
     ]
 }
 
-fn same_later(later: Timestamp) -> Instants {
-    (later, later.to_utc(), OffsetDateTime::from(later))
-}
-
 #[test]
 fn compares_and_subtracts(rt: HostRuntime) {
-    let same = answers(leap_evening(), leap_evening());
-    let later = same_later(timestamp_of(1_709_251_198, 123_456_790));
-    let less = answers(leap_evening(), later);
-    assert!(rt; same == ([true; 6], [Ordering::Equal; 6]));
-    assert!(rt; less == ([false; 6], [Ordering::Less; 6]));
-    let second_later = same_later(timestamp_of(1_709_251_199, 123_456_789));
-    assert!(rt; differences(leap_evening(), second_later) == [SignedDuration::SECOND; 6]);
+    let given = [
+        answers(leap_evening(), leap_evening()),
+        answers(leap_evening(), second_later()),
+    ];
+    let wanted = [
+        ([true; 6], [Ordering::Equal; 6]),
+        ([false; 6], [Ordering::Less; 6]),
+    ];
+    assert!(rt; given == wanted);
+    let apart = differences(leap_evening(), second_later());
+    assert!(rt; apart == [SignedDuration::seconds(1); 6]);
 }
 
-fn counted((timestamp, utc, _): Instants) -> (i64, i64, i128, i128, i64, i128) {
+// The nanoseconds since 1970, and none for a refusal.
+fn of_timestamp(answer: Result<Timestamp, ComponentRange>) -> Option<i128> {
+    Some(answer.ok()?.as_nanoseconds())
+}
+
+fn of_utc(answer: Result<UtcDateTime, ComponentRange>) -> Option<i128> {
+    Some(answer.ok()?.unix_timestamp_nanos())
+}
+
+fn of_moment(answer: Result<OffsetDateTime, ComponentRange>) -> Option<i128> {
+    Some(answer.ok()?.unix_timestamp_nanos())
+}
+
+// The leap day's evening, also cut to whole units, and moments before 1970.
+fn made() -> [Option<i128>; 12] {
+    [
+        of_timestamp(Timestamp::new(1_709_251_198, 123_456_789)),
+        of_timestamp(Timestamp::from_seconds(1_709_251_198)),
+        of_timestamp(Timestamp::from_milliseconds(1_709_251_198_123)),
+        of_timestamp(Timestamp::from_microseconds(1_709_251_198_123_456)),
+        of_timestamp(Timestamp::from_nanoseconds(1_709_251_198_123_456_789)),
+        of_timestamp(Timestamp::from_milliseconds(-1)),
+        of_utc(UtcDateTime::from_unix_timestamp(1_709_251_198)),
+        of_utc(UtcDateTime::from_unix_timestamp_nanos(1_709_251_198_123_456_789)),
+        of_utc(UtcDateTime::from_unix_timestamp_nanos(-1)),
+        of_moment(OffsetDateTime::from_unix_timestamp(1_709_251_198)),
+        of_moment(OffsetDateTime::from_unix_timestamp_nanos(1_709_251_198_123_456_789)),
+        of_moment(OffsetDateTime::from_unix_timestamp_nanos(-1)),
+    ]
+}
+
+static MADE: [Option<i128>; 12] = [
+    Some(1_709_251_198_123_456_789),
+    Some(1_709_251_198_000_000_000),
+    Some(1_709_251_198_123_000_000),
+    Some(1_709_251_198_123_456_000),
+    Some(1_709_251_198_123_456_789),
+    Some(-1_000_000),
+    Some(1_709_251_198_000_000_000),
+    Some(1_709_251_198_123_456_789),
+    Some(-1),
+    Some(1_709_251_198_000_000_000),
+    Some(1_709_251_198_123_456_789),
+    Some(-1),
+];
+
+// In seconds by three types, in milliseconds and in microseconds.
+fn counted((timestamp, utc, shown): Instants) -> ([i64; 4], i128) {
     (
-        timestamp.as_seconds(),
-        timestamp.as_milliseconds(),
+        [
+            timestamp.as_seconds(),
+            utc.unix_timestamp(),
+            shown.unix_timestamp(),
+            timestamp.as_milliseconds(),
+        ],
         timestamp.as_microseconds(),
-        timestamp.as_nanoseconds(),
-        utc.unix_timestamp(),
-        utc.unix_timestamp_nanos(),
     )
 }
 
-static COUNTED: (i64, i64, i128, i128, i64, i128) = (
-    1_709_251_198,
-    1_709_251_198_123,
-    1_709_251_198_123_456,
-    1_709_251_198_123_456_789,
-    1_709_251_198,
-    1_709_251_198_123_456_789,
-);
-
-fn begins_in_1970() -> bool {
-    let [_, utc, _] = laws::constants_of_utc();
-    let [_, timestamp, _] = laws::constants_of_timestamps();
-    let shown = laws::epoch_at_offset_zero();
-    (utc.unix_timestamp_nanos(), timestamp.as_nanoseconds()) == (0, 0)
-        && (shown.unix_timestamp_nanos(), shown.offset()) == (0, UtcOffset::UTC)
-}
+static COUNTED: [([i64; 4], i128); 2] = [
+    (
+        [
+            1_709_251_198,
+            1_709_251_198,
+            1_709_251_198,
+            1_709_251_198_123,
+        ],
+        1_709_251_198_123_456,
+    ),
+    ([-1; 4], -1),
+];
 
 #[test]
 fn counts_units_from_1970(rt: HostRuntime) {
-    assert!(rt; counted(leap_evening()) == COUNTED && begins_in_1970());
+    assert!(rt; made() == MADE);
+    let before = timestamp_of(-1, 999_999_999);
+    let before = (before, before.to_utc(), OffsetDateTime::from(before));
+    assert!(rt; [counted(leap_evening()), counted(before)] == COUNTED);
 }
 
-// The leap day's evening, cut to whole units.
-fn made_of_units() -> [Result<Timestamp, ComponentRange>; 4] {
+fn out_of_range() -> [Refused; 12] {
+    let new_year = PlainDateTime::new(Date::MAX, evening());
     [
-        Timestamp::from_seconds(1_709_251_198),
-        Timestamp::from_milliseconds(1_709_251_198_123),
-        Timestamp::from_microseconds(1_709_251_198_123_456),
-        Timestamp::from_nanoseconds(1_709_251_198_123_456_789),
-    ]
-}
-
-static NANOSECONDS: [u32; 4] = [0, 123_000_000, 123_456_000, 123_456_789];
-
-fn rounds_down_before_1970() -> [bool; 3] {
-    let value = Timestamp::from_milliseconds(-1).unwrap_or(Timestamp::MIN);
-    let nanosecond = Timestamp::from_nanoseconds(-1).unwrap_or(Timestamp::MIN);
-    [
-        value.parts() == ((1969, Month::December, 31), (23, 59, 59, 999_000_000)),
-        (value.as_seconds(), value.as_milliseconds()) == (-1, -1),
-        (nanosecond.as_milliseconds(), nanosecond.as_microseconds()) == (-1, -1),
-    ]
-}
-
-#[test]
-fn is_made_of_units(rt: HostRuntime) {
-    let made = made_of_units();
-    for i in 0..4 {
-        assert!(rt; made[i] == Timestamp::new(1_709_251_198, NANOSECONDS[i]));
-    }
-    assert!(rt; rounds_down_before_1970() == [true; 3]);
-}
-
-fn out_of_range() -> [(&'static str, bool); 9] {
-    [
-        refused(Timestamp::new(31_494_784_780_800, 0)),
-        refused(Timestamp::new(-31_619_087_596_801, 999_999_999)),
+        refused(Timestamp::new(0, 1_000_000_000)),
+        refused(new_year.replace_month(Month::April)),
         refused(Timestamp::new(31_494_784_780_800, 1_000_000_000)),
+        refused(Timestamp::new(-31_619_087_596_801, 999_999_999)),
         refused(Timestamp::from_seconds(i64::MAX)),
         refused(Timestamp::from_milliseconds(31_494_784_780_800_000)),
         refused(Timestamp::from_microseconds(i128::MAX)),
         refused(Timestamp::from_nanoseconds(i128::MIN)),
         refused(UtcDateTime::from_unix_timestamp(31_494_784_780_800)),
         refused(UtcDateTime::from_unix_timestamp_nanos(-31_619_087_596_800_000_000_001)),
+        refused(OffsetDateTime::from_unix_timestamp(31_494_784_780_800)),
+        refused(OffsetDateTime::from_unix_timestamp_nanos(i128::MAX)),
     ]
 }
 
-// A nanosecond that is too great is refused by its name.
+const TIMESTAMP: Refused = ("timestamp", false);
+
+// A nanosecond that is too great is refused by its name, and so is the day 31 of April.
+static OUT_OF_RANGE: [Refused; 12] = [
+    ("nanosecond", false),
+    ("day", true),
+    TIMESTAMP,
+    TIMESTAMP,
+    TIMESTAMP,
+    TIMESTAMP,
+    TIMESTAMP,
+    TIMESTAMP,
+    TIMESTAMP,
+    TIMESTAMP,
+    TIMESTAMP,
+    TIMESTAMP,
+];
+
 #[test]
 fn refuses_what_is_out_of_range(rt: HostRuntime) {
-    assert!(rt; out_of_range() == [("timestamp", false); 9]);
-    assert!(rt; refused(Timestamp::new(0, 1_000_000_000)) == ("nanosecond", false));
+    assert!(rt; out_of_range() == OUT_OF_RANGE);
 }
 
-#[test]
-fn counts_from_1970_in_utc(rt: HostRuntime) {
-    let value = UtcDateTime::new(leap_day(), evening());
-    let given = [
-        UtcDateTime::from_unix_timestamp(1_709_251_198),
-        UtcDateTime::from_unix_timestamp_nanos(1_709_251_198_123_456_789),
-    ];
-    assert!(rt; given == [value.replace_nanosecond(0), Ok(value)]);
-    let before = UtcDateTime::from_unix_timestamp_nanos(-1).unwrap_or(value);
-    assert!(rt; (before.unix_timestamp(), before.year()) == (-1, 1969));
-}
-
-fn timestamp_at(value: Timestamp, offset: UtcOffset) -> Option<OffsetDateTime> {
-    let _ = value.checked_to_offset(offset)?;
-    Some(value.to_offset(offset))
-}
-
-fn utc_at(value: UtcDateTime, offset: UtcOffset) -> Option<OffsetDateTime> {
-    let _ = value.checked_to_offset(offset)?;
-    Some(value.to_offset(offset))
-}
-
-fn shown_elsewhere(east: UtcOffset) -> [Option<OffsetDateTime>; 4] {
+// By each call of two types.
+fn shown_at(east: UtcOffset) -> Option<[(Parts, UtcOffset); 4]> {
     let (value, utc, _) = leap_evening();
-    [
-        value.checked_to_offset(east),
-        utc.checked_to_offset(east),
-        timestamp_at(value, east),
-        utc_at(utc, east),
-    ]
+    Some([
+        shown(value.checked_to_offset(east)?),
+        shown(value.to_offset(east)),
+        shown(utc.checked_to_offset(east)?),
+        shown(utc.to_offset(east)),
+    ])
 }
 
-// At half past five on the next day, where the offset is 5:30.
 #[test]
-fn is_shown_elsewhere_and_in_utc(rt: HostRuntime) {
-    let (value, _, _) = leap_evening();
-    assert!(rt; value.to_utc().parts() == (LEAP_DAY, EVENING));
-    let next_morning = ((2024, Month::March, 1), (5, 29, 58, 123_456_789));
-    let wanted = Some((next_morning, Some(east())));
-    assert!(rt;
-        shown_elsewhere(east()).map(|shown| shown.map(OffsetDateTime::shown)) == [wanted; 4]
-    );
-    let last = Timestamp::MAX;
-    assert!(rt; last.checked_to_offset(east()) == None);
-    assert!(rt; last.to_utc().checked_to_offset(east()) == None);
+fn is_shown_elsewhere(rt: HostRuntime) {
+    assert!(rt; shown_at(east()) == Some([shown(next_morning()); 4]));
+    let past = [
+        Timestamp::MAX.checked_to_offset(east()),
+        Timestamp::MAX.to_utc().checked_to_offset(east()),
+    ];
+    assert!(rt; past == [None; 2]);
 }
 
 #[test]
 fn assumes_an_offset(rt: HostRuntime) {
     let value = PlainDateTime::new(leap_day(), evening());
-    let utc = value.assume_utc();
-    let seconds = [utc.unix_timestamp(), value.as_utc().unix_timestamp()];
-    assert!(rt; seconds == [1_709_251_198; 2]);
-    assert!(rt; (utc.date(), utc.offset()) == (leap_day(), UtcOffset::UTC));
-    assert!(rt; value.assume_offset(east()).shown() == ((LEAP_DAY, EVENING), Some(east())));
+    let moments = [
+        shown(value.assume_utc()),
+        shown(OffsetDateTime::from(value.as_utc())),
+    ];
+    assert!(rt; moments == [((LEAP_DAY, EVENING), UtcOffset::UTC); 2]);
+    assert!(rt; shown(value.assume_offset(east())) == ((LEAP_DAY, EVENING), east()));
 }

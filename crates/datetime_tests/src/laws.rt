@@ -1,4 +1,5 @@
 //! The laws at values that are known from outside.
+use crate::each_type::{Evenings, evenings};
 use crate::rows::{east, evening, leap_day, timestamp_of};
 use calendar::{Date, SignedDuration, Time, UtcOffset, Weekday};
 use datetime::{
@@ -30,15 +31,6 @@ fn holds(rt: HostRuntime) {
     assert!(rt; pins_the_constants() == [true; 4]);
 }
 
-type Moments = (PlainDateTime, UtcDateTime, Timestamp, OffsetDateTime);
-
-// The leap day's evening, of each type.
-fn moments() -> Moments {
-    let wall = PlainDateTime::new(leap_day(), evening());
-    let utc = wall.as_utc();
-    (wall, utc, utc.into(), wall.assume_offset(east()))
-}
-
 type Moved = (
     Option<PlainDateTime>,
     Option<UtcDateTime>,
@@ -46,7 +38,7 @@ type Moved = (
     Option<OffsetDateTime>,
 );
 
-fn day_and_back((wall, utc, timestamp, moment): Moments) -> Moved {
+fn day_and_back((wall, utc, timestamp, moment): Evenings) -> Moved {
     (
         laws::wall_clock_moved_and_back(wall, SignedDuration::DAY),
         laws::utc_moved_and_back(utc, SignedDuration::DAY),
@@ -57,35 +49,32 @@ fn day_and_back((wall, utc, timestamp, moment): Moments) -> Moved {
 
 #[test]
 fn leads_back(rt: HostRuntime) {
-    let (wall, utc, timestamp, moment) = moments();
-    assert!(rt; laws::utc_and_back(utc) == utc);
-    assert!(rt; laws::timestamp_and_back(timestamp) == timestamp);
-    assert!(rt; laws::milliseconds_and_back(-1) == Some(-1));
-    assert!(rt; laws::milliseconds_and_back(i64::MAX) == None);
+    let (wall, utc, timestamp, moment) = evenings(leap_day());
+    let back = (laws::utc_and_back(utc), laws::timestamp_and_back(timestamp));
+    assert!(rt; back == (utc, timestamp));
+    let milliseconds = [
+        laws::milliseconds_and_back(-1),
+        laws::milliseconds_and_back(i64::MAX),
+    ];
+    assert!(rt; milliseconds == [Some(-1), None]);
     let wanted = (Some(wall), Some(utc), Some(timestamp), Some(moment));
-    assert!(rt; day_and_back(moments()) == wanted);
+    assert!(rt; day_and_back(evenings(leap_day())) == wanted);
 }
 
-// From the one to the other, by their difference.
-fn led(
-    one: PlainDateTime,
-    other: PlainDateTime,
-) -> (
+type Led = (
     Option<PlainDateTime>,
     Option<UtcDateTime>,
     Option<Timestamp>,
-) {
+);
+
+// From the one to the other, by their difference.
+fn led(one: PlainDateTime, other: PlainDateTime) -> Led {
     let (utc, other_utc) = (one.as_utc(), other.as_utc());
     (
         laws::wall_clock_at_difference(one, other),
         laws::utc_at_difference(utc, other_utc),
         laws::timestamp_at_difference(utc.into(), other_utc.into()),
     )
-}
-
-fn is_led(one: PlainDateTime, other: PlainDateTime) -> bool {
-    let utc = other.as_utc();
-    led(one, other) == (Some(other), Some(utc), Some(utc.into()))
 }
 
 fn leads_moments() -> [bool; 2] {
@@ -107,17 +96,22 @@ fn leads_moments() -> [bool; 2] {
 #[test]
 fn leads_by_differences(rt: HostRuntime) {
     let [first, last] = laws::ends_of_wall_clocks();
-    let wall = PlainDateTime::new(leap_day(), evening());
-    let are_led = [is_led(first, last), is_led(last, wall), is_led(last, first)];
-    assert!(rt; are_led == [true; 3] && leads_moments() == [true; 2]);
+    let to_first = (Some(first), Some(first.as_utc()), Some(Timestamp::MIN));
+    let to_last = (Some(last), Some(last.as_utc()), Some(Timestamp::MAX));
+    assert!(rt; [led(last, first), led(first, last)] == [to_first, to_last]);
+    assert!(rt; leads_moments() == [true; 2]);
 }
 
 #[test]
 fn orders_moments(rt: HostRuntime) {
     let wall = PlainDateTime::new(leap_day(), evening());
     let (moment, utc) = (wall.assume_offset(east()), wall.assume_utc());
-    assert!(rt; laws::equal_as_instants(moment, moment) && !laws::equal_as_instants(moment, utc));
-    assert!(rt; laws::order_of_instants(moment, utc) == Ordering::Less);
+    let answers = (
+        laws::equal_as_instants(moment, moment),
+        laws::equal_as_instants(moment, utc),
+        laws::order_of_instants(moment, utc),
+    );
+    assert!(rt; answers == (true, false, Ordering::Less));
 }
 
 const CALLS: [MomentCall; 2] = [MomentCall::Weekday, MomentCall::InstantNanos];
@@ -128,17 +122,17 @@ const REPLIES: [MomentReply; 2] = [
 ];
 
 // Whether both answer so. That memory runs out fails the test.
-fn both_reply(alloc: Global, start: Timestamp) -> [bool; 2] {
+fn both_reply(alloc: Global, start: Timestamp) -> bool {
     match laws::replies_alike(alloc, start, &CALLS) {
-        Ok((one, other)) => [
-            one.as_slice() == REPLIES.as_slice(),
-            other.as_slice() == REPLIES.as_slice(),
-        ],
-        Err(_) => [false, false],
+        Ok(both) => {
+            let wanted = REPLIES.as_slice();
+            (both.0.as_slice(), both.1.as_slice()) == (wanted, wanted)
+        }
+        Err(_) => false,
     }
 }
 
 #[test]
 fn answers_alike(rt: HostRuntime) {
-    assert!(rt; both_reply(rt.alloc(), timestamp_of(1_709_251_198, 0)) == [true; 2]);
+    assert!(rt; both_reply(rt.alloc(), timestamp_of(1_709_251_198, 0)));
 }

@@ -22,6 +22,8 @@ mod memory;
 #[cfg(test)]
 mod moments;
 #[cfg(test)]
+mod moved;
+#[cfg(test)]
 mod page;
 #[cfg(test)]
 mod rows;

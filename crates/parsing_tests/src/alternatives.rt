@@ -14,20 +14,20 @@ const HOUR: Component = Component::Hour24(Hour24 {
 
 const DASH: BorrowedFormatItem<'static> = BorrowedFormatItem::StringLiteral("-");
 
-#[test]
-fn reader(rt: HostRuntime) {
-    let mut parsed = Parsed::new();
-    let (rest, tried) = DAY.parse_into_counted(b"05-", &mut parsed);
-    assert!(rt; rest == Ok(b"-".as_slice()) && tried == 1);
-    assert!(rt; parsed.day() == Some(5));
+// Whether each call reads its bytes, and all but the first set the record.
+fn are_read(parsed: &mut Parsed) -> [bool; 5] {
+    [
+        Parsed::parse_literal(b"ab", b"a").is_ok(),
+        parsed.parse_component(b"23x", HOUR).is_ok(),
+        parsed.parse_item(b"07", &DAY).is_ok(),
+        DAY.parse_into_counted(b"05-", parsed) == (Ok(b"-".as_slice()), 1),
+        parsed.parse_items(b"-31", &[DASH, DAY]) == Ok(b"".as_slice()),
+    ]
 }
 
 #[test]
 fn record(rt: HostRuntime) {
     let mut parsed = Parsed::new();
-    assert!(rt; Parsed::parse_literal(b"ab", b"a").is_ok());
-    assert!(rt; parsed.parse_component(b"23x", HOUR).is_ok());
-    assert!(rt; parsed.parse_item(b"05", &DAY).is_ok());
-    assert!(rt; parsed.parse_items(b"-31", &[DASH, DAY]) == Ok(b"".as_slice()));
+    assert!(rt; are_read(&mut parsed) == [true; 5]);
     assert!(rt; (parsed.hour_24(), parsed.day()) == (Some(23), Some(31)));
 }

@@ -30,22 +30,31 @@ const UNIX: Component = Component::UnixTimestampMillisecond(UnixTimestampMillise
     sign_is_mandatory: false,
 });
 
-// Whether the component says this of the text, and leaves the rest, or says nothing of it.
-fn is_said(component: Component, text: &[u8], said: Option<(Read, &[u8])>) -> bool {
-    read(component, text) == said
+// What components say of texts, and leave.
+fn said() -> [Option<(Read, &'static [u8])>; 7] {
+    [
+        read(DAY, b" 7T"),
+        read(DAY, b"32"),
+        read(MONTH, b"sEpt"),
+        read(HOUR, b"9:30"),
+        read(HOUR, b"24:00"),
+        read(OFFSET, b"-0030"),
+        read(UNIX, b"-1500 "),
+    ]
 }
 
 #[test]
 fn says(rt: HostRuntime) {
-    let september = Read::Month(Month::September);
-    let minus = Read::OffsetHour(0, true);
-    assert!(rt; is_said(DAY, b" 7T", Some((Read::Day(7), b"T"))));
-    assert!(rt; is_said(DAY, b"32", None));
-    assert!(rt; is_said(MONTH, b"sEpt", Some((september, b"t"))));
-    assert!(rt; is_said(HOUR, b"9:30", Some((Read::Hour24(9), b":30"))));
-    assert!(rt; is_said(HOUR, b"24:00", None));
-    assert!(rt; is_said(OFFSET, b"-0030", Some((minus, b"30"))));
-    assert!(rt; is_said(UNIX, b"-1500 ", Some((Read::Unix(-1_500_000_000), b" "))));
+    let wanted: [Option<(Read, &[u8])>; 7] = [
+        Some((Read::Day(7), b"T")),
+        None,
+        Some((Read::Month(Month::September), b"t")),
+        Some((Read::Hour24(9), b":30")),
+        None,
+        Some((Read::OffsetHour(0, true), b"30")),
+        Some((Read::Unix(-1_500_000_000), b" ")),
+    ];
+    assert!(rt; said() == wanted);
 }
 
 // No component was read.
@@ -89,8 +98,7 @@ fn sets(rt: HostRuntime) {
     record.put(Read::OffsetHour(-5, true));
     record.put(Read::OffsetMinute(30));
     record.put(Read::Day(31));
-    assert!(rt;
-        (record.offset_hour, record.offset_minute, record.day) == (Some(-5), Some(30), Some(31))
-    );
+    let numbers = (record.offset_hour, record.offset_minute, record.day);
+    assert!(rt; numbers == (Some(-5), Some(30), Some(31)));
     assert!(rt; record.offset_is_negative && record.minute.is_none());
 }

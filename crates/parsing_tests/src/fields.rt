@@ -34,18 +34,13 @@ fn moments() -> [Option<(i64, u32)>; 3] {
 }
 
 #[test]
-fn moments_and_minutes(rt: HostRuntime) {
+fn moments_minutes_and_years(rt: HostRuntime) {
     assert!(rt; moments() == [HALF, HALF, None]);
-    assert!(rt; minute_of_day(23, 59) == Some(1439));
-    assert!(rt; digit_pair(42) == (b'4', b'2'));
-}
-
-#[test]
-fn years(rt: HostRuntime) {
+    assert!(rt; (minute_of_day(23, 59), digit_pair(42)) == (Some(1439), (b'4', b'2')));
     let year = Year::new(2023);
     assert!(rt; (year.digits(), year.number()) == (*b"2023", 2023));
-    assert!(rt; year.is_before(Year::new(2024)));
-    assert!(rt; parsing_rfc3339::begins_with_year(b"2021-01"));
+    let is_before = year.is_before(Year::new(2024));
+    assert!(rt; is_before && parsing_rfc3339::begins_with_year(b"2021-01"));
 }
 
 // The nine digits, the nanosecond, and how many bytes are left.
@@ -61,37 +56,37 @@ fn read_fraction(text: &[u8]) -> Option<([u8; 9], u32, usize)> {
 fn digits(rt: HostRuntime) {
     // `12345678` and `9` in ASCII, the first digit lowest.
     let nine = Fraction::of_nine(0x3837_3635_3433_3231, 0x39);
-    assert!(rt; nine.nanosecond() == 123_456_789);
-    assert!(rt; nine.padded_digits() == *b"123456789\0\0\0\0\0\0\0");
+    let digits = (nine.nanosecond(), nine.padded_digits());
+    assert!(rt; digits == (123_456_789, *b"123456789\0\0\0\0\0\0\0"));
     assert!(rt; read_fraction(b"5Z") == Some((*b"500000000", 500_000_000, 1)));
-    assert!(rt; digit_chunk(b"123Z") == Some((u64::from_le_bytes(*b"12300000"), 3)));
+    let above = above_zeros(u64::from_le_bytes(*b"12345678"));
+    let chunks = (digit_chunk(b"123Z"), above);
+    let chunk = u64::from_le_bytes(*b"12300000");
     assert!(rt;
-        above_zeros(u64::from_le_bytes(*b"12345678"))
-            == Some(u64::from_le_bytes([1, 2, 3, 4, 5, 6, 7, 8]))
+        chunks
+            == (
+                Some((chunk, 3)),
+                Some(u64::from_le_bytes([1, 2, 3, 4, 5, 6, 7, 8]))
+            )
     );
-    assert!(rt; number(b"123456789") == 123_456_789);
-    assert!(rt; long_number(b"1234567890123456789") == 1_234_567_890_123_456_789);
+    let long = long_number(b"1234567890123456789");
+    assert!(rt; (number(b"123456789"), long) == (123_456_789, 1_234_567_890_123_456_789));
 }
 
-fn formats() -> [Option<(i64, u32)>; 4] {
+// Formats, and then the shapes that nearly all texts of a format have, and its others.
+fn formats() -> [Option<(i64, u32)>; 11] {
     [
         instant(parsing_rfc3339::read_fields(b"2021-01-02T03:04:05.5+01:00")),
-        instant(parsing_rfc2822_shapes::read_fields(b"Sat, 02 Jan 2021 03:04:05 +0100")),
         instant(parsing_iso8601_shapes::read_fields(b"2021-01-02T03:04:05.5+01:00")),
         instant(parsing_iso8601_shapes::read_fields(b"20210102T030405.5+0100")),
-    ]
-}
-
-// The same by the shape that nearly all texts of a format have, and by its others.
-fn shapes() -> [Option<(i64, u32)>; 7] {
-    [
         instant(parsing_rfc3339::read_usual_fields(b"2021-01-02T03:04:05.5+01:00")),
         instant(parsing_rfc3339::read_rare_fields(b"2021-01-02T02:04:05.5z")),
+        instant(parsing_iso8601_shapes::read_usual_fields(b"20210102T030405.5+0100")),
+        instant(parsing_iso8601_shapes::read_rare_fields(b"2021002T030405.49999999950+0100")),
+        instant(parsing_iso8601_shapes::read_fields_to_minute(b"2021-01-02T03:04+01:00")),
+        instant(parsing_rfc2822_shapes::read_fields(b"Sat, 02 Jan 2021 03:04:05 +0100")),
         instant(parsing_rfc2822_shapes::read_usual_fields(b"Sat, 02 Jan 2021 03:04:05 +0100")),
         instant(parsing_rfc2822_shapes::read_other_fields(b"Sat, 02 Jan 2021 02:04:05 GMT")),
-        instant(parsing_iso8601_shapes::read_usual_fields(b"20210102T030405.5+0100")),
-        instant(parsing_iso8601_shapes::read_fields_to_minute(b"2021-01-02T03:04+01:00")),
-        instant(parsing_iso8601_shapes::read_rare_fields(b"2021002T030405.49999999950+0100")),
     ]
 }
 
@@ -100,8 +95,10 @@ const MINUTE: Option<(i64, u32)> = Some((1_609_553_040, 0));
 
 #[test]
 fn fields_of_formats(rt: HostRuntime) {
-    assert!(rt; formats() == [HALF, WHOLE, HALF, HALF]);
-    assert!(rt; shapes() == [HALF, HALF, WHOLE, WHOLE, HALF, MINUTE, HALF]);
+    let wanted = [
+        HALF, HALF, HALF, HALF, HALF, HALF, HALF, MINUTE, WHOLE, WHOLE, WHOLE,
+    ];
+    assert!(rt; formats() == wanted);
 }
 
 // The first sixteen bytes of `20210102T030405` and one byte more.
@@ -174,17 +171,24 @@ fn planned_by_letters(alloc: Global, text: &str, line: &[u8]) -> [Option<(i64, u
     }
 }
 
+static LETTERS: [(&str, &[u8]); 3] = [
+    ("%d/%b/%Y:%H:%M:%S %z", b"02/Jan/2021:03:04:05 +0100"),
+    ("%Y-%m-%d %H:%M:%S %z", b"2021-01-02 03:04:05 +0100"),
+    ("%s", b"1609553045"),
+];
+
 #[test]
 fn plans(rt: HostRuntime) {
-    let log = b"02/Jan/2021:03:04:05 +0100";
-    assert!(rt; planned_by_letters(rt.alloc(), "%d/%b/%Y:%H:%M:%S %z", log) == [WHOLE; 2]);
-    let numbers = b"2021-01-02 03:04:05 +0100";
-    assert!(rt; planned_by_letters(rt.alloc(), "%Y-%m-%d %H:%M:%S %z", numbers) == [WHOLE; 2]);
-    assert!(rt; planned_by_letters(rt.alloc(), "%s", b"1609553045") == [WHOLE; 2]);
-    let behind = UtcOffset::from_hms(-1, -30, 0).expect(&rt, "an offset");
-    assert!(rt; assumed_minutes(behind) == -90);
-    assert!(rt; minutes_of(Some(behind)) == Some(-90));
-    assert!(rt; minutes_of(None) == None);
+    for row in &LETTERS {
+        assert!(rt; planned_by_letters(rt.alloc(), row.0, row.1) == [WHOLE; 2]);
+    }
+}
+
+#[test]
+fn assumed_offsets(rt: HostRuntime) {
+    let behind = UtcOffset::from_hms(-1, -30, 0).unwrap_or(UtcOffset::UTC);
+    let minutes = [minutes_of(Some(behind)), minutes_of(None)];
+    assert!(rt; minutes == [Some(-90), None] && assumed_minutes(behind) == -90);
 }
 
 // The minutes that count for lines without an offset.
@@ -253,76 +257,49 @@ fn planned(alloc: Global, text: &str, line: &[u8]) -> Option<(i64, u32)> {
     }
 }
 
-// A line, and the moment that is read.
-type Line = (&'static str, Option<(i64, u32)>);
+// A description, a line, and the moment that is read.
+static PLANNED: [(&str, &str, Option<(i64, u32)>); 30] = [
+    (STAMP, "2021-01-02T03:04:05+01:00", WHOLE),
+    (STAMP, "2021-01-02T02:04:05.5+00:00", HALF),
+    (STAMP, "2021-01-02 02:04:05+00:00", None),
+    (STAMP, "202:-01-02T02:04:05+00:00", None),
+    (STAMP, "2021-00-02T02:04:05+00:00", None),
+    (STAMP, "2021-13-02T02:04:05+00:00", None),
+    (STAMP, "2021-01-00T02:04:05+00:00", None),
+    (STAMP, "2021-01-32T02:04:05+00:00", None),
+    (STAMP, "2021-01-02T24:04:05+00:00", None),
+    (STAMP, "2021-01-02T02:60:05+00:00", None),
+    (STAMP, "2021-01-02T02:04:60+00:00", None),
+    (STAMP, "2021-01-02T02:04-05+00:00", None),
+    (STAMP, "2021/01-02T02:04:05+00:00", None),
+    (SPACED_STAMP, "Saturday, 2021-01-02 02:04:05", WHOLE),
+    (SPACED_STAMP, "Saturday, 2021-01-02 02:04:05,5", HALF),
+    (OPTIONAL, "2.1.2021 02:04:05", WHOLE),
+    (OPTIONAL, "2.1.2021 02:04:05.5", HALF),
+    (OPTIONAL, "2.1.2021 00:00:00", Some((1_609_545_600, 0))),
+    (OPTIONAL, "2.1.2021 23:59:59", Some((1_609_631_999, 0))),
+    (OPTIONAL, "2.1.2021 24:00:00", None),
+    (OPTIONAL, "2.1.2021 02:60:00", None),
+    (OPTIONAL, "2.1.2021 02:00:60", None),
+    (OPTIONAL, "2.1.2021 02.00:00", None),
+    (OPTIONAL, "2.1.2021 02:00.00", None),
+    (OPTIONAL, "2.1.2021 0/:00:00", None),
+    (OPTIONAL, "2.1.2021 02:0::00", None),
+    (OPTIONAL, "2.1.2o21 02:00:00", None),
+    (PLACED, "2021-01-02 02:04:05 UTC", WHOLE),
+    (SPLIT, "2021-01-02 02:04:05.50 UTC", HALF),
+    (UNIX, "1609553045.5", HALF),
+];
 
-fn are_planned(alloc: Global, text: &str, lines: &[Line]) -> bool {
-    for (line, wanted) in lines {
-        if planned(alloc, text, line.as_bytes()) != *wanted {
-            return false;
-        }
+#[test]
+fn plans_of_descriptions(rt: HostRuntime) {
+    for row in &PLANNED {
+        assert!(rt; planned(rt.alloc(), row.0, row.1.as_bytes()) == row.2);
     }
-    true
-}
-
-#[test]
-fn steps(rt: HostRuntime) {
-    let night = by_parts(
-        rt.alloc(),
-        b"02 January 2021 02:04:05 AM",
-        b"02 January 2021 02:04:05 AM and more",
-    );
-    assert!(rt; night == [WHOLE, WHOLE]);
-    assert!(rt; planned(rt.alloc(), PLACED, b"2021-01-02 02:04:05 UTC") == WHOLE);
-    assert!(rt; planned(rt.alloc(), SPLIT, b"2021-01-02 02:04:05.50 UTC") == HALF);
-    assert!(rt; planned(rt.alloc(), UNIX, b"1609553045.5") == HALF);
-}
-
-static STAMPS: [Line; 13] = [
-    ("2021-01-02T03:04:05+01:00", WHOLE),
-    ("2021-01-02T02:04:05.5+00:00", HALF),
-    ("2021-01-02 02:04:05+00:00", None),
-    ("202:-01-02T02:04:05+00:00", None),
-    ("2021-00-02T02:04:05+00:00", None),
-    ("2021-13-02T02:04:05+00:00", None),
-    ("2021-01-00T02:04:05+00:00", None),
-    ("2021-01-32T02:04:05+00:00", None),
-    ("2021-01-02T24:04:05+00:00", None),
-    ("2021-01-02T02:60:05+00:00", None),
-    ("2021-01-02T02:04:60+00:00", None),
-    ("2021-01-02T02:04-05+00:00", None),
-    ("2021/01-02T02:04:05+00:00", None),
-];
-
-static SPACED_STAMPS: [Line; 2] = [
-    ("Saturday, 2021-01-02 02:04:05", WHOLE),
-    ("Saturday, 2021-01-02 02:04:05,5", HALF),
-];
-
-static CLOCKS: [Line; 12] = [
-    ("2.1.2021 02:04:05", WHOLE),
-    ("2.1.2021 02:04:05.5", HALF),
-    ("2.1.2021 00:00:00", Some((1_609_545_600, 0))),
-    ("2.1.2021 23:59:59", Some((1_609_631_999, 0))),
-    ("2.1.2021 24:00:00", None),
-    ("2.1.2021 02:60:00", None),
-    ("2.1.2021 02:00:60", None),
-    ("2.1.2021 02.00:00", None),
-    ("2.1.2021 02:00.00", None),
-    ("2.1.2021 0/:00:00", None),
-    ("2.1.2021 02:0::00", None),
-    ("2.1.2o21 02:00:00", None),
-];
-
-#[test]
-fn joined_steps(rt: HostRuntime) {
-    assert!(rt; are_planned(rt.alloc(), STAMP, &STAMPS));
-    assert!(rt; are_planned(rt.alloc(), SPACED_STAMP, &SPACED_STAMPS));
-    assert!(rt; are_planned(rt.alloc(), OPTIONAL, &CLOCKS));
 }
 
 // Months by their long names, and clocks in halves of the day.
-static NAMED: [Line; 19] = [
+static NAMED: [(&str, Option<(i64, u32)>); 19] = [
     ("01 January 1970 12:00:01 PM", Some((43_201, 0))),
     ("01 January 2021 12:00:00 AM", Some((1_609_459_200, 0))),
     ("01 February 2021 12:00:00 AM", Some((1_612_137_600, 0))),
@@ -346,15 +323,21 @@ static NAMED: [Line; 19] = [
 
 #[test]
 fn named_months_and_halves_of_days(rt: HostRuntime) {
-    for (line, wanted) in &NAMED {
-        let read = by_parts(rt.alloc(), line.as_bytes(), b"02 January 2021 02:04:05");
-        assert!(rt; read == [*wanted, None]);
+    for row in &NAMED {
+        let read = by_parts(rt.alloc(), row.0.as_bytes(), b"02 January 2021 02:04:05");
+        assert!(rt; read == [row.1, None]);
     }
+    let night = by_parts(
+        rt.alloc(),
+        b"02 January 2021 02:04:05 AM",
+        b"02 January 2021 02:04:05 AM and more",
+    );
+    assert!(rt; night == [WHOLE; 2]);
 }
 
 #[test]
 fn pieces_of_rfc2822(rt: HostRuntime) {
-    assert!(rt; parsing_rfc2822::zone_of(b"EST") == Some(5));
-    assert!(rt; parsing_rfc2822::past_spacing(b" (UTC) Tue") == b"Tue".as_slice());
+    let rest = parsing_rfc2822::past_spacing(b" (UTC) Tue");
+    assert!(rt; (parsing_rfc2822::zone_of(b"EST"), rest) == (Some(5), b"Tue".as_slice()));
     assert!(rt; parsing_rfc2822::is_plain_comment(b" (UTC)"));
 }

@@ -54,8 +54,9 @@ fn parts_at_once(rt: HostRuntime) {
     let plain = read_moment(&basic(), false, b"20210102T030405.5+0100");
     let small = read_small_moment(&basic(), b"20210102T020405.5z");
     let long = read_long_moment(&basic(), true, b"20210102T030405.50000000099+01:00");
-    assert!(rt; [instant(plain), instant(small), instant(long)] == [HALF; 3]);
-    assert!(rt; instant(read_moment(&basic(), true, b"20210132T030405Z")) == None);
+    let late = read_moment(&basic(), true, b"20210132T030405Z");
+    let instants = [instant(plain), instant(small), instant(long), instant(late)];
+    assert!(rt; instants == [HALF, HALF, HALF, None]);
 }
 
 // `02/Jan/2021:03:04:05 +0100`, as web servers write it.
@@ -95,9 +96,11 @@ fn logged() -> Shape
 #[test]
 fn parts_beside_a_name(rt: HostRuntime) {
     let logged = logged();
-    let west = read_named_moment(&logged, 12, b"31/Dec/1999:23:59:59 -0330");
-    assert!(rt; instant(west) == Some((946_697_399, 0)));
-    assert!(rt; instant(read_named_moment(&logged, 11, b"31/Nov/1999:23:59:59 -0330")) == None);
+    let instants = [
+        instant(read_named_moment(&logged, 12, b"31/Dec/1999:23:59:59 -0330")),
+        instant(read_named_moment(&logged, 11, b"31/Nov/1999:23:59:59 -0330")),
+    ];
+    assert!(rt; instants == [Some((946_697_399, 0)), None]);
 }
 
 // The moment on the day of a month that two numbers name.
@@ -108,11 +111,13 @@ fn on_day(numbers: Option<Numbers>) -> Option<(i64, u32)> {
 
 #[test]
 fn numbers_at_once(rt: HostRuntime) {
-    let usual = on_day(read_numbers(&basic(), false, true, b"20210102T030405.5+0100"));
-    let long = on_day(read_long_numbers(&basic(), true, b"20210102T030405.50000000099+01:00"));
-    assert!(rt; [usual, long] == [HALF; 2]);
-    assert!(rt; on_day(read_numbers(&basic(), true, true, b"20210132T030405Z")) == None);
-    assert!(rt; on_day(read_numbers(&basic(), true, false, b"20210102T030405.5Z")) == None);
+    let days = [
+        on_day(read_numbers(&basic(), false, true, b"20210102T030405.5+0100")),
+        on_day(read_long_numbers(&basic(), true, b"20210102T030405.50000000099+01:00")),
+        on_day(read_numbers(&basic(), true, true, b"20210132T030405Z")),
+        on_day(read_numbers(&basic(), true, false, b"20210102T030405.5Z")),
+    ];
+    assert!(rt; days == [HALF, HALF, None, None]);
 }
 
 // `2021-01-02 03:04:05`.
@@ -155,18 +160,31 @@ fn split(text: &[u8]) -> Option<(Sums, u32)> {
 
 #[test]
 fn shapes_made_for_parts(rt: HostRuntime) {
-    assert!(rt; stamped(b"2021-01-02 03:04:05") == Some((129, 184, 0, 320)));
-    assert!(rt; stamped(b"2021-01-02 03:04-05") == None);
-    assert!(rt; split(b"2021-01-02 03:04:05250z") == None);
-    assert!(rt; split(b"2021-01-02 03:04:05250Z") == Some(((129, 184, 0, 320), 250_000_000)));
+    let sums = [
+        stamped(b"2021-01-02 03:04:05"),
+        stamped(b"2021-01-02 03:04-05"),
+    ];
+    assert!(rt; sums == [Some((129, 184, 0, 320)), None]);
+    let split = [
+        split(b"2021-01-02 03:04:05250Z"),
+        split(b"2021-01-02 03:04:05250z"),
+    ];
+    assert!(rt; split == [Some(((129, 184, 0, 320), 250_000_000)), None]);
+}
+
+#[test]
+fn what_has_no_shape(rt: HostRuntime) {
     assert!(rt; Front::of_parts(&[Part::Bare(Field::Hour)], false, false).is_none());
     assert!(rt; last_bytes_of(&[Part::Digits(Field::OffsetHour, 2)], true).is_none());
 }
 
 #[test]
 fn names_at_places(rt: HostRuntime) {
-    assert!(rt; month_name_at(b"02/Dec/2021", 3) == Some(12));
-    assert!(rt; month_name_at(b"02/dec/2021", 3) == None);
-    assert!(rt; weekday_name_at(b"Sun Jan", 0) == Some(7));
-    assert!(rt; weekday_name_at(b"Son Jan", 0) == None);
+    let names = [
+        month_name_at(b"02/Dec/2021", 3),
+        month_name_at(b"02/dec/2021", 3),
+        weekday_name_at(b"Sun Jan", 0),
+        weekday_name_at(b"Son Jan", 0),
+    ];
+    assert!(rt; names == [Some(12), None, Some(7), None]);
 }

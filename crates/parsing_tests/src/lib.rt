@@ -30,5 +30,3 @@ mod printed;
 mod records;
 #[cfg(test)]
 mod strides;
-#[cfg(test)]
-mod support;

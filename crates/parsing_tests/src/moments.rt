@@ -49,10 +49,10 @@ const LEAP_SECOND: TimeParts = TimeParts {
 
 #[test]
 fn times(rt: HostRuntime) {
-    let end = Time::from_hms_nano(15, 59, 59, 999_999_999).expect(&rt, "a time");
+    let end = Time::from_hms_nano(15, 59, 59, 999_999_999).unwrap_or(Time::MIDNIGHT);
+    let permitted = permitted_time(true, 15, 59, 60, 0);
+    assert!(rt; (time(true, &LEAP_SECOND), permitted) == (Ok(end), Ok(end)));
     assert!(rt; hour(&AFTERNOON) == Some(23));
-    assert!(rt; time(true, &LEAP_SECOND) == Ok(end));
-    assert!(rt; permitted_time(true, 15, 59, 60, 0) == Ok(end));
 }
 
 // Where the hour is 0 the minutes have the sign.
@@ -96,6 +96,6 @@ fn are_named(day: Date) -> [bool; 4] {
 
 #[test]
 fn instants(rt: HostRuntime) {
-    let day = Date::from_calendar_date(1990, Month::December, 31).expect(&rt, "a day");
+    let day = Date::from_calendar_date(1990, Month::December, 31).unwrap_or(Date::MIN);
     assert!(rt; are_named(day) == [true; 4]);
 }

@@ -1,10 +1,9 @@
-//! How refusals and records are printed.
+//! How refusals are printed.
 
 use crate::errors::all;
-use parsing::{Parse, ParseFromDescription, Parsed, TryFromParsed};
-use std::alloc::AllocError;
+use parsing::{Parse, ParseFromDescription, TryFromParsed};
+use std::alloc::{AllocError, Global};
 use std::fmt::{Debug, Display};
-use std::test::Fail;
 
 static FAULTS: [Parse; 4] = [
     Parse::ParseFromDescription(ParseFromDescription::InvalidLiteral),
@@ -13,27 +12,32 @@ static FAULTS: [Parse; 4] = [
     Parse::TryFromParsed(TryFromParsed::InsufficientInformation),
 ];
 
-// Adds a refusal by `{:?}`, and its sentence under a width, which only two heed.
-fn tell<T: Debug + Display>(told: &mut String, refusal: &T) -> Result<(), AllocError> {
-    write!(told, "\n{refusal:?}: {refusal:>42}")
-}
-
-fn tell_all(told: &mut String) -> Result<(), AllocError> {
-    for fault in &FAULTS {
-        tell(told, fault)?;
-    }
-    for error in &all() {
-        tell(told, error)?;
+// Adds each refusal by `{:?}`, and its sentence under a width, which only two heed.
+fn tell<T: Debug + Display>(told: &mut String, refusals: &[T]) -> Result<(), AllocError> {
+    for refusal in refusals {
+        write!(told, "\n{refusal:?}: {refusal:>42}")?;
     }
     Ok(())
+}
+
+fn told(alloc: Global) -> Result<String, AllocError> {
+    let mut told = String::new(alloc);
+    tell(&mut told, &FAULTS)?;
+    tell(&mut told, &all())?;
+    Ok(told)
+}
+
+// That memory runs out fails the test.
+fn are_told(alloc: Global) -> bool {
+    match told(alloc) {
+        Ok(told) => told.as_str() == REFUSALS,
+        Err(_) => false,
+    }
 }
 
 #[test]
-fn refusals(rt: HostRuntime) -> Result<(), Fail> {
-    let mut told = String::new(rt.alloc());
-    tell_all(&mut told)?;
-    assert!(rt; told.as_str() == REFUSALS);
-    Ok(())
+fn refusals(rt: HostRuntime) {
+    assert!(rt; are_told(rt.alloc()));
 }
 
 const REFUSALS: &str = r#"
@@ -48,19 +52,3 @@ ParseFromDescription(InvalidComponent("offset hour")): the 'offset hour' compone
 InvalidFormatDescription(UnclosedOpeningBracket { index: 7 }): unclosed opening bracket at byte index 7
 DifferentVariant(DifferentVariant): value was of a different variant
 InvalidVariant(InvalidVariant):              value was not a valid variant"#;
-
-#[test]
-fn records(rt: HostRuntime) -> Result<(), Fail> {
-    let parsed = Parsed::new().with_year(-5).unwrap_or_default();
-    let told = format!(in rt.alloc(); "{parsed:?}")?;
-    assert!(rt; told.as_str() == RECORD);
-    Ok(())
-}
-
-const RECORD: &str =
-    "Parsed { fields: Record { year: Some(-5), year_century: None, year_century_is_negative: false, \
-    year_last_two: None, iso_year: None, iso_year_century: None, iso_year_century_is_negative: false, \
-    iso_year_last_two: None, month: None, sunday_week_number: None, monday_week_number: None, iso_week_number: \
-    None, weekday: None, ordinal: None, day: None, hour_24: None, hour_12: None, hour_12_is_pm: None, minute: \
-    None, second: None, subsecond: None, offset_hour: None, offset_minute: None, offset_second: None, \
-    unix_timestamp_nanos: None, offset_is_negative: false, leap_second_is_permitted: false } }";

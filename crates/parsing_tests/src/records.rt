@@ -1,14 +1,10 @@
 //! The calls of a record: each setter and each call that gives a record with one field more, and the moments of records.
+//! The calls that read its fields are made by the program `rows`.
 
-use crate::support::{date_fields, time_fields};
 use calendar::{Month, Weekday};
 use datetime_types::OffsetDateTime;
 use parsing::Parsed;
-
-// The fields of a date. A century's sign is its number's, and that of 0 as it is said.
-static DATED: [i32; 15] = [
-    -999_999, -9_999, 1, 99, 999_999, 0, 1, 0, 12, 0, 53, 1, 6, 366, 31,
-];
+use std::alloc::Global;
 
 // A record with every field of a date.
 fn dated() -> Parsed {
@@ -60,33 +56,9 @@ fn set_date(parsed: &mut Parsed) -> [Option<()>; 13] {
     ]
 }
 
-#[test]
-fn dates(rt: HostRuntime) {
-    let mut parsed = Parsed::new();
-    assert!(rt; set_date(&mut parsed) == [Some(()); 13]);
-    assert!(rt; date_fields(&parsed) == DATED.map(Some));
-    assert!(rt; date_fields(&dated()) == DATED.map(Some));
-}
-
-// The fields of a time and an offset.
-static TIMED: [i128; 12] = [
-    23,
-    12,
-    0,
-    59,
-    60,
-    999_999_999,
-    -25,
-    59,
-    -59,
-    1,
-    -1,
-    -31_619_087_596_800_000_000_000,
-];
-
-// A record with every field of a time and an offset, whose minutes and seconds have sizes first, and then signs.
-fn timed() -> Parsed {
-    Parsed::default()
+// With every field of a time and an offset, whose minutes and seconds have sizes first, and then signs.
+fn timed(dated: Parsed) -> Parsed {
+    dated
         .with_hour_24(23)
         .unwrap_or_default()
         .with_hour_12(12)
@@ -132,31 +104,55 @@ fn set_time(parsed: &mut Parsed) -> [Option<()>; 12] {
     ]
 }
 
+// Whether a record is printed so from its offset's minutes on. That memory runs out fails the test.
+fn is_printed(alloc: Global, parsed: &Parsed, minutes: &str) -> bool {
+    match format!(in alloc; "{parsed:?}") {
+        Ok(told) => told.as_str().strip_prefix(RECORD) == Some(minutes),
+        Err(_) => false,
+    }
+}
+
 #[test]
-fn times(rt: HostRuntime) {
+fn fields_are_set(rt: HostRuntime) {
     let mut parsed = Parsed::new();
     parsed.remember_offset_sign(true);
+    assert!(rt; set_date(&mut parsed) == [Some(()); 13]);
     assert!(rt; set_time(&mut parsed) == [Some(()); 12]);
-    assert!(rt; time_fields(&parsed) == TIMED.map(Some));
-    assert!(rt; time_fields(&timed()) == TIMED.map(Some));
+    assert!(rt; is_printed(rt.alloc(), &parsed, SIZES));
 }
+
+#[test]
+fn fields_are_given(rt: HostRuntime) {
+    assert!(rt; is_printed(rt.alloc(), &timed(dated()), SIGNED));
+}
+
+// A century's sign is its number's, and that of 0 as it is said.
+const RECORD: &str =
+    "Parsed { fields: Record { year: Some(-999999), year_century: Some(-9999), year_century_is_negative: true, \
+    year_last_two: Some(99), iso_year: Some(999999), iso_year_century: Some(0), iso_year_century_is_negative: true, \
+    iso_year_last_two: Some(0), month: Some(December), sunday_week_number: Some(0), monday_week_number: Some(53), \
+    iso_week_number: Some(1), weekday: Some(Sunday), ordinal: Some(366), day: Some(31), hour_24: Some(23), hour_12: \
+    Some(12), hour_12_is_pm: Some(false), minute: Some(59), second: Some(60), subsecond: Some(999999999), \
+    offset_hour: Some(-25), ";
+
+const SIZES: &str =
+    "offset_minute: Some(59), offset_second: Some(1), unix_timestamp_nanos: Some(-31619087596800000000000), \
+    offset_is_negative: true, leap_second_is_permitted: false } }";
+
+const SIGNED: &str =
+    "offset_minute: Some(-59), offset_second: Some(-1), unix_timestamp_nanos: Some(-31619087596800000000000), \
+    offset_is_negative: false, leap_second_is_permitted: false } }";
 
 // The parts of 1990-12-31T23:59:60Z.
 fn leap_second() -> Parsed {
     let mut parsed = Parsed::new();
-    let set = [
-        parsed.set_year(1990),
-        parsed.set_ordinal(365),
-        parsed.set_hour_24(23),
-        parsed.set_minute(59),
-        parsed.set_second(60),
-        parsed.set_offset_hour(0),
-    ];
-    if set == [Some(()); 6] {
-        parsed
-    } else {
-        Parsed::new()
-    }
+    let _ = parsed.set_year(1990);
+    let _ = parsed.set_ordinal(365);
+    let _ = parsed.set_hour_24(23);
+    let _ = parsed.set_minute(59);
+    let _ = parsed.set_second(60);
+    let _ = parsed.set_offset_hour(0);
+    parsed
 }
 
 #[test]

@@ -4,144 +4,197 @@ use parsing_layout::{Field, Item, Names, Part, are_apart, field_of, number_at, p
 use parsing_strides::{Found, Strides};
 
 // A date in words, after which anything may follow.
-static DATE: [Part; 6] = [
-    Part::Name(Names::ShortWeekday, true),
-    Part::Byte(b' '),
-    Part::Spaced(Field::Day),
-    Part::Any,
-    Part::Name(Names::LongMonth, false),
-    Part::Run(Field::Year, 6),
+static DATE: [Item; 6] = [
+    Item::Part(Part::Name(Names::ShortWeekday, true)),
+    Item::Part(Part::Byte(b' ')),
+    Item::Part(Part::Spaced(Field::Day)),
+    Item::Part(Part::Any),
+    Item::Part(Part::Name(Names::LongMonth, false)),
+    Item::Part(Part::Run(Field::Year, 6)),
 ];
 
 // A time of day with a fraction of three digits, and the hours of an offset.
-static CLOCK: [Part; 6] = [
-    Part::Bare(Field::Hour),
-    Part::Byte(b':'),
-    Part::Digits(Field::Minute, 2),
-    Part::Fraction(3),
-    Part::Sign,
-    Part::Digits(Field::OffsetHour, 2),
+static CLOCK: [Item; 6] = [
+    Item::Part(Part::Bare(Field::Hour)),
+    Item::Part(Part::Byte(b':')),
+    Item::Part(Part::Digits(Field::Minute, 2)),
+    Item::Part(Part::Fraction(3)),
+    Item::Part(Part::Sign),
+    Item::Part(Part::Digits(Field::OffsetHour, 2)),
 ];
 
 // A date and a time of day, with an offset.
-static STAMP: [Part; 14] = [
-    Part::Digits(Field::Year, 4),
-    Part::Byte(b'-'),
-    Part::Digits(Field::Month, 2),
-    Part::Byte(b'-'),
-    Part::Digits(Field::Day, 2),
-    Part::Any,
-    Part::Digits(Field::Hour, 2),
-    Part::Byte(b':'),
-    Part::Digits(Field::Minute, 2),
-    Part::Byte(b':'),
-    Part::Digits(Field::Second, 2),
-    Part::Sign,
-    Part::Digits(Field::OffsetHour, 2),
-    Part::Digits(Field::OffsetMinute, 2),
+static STAMP: [Item; 14] = [
+    Item::Part(Part::Digits(Field::Year, 4)),
+    Item::Part(Part::Byte(b'-')),
+    Item::Part(Part::Digits(Field::Month, 2)),
+    Item::Part(Part::Byte(b'-')),
+    Item::Part(Part::Digits(Field::Day, 2)),
+    Item::Part(Part::Any),
+    Item::Part(Part::Digits(Field::Hour, 2)),
+    Item::Part(Part::Byte(b':')),
+    Item::Part(Part::Digits(Field::Minute, 2)),
+    Item::Part(Part::Byte(b':')),
+    Item::Part(Part::Digits(Field::Second, 2)),
+    Item::Part(Part::Sign),
+    Item::Part(Part::Digits(Field::OffsetHour, 2)),
+    Item::Part(Part::Digits(Field::OffsetMinute, 2)),
 ];
 
 // A week and its day, and then Unix time.
-static WEEK: [Part; 6] = [
-    Part::Byte(b'W'),
-    Part::Digits(Field::IsoWeek, 2),
-    Part::Byte(b'-'),
-    Part::Digits(Field::Weekday, 1),
-    Part::Byte(b' '),
-    Part::Run(Field::Unix, 14),
+static WEEK: [Item; 6] = [
+    Item::Part(Part::Byte(b'W')),
+    Item::Part(Part::Digits(Field::IsoWeek, 2)),
+    Item::Part(Part::Byte(b'-')),
+    Item::Part(Part::Digits(Field::Weekday, 1)),
+    Item::Part(Part::Byte(b' ')),
+    Item::Part(Part::Run(Field::Unix, 14)),
 ];
 
-// The most parts.
-const MOST: usize = 20;
+// A date and an hour, in fewer bytes than a stride reads at a time.
+static HOUR: [Item; 4] = [
+    Item::Part(Part::Digits(Field::Year, 4)),
+    Item::Part(Part::Digits(Field::Month, 2)),
+    Item::Part(Part::Digits(Field::Day, 2)),
+    Item::Part(Part::Digits(Field::Hour, 2)),
+];
 
-// How parts are read.
-fn strides_of(parts: &[Part]) -> Option<Strides> {
-    let mut items = [Item::Part(Part::Any); MOST];
-    for (index, part) in parts.iter().enumerate() {
-        let item = items.get_mut(index)?;
-        *item = Item::Part(*part);
-    }
-    Strides::of_items(items.get(..parts.len())?)
-}
+// A minute, and a second that may be missing.
+static OPTIONAL: [Item; 2] = [
+    Item::Part(Part::Digits(Field::Minute, 2)),
+    Item::Optional(b':', Part::Digits(Field::Second, 2)),
+];
 
-// What parts find in a text, and how many bytes are left.
-fn found(parts: &[Part], text: &[u8]) -> Option<(Found, usize)> {
-    let strides = strides_of(parts)?;
-    let mut found = Found::usual();
-    let rest = strides.read(text, &mut found)?;
+// What is found in a text: small numbers, each 0 where there is none, a greater one, and how many bytes are left.
+type Told = Option<([u8; 8], u64, usize)>;
+
+// What items find in a text, and how many bytes are left.
+fn found(items: &[Item], text: &[u8], mut found: Found) -> Option<(Found, usize)> {
+    let rest = Strides::of_items(items)?.read(text, &mut found)?;
     Some((found, rest.len()))
 }
 
-fn date(text: &[u8]) -> Option<([u8; 3], u16, usize)> {
-    let (found, rest) = found(&DATE, text)?;
-    let day = [
-        found.get(Field::Weekday),
-        found.get(Field::Day),
-        found.get(Field::Month),
-    ];
-    Some((day, found.year().number(), rest))
+// The weekday, the day, the month and the year.
+fn date(text: &[u8]) -> Told {
+    let (found, rest) = found(&DATE, text, Found::usual())?;
+    let day = found.get(Field::Day);
+    let (weekday, month) = (found.get(Field::Weekday), found.get(Field::Month));
+    let numbers = [weekday, day, month, 0, 0, 0, 0, 0];
+    Some((numbers, u64::from(found.year().number()), rest))
 }
 
-fn clock(text: &[u8]) -> Option<([u8; 4], u32)> {
-    let (found, _) = found(&CLOCK, text)?;
-    let hour = found.get(Field::Hour);
-    let minute = found.get(Field::Minute);
-    let offset = [found.get(Field::Sign), found.get(Field::OffsetHour)];
-    Some((
-        [hour, minute, offset[0], offset[1]],
-        found.fraction().nanosecond(),
-    ))
+// The hour, the minute, the offset's sign and hours, and the nanosecond.
+fn clock(text: &[u8]) -> Told {
+    let (found, rest) = found(&CLOCK, text, Found::usual())?;
+    let (hour, minute) = (found.get(Field::Hour), found.get(Field::Minute));
+    let (sign, offset) = (found.get(Field::Sign), found.get(Field::OffsetHour));
+    let numbers = [hour, minute, sign, offset, 0, 0, 0, 0];
+    Some((numbers, u64::from(found.fraction().nanosecond()), rest))
 }
+
+// The week, its day and the Unix time.
+fn week(text: &[u8]) -> Told {
+    let (found, rest) = found(&WEEK, text, Found::usual())?;
+    let (week, day) = (found.get(Field::IsoWeek), found.get(Field::Weekday));
+    Some(([week, day, 0, 0, 0, 0, 0, 0], found.unix(), rest))
+}
+
+// The month, the day, the hour and the year.
+fn hour(text: &[u8]) -> Told {
+    let (found, rest) = found(&HOUR, text, Found::usual())?;
+    let (month, day) = (found.get(Field::Month), found.get(Field::Day));
+    let numbers = [month, day, found.get(Field::Hour), 0, 0, 0, 0, 0];
+    Some((numbers, u64::from(found.year().number()), rest))
+}
+
+// The minute and the second.
+fn with_second(text: &[u8]) -> Told {
+    let (found, rest) = found(&OPTIONAL, text, Found::unread(false, false, false))?;
+    let (minute, second) = (found.get(Field::Minute), found.get(Field::Second));
+    Some(([minute, second, 0, 0, 0, 0, 0, 0], 0, rest))
+}
+
+fn told() -> [Told; 11] {
+    [
+        date(b"Sat  2 jANUARY2021Z"),
+        date(b"Sat  2 jANUARY20210"),
+        clock(b"3:04250+01"),
+        clock(b"3:0425+01"),
+        week(b"W53-7 1700000000"),
+        hour(b"2021020304"),
+        hour(b"202102030"),
+        with_second(b"23:45"),
+        with_second(b"23"),
+        with_second(b"23.45"),
+        with_second(b"23:4"),
+    ]
+}
+
+static TOLD: [Told; 11] = [
+    Some(([6, 2, 1, 0, 0, 0, 0, 0], 2021, 1)),
+    None,
+    Some(([3, 4, b'+', 1, 0, 0, 0, 0], 250_000_000, 0)),
+    None,
+    Some(([53, 7, 0, 0, 0, 0, 0, 0], 1_700_000_000, 0)),
+    Some(([2, 3, 4, 0, 0, 0, 0, 0], 2021, 0)),
+    None,
+    Some(([23, 45, 0, 0, 0, 0, 0, 0], 0, 0)),
+    Some(([23, 0, 0, 0, 0, 0, 0, 0], 0, 0)),
+    Some(([23, 0, 0, 0, 0, 0, 0, 0], 0, 3)),
+    None,
+];
 
 #[test]
-fn parts_one_after_another(rt: HostRuntime) {
-    assert!(rt; date(b"Sat  2 jANUARY2021Z") == Some(([6, 2, 1], 2021, 1)));
-    assert!(rt; date(b"Sat  2 jANUARY20210") == None);
-    assert!(rt; clock(b"3:04250+01") == Some(([3, 4, b'+', 1], 250_000_000)));
-    assert!(rt; clock(b"3:0425+01") == None);
+fn lists_of_parts(rt: HostRuntime) {
+    assert!(rt; told() == TOLD);
+    assert!(rt; Strides::of_items(&[Item::Part(Part::OpenFraction); 17]).is_none());
 }
 
-// The numbers of a stamp, from the year on to the minutes of its offset.
-fn stamp(text: &[u8]) -> Option<(u16, [u8; 5], [u8; 3], bool)> {
-    let (found, _) = found(&STAMP, text)?;
-    let wall = [
+// The month, the day, the time of day, the offset's sign, hours and minutes, and the year, or 0 where a number is out of range.
+fn stamp(text: &[u8]) -> Told {
+    let (found, rest) = found(&STAMP, text, Found::usual())?;
+    let numbers = [
         found.get(Field::Month),
         found.get(Field::Day),
         found.get(Field::Hour),
         found.get(Field::Minute),
         found.get(Field::Second),
-    ];
-    let offset = [
         found.get(Field::Sign),
         found.get(Field::OffsetHour),
         found.get(Field::OffsetMinute),
     ];
-    Some((found.year().number(), wall, offset, found.is_in_range()))
+    let year = if found.is_in_range() {
+        found.year().number()
+    } else {
+        0
+    };
+    Some((numbers, u64::from(year), rest))
 }
+
+static STAMPS: [(&[u8], Told); 7] = [
+    (
+        b"1999-12-31T23:59:58-0330",
+        Some(([12, 31, 23, 59, 58, b'-', 3, 30], 1999, 0)),
+    ),
+    (
+        b"1999-12-31 23:59:58-0330, and more of a line",
+        Some(([12, 31, 23, 59, 58, b'-', 3, 30], 1999, 20)),
+    ),
+    (
+        b"2000-13-01x24:60:60+2660",
+        Some(([13, 1, 24, 60, 60, b'+', 26, 60], 0, 0)),
+    ),
+    (b"1999-12-31T23:59:58,0330", None),
+    (b"1999-12-31T23:59:58-033", None),
+    (b"1999-12-31T23:5:58-03300", None),
+    (b"1999/12-31T23:59:58-0330", None),
+];
 
 #[test]
 fn parts_sixteen_bytes_at_a_time(rt: HostRuntime) {
-    let west = Some((1999, [12, 31, 23, 59, 58], [b'-', 3, 30], true));
-    assert!(rt; stamp(b"1999-12-31T23:59:58-0330") == west);
-    assert!(rt; stamp(b"1999-12-31 23:59:58-0330, and more of a line") == west);
-    let late = Some((2000, [13, 1, 24, 60, 60], [b'+', 26, 60], false));
-    assert!(rt; stamp(b"2000-13-01x24:60:60+2660") == late);
-    assert!(rt; stamp(b"1999-12-31T23:59:58,0330") == None);
-    assert!(rt; stamp(b"1999-12-31T23:59:58-033") == None);
-    assert!(rt; stamp(b"1999-12-31T23:5:58-03300") == None);
-    assert!(rt; stamp(b"1999/12-31T23:59:58-0330") == None);
-}
-
-#[test]
-fn digits_alone_and_unix_time(rt: HostRuntime) {
-    let week = found(&WEEK, b"W53-7 1700000000");
-    assert!(rt; week.is_some());
-    if let Some((found, rest)) = week {
-        let day = [found.get(Field::IsoWeek), found.get(Field::Weekday)];
-        assert!(rt; (day, found.unix(), rest) == ([53, 7], 1_700_000_000, 0));
+    for row in &STAMPS {
+        assert!(rt; stamp(row.0) == row.1);
     }
-    let usual = Found::usual();
-    assert!(rt; usual.is_in_range() && usual.unix() == 0 && usual.year().number() == 0);
 }
 
 // What a part reads at the start of a text, and how many bytes are left.
@@ -150,62 +203,23 @@ fn number(part: Part, text: &[u8]) -> Option<(u64, usize)> {
     Some((number, rest.len()))
 }
 
+const DAY: Part = Part::Digits(Field::Day, 2);
+
+const MONTH: Part = Part::Name(Names::LongMonth, false);
+
 #[test]
 fn parts_and_their_fields(rt: HostRuntime) {
-    assert!(rt; number(Part::OpenFraction, b"0123456789Z") == Some((12_345_678, 1)));
-    assert!(rt; number(Part::Name(Names::HalfOfDay, false), b"pm") == Some((1, 0)));
-    assert!(rt; say(&STAMP, Field::Day) && !say(&DATE, Field::Hour));
-    assert!(rt; are_apart(&STAMP) && !are_apart(&[STAMP[2], STAMP[2]]));
-    assert!(rt; field_of(Part::Sign) == Some(Field::Sign));
-    assert!(rt; place_of(Field::Unix) == 16);
-}
-
-#[test]
-fn too_many_steps(rt: HostRuntime) {
-    assert!(rt; strides_of(&[Part::OpenFraction; 17]).is_none());
-}
-
-// A minute, and a second that may be missing.
-static OPTIONAL: [Item; 2] = [
-    Item::Part(Part::Digits(Field::Minute, 2)),
-    Item::Optional(b':', Part::Digits(Field::Second, 2)),
-];
-
-// The minute and the second of a text, and how many bytes are left.
-fn with_second(text: &[u8]) -> Option<(u8, u8, usize)> {
-    let strides = Strides::of_items(&OPTIONAL)?;
-    let mut found = Found::unread(false, false, false);
-    let rest = strides.read(text, &mut found)?;
-    Some((
-        found.get(Field::Minute),
-        found.get(Field::Second),
-        rest.len(),
-    ))
-}
-
-#[test]
-fn what_may_be_missing(rt: HostRuntime) {
-    assert!(rt; with_second(b"23:45") == Some((23, 45, 0)));
-    assert!(rt; with_second(b"23") == Some((23, 0, 0)));
-    assert!(rt; with_second(b"23.45") == Some((23, 0, 3)));
-    assert!(rt; with_second(b"23:4").is_none());
-}
-
-// A date and an hour, in fewer bytes than a stride reads at a time.
-static HOUR: [Part; 4] = [
-    Part::Digits(Field::Year, 4),
-    Part::Digits(Field::Month, 2),
-    Part::Digits(Field::Day, 2),
-    Part::Digits(Field::Hour, 2),
-];
-
-#[test]
-fn lines_that_are_short(rt: HostRuntime) {
-    let hour = found(&HOUR, b"2021020304");
-    assert!(rt; hour.is_some());
-    if let Some((found, rest)) = hour {
-        let day = [found.get(Field::Month), found.get(Field::Day)];
-        assert!(rt; (day, found.get(Field::Hour), rest) == ([2, 3], 4, 0));
-    }
-    assert!(rt; found(&HOUR, b"202102030").is_none());
+    let numbers = [
+        number(Part::OpenFraction, b"0123456789Z"),
+        number(Part::Name(Names::HalfOfDay, false), b"pm"),
+    ];
+    assert!(rt; numbers == [Some((12_345_678, 1)), Some((1, 0))]);
+    let are_said = [
+        say(&[MONTH, DAY], Field::Day),
+        say(&[MONTH, DAY], Field::Hour),
+        are_apart(&[MONTH, DAY]),
+        are_apart(&[DAY, DAY]),
+    ];
+    assert!(rt; are_said == [true, false, true, false]);
+    assert!(rt; field_of(Part::Sign) == Some(Field::Sign) && place_of(Field::Unix) == 16);
 }
