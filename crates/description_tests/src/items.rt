@@ -5,6 +5,7 @@ use description_items::modifier::*;
 use description_items::{
     BorrowedFormatItem, Component, DifferentVariant, Iso8601, Period as HalfOfDay, Rfc2822, Rfc3339,
 };
+use description_tree::Lent;
 use std::alloc::Global;
 
 const DAY: BorrowedFormatItem<'static> = BorrowedFormatItem::Component(Component::Day(Day {
@@ -51,11 +52,12 @@ fn items_are_equal_by_their_trees_and_come_back(rt: HostRuntime) {
     assert!(rt; formats == (Rfc2822, Rfc3339, Iso8601));
 }
 
-// Whether items, faults and halves of days are told so. That memory runs out fails the test.
+// Whether items, faults, halves of days and lists of a tree that are lent are told so. That memory runs out fails the test.
 fn are_shown(alloc: Global) -> bool {
     let item = BorrowedFormatItem::First(&TEXT_AND_DAY);
+    let lent = Lent { items: &[] };
     let am = HalfOfDay::Am;
-    match format!(in alloc; "{item:?} {DifferentVariant} {am:?}") {
+    match format!(in alloc; "{item:?} {DifferentVariant} {am:?} {lent:?}") {
         Ok(told) => told.as_str() == TEXTS,
         Err(_) => false,
     }
@@ -67,7 +69,7 @@ fn texts(rt: HostRuntime) {
 }
 
 const TEXTS: &str =
-    r#"First([StringLiteral("x"), Component(Day(Day { padding: None }))]) value was of a different variant Am"#;
+    r#"First([StringLiteral("x"), Component(Day(Day { padding: None }))]) value was of a different variant Am Lent { items: [] }"#;
 
 // A component, and its newer form.
 fn and_newer(older: Component) -> (Component, Component) {

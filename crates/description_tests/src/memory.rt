@@ -9,9 +9,12 @@ use std::alloc::{AllocError, Global};
 use std::test::Fail;
 
 // Whether six modifiers are found, the last of them with this key and this value.
-fn are_found(alloc: Global, text: &str) -> Result<bool, Fail> {
-    let (all, _) = modifiers_of(alloc, whole_of(text))?;
-    Ok(all.len() == 6 && all[5].key.text == "f" && all[5].value.text == "6")
+fn are_found(alloc: Global, text: &str) -> Result<bool, AllocError> {
+    match modifiers_of(alloc, whole_of(text)) {
+        Ok((all, _)) => { Ok(all.len() == 6 && all[5].key.text == "f" && all[5].value.text == "6") }
+        Err(DescriptionFault::Memory) => Err(AllocError),
+        Err(_) => Ok(false),
+    }
 }
 
 #[test]

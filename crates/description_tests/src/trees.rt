@@ -75,20 +75,6 @@ const COPIED: &str =
 #[test]
 fn copies(rt: HostRuntime) {
     assert!(rt; is_tree_copied(rt.alloc(), TREE, COPIED));
-}
-
-// Whether a list that is lent is shown so.
-fn is_lent_told(alloc: Global, wanted: &str) -> bool {
-    let lent = Lent { items: &[] };
-    match format!(in alloc; "{lent:?}") {
-        Ok(told) => told.as_str() == wanted,
-        Err(_) => false,
-    }
-}
-
-#[test]
-fn copies_what_is_lent(rt: HostRuntime) {
-    assert!(rt; is_lent_told(rt.alloc(), "Lent { items: [] }"));
     let node = Inner::BorrowedCompound(Lent { items: &[] });
     assert!(rt; is_node_copied(rt.alloc(), node, "OwnedCompound([]), 0"));
 }

@@ -27,8 +27,7 @@ static READS: [(usize, Option<usize>, usize); 4] = [
 #[test]
 fn cut_reader(rt: HostRuntime) {
     for row in &READS {
-        let (most, fail_after, total) = *row;
-        assert!(rt; read(most, fail_after) == (total, fail_after.is_some()));
+        assert!(rt; read(row.0, row.1) == (row.2, row.1.is_some()));
     }
 }
 
@@ -57,8 +56,7 @@ static WRITES: [(&[u8], Option<usize>, ([u8; 6], usize)); 4] = [
 #[test]
 fn cut_writer(rt: HostRuntime) {
     for row in &WRITES {
-        let (bytes, fail_after, wanted) = *row;
-        assert!(rt; written(bytes, fail_after) == wanted);
+        assert!(rt; written(row.0, row.1) == row.2);
     }
 }
 

@@ -77,9 +77,9 @@ static SENTENCES: [(ProgramFault<'static>, &str); 11] = [
 // `Display` returns `Ok` for each, which no clause says.
 #[test]
 fn sentences(rt: HostRuntime) -> Result<(), Fail> {
-    for (fault, sentence) in &SENTENCES {
-        let told = format!(in rt.alloc(); "{fault}")?;
-        assert!(rt; told.as_str() == *sentence);
+    for row in &SENTENCES {
+        let told = format!(in rt.alloc(); "{}", row.0)?;
+        assert!(rt; told.as_str() == row.1);
     }
     Ok(())
 }

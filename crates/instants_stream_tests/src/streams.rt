@@ -73,9 +73,8 @@ fn with_zeros(bytes: &[u8]) -> [u8; 48] {
 #[test]
 fn lines_in_place(rt: HostRuntime) {
     for row in &STREAMS {
-        let (limit, stream, output) = *row;
-        let len = output.len();
-        assert!(rt; over(limit, stream, len) == (Ok(len), with_zeros(output)));
+        let len = row.2.len();
+        assert!(rt; over(row.0, row.1, len) == (Ok(len), with_zeros(row.2)));
     }
     assert!(rt; over(100, STREAM, 47) == (Err(TooLittleRoom), with_zeros(&OUTPUT[..47])));
 }
@@ -112,11 +111,10 @@ fn ended(
 #[test]
 fn reads_of_every_size(rt: HostRuntime) {
     for row in &STREAMS {
-        let (limit, stream, output) = *row;
         for most in 1..27 {
             let block = vec![in rt.alloc(); 0; 7].expect(&rt, "memory");
-            let wanted = (Ok(()), with_zeros(output));
-            assert!(rt; ended(block, limit, stream, most, None) == wanted);
+            let wanted = (Ok(()), with_zeros(row.2));
+            assert!(rt; ended(block, row.0, row.1, most, None) == wanted);
         }
     }
 }
@@ -135,11 +133,10 @@ fn written_before(read_fails: usize) -> &'static [u8] {
 #[test]
 fn before_each_read(rt: HostRuntime) {
     for row in &[(100, 1), (100, 2), (100, 5), (100, 24), (100, 26), (25, 26)] {
-        let (limit, most) = *row;
         for after in 0..27 {
             let block = vec![in rt.alloc(); 0; 100].expect(&rt, "memory");
             let wanted = (Err(RunFault::Read), with_zeros(written_before(after)));
-            assert!(rt; ended(block, limit, STREAM, most, Some(after)) == wanted);
+            assert!(rt; ended(block, row.0, STREAM, row.1, Some(after)) == wanted);
         }
     }
 }

@@ -132,21 +132,25 @@ fn is_told(alloc: Global, words: &[&str], line: &[u8], wanted: &Told) -> bool {
 #[test]
 fn timelines(rt: HostRuntime) {
     for row in &ROWS {
-        let (words, line, wanted) = row;
-        assert!(rt; is_told(rt.alloc(), words, line, wanted));
+        assert!(rt; is_told(rt.alloc(), row.0, row.1, &row.2));
     }
 }
 
 // How many items a source tries on a line, and its nodes.
-fn counts(alloc: Global, text: SourceText, line: &[u8]) -> (u128, u128) {
+fn counts(source: &Source, line: &[u8]) -> (u128, u128) {
+    (source.tried(line, &None), source.nodes())
+}
+
+// Whether it tries six of eight.
+fn are_counted(alloc: Global, text: SourceText, line: &[u8]) -> bool {
     match Source::new(alloc, text) {
-        Ok(source) => (source.tried(line, &None), source.nodes()),
-        Err(_) => (0, 0),
+        Ok(source) => counts(&source, line) == (6, 8),
+        Err(_) => false,
     }
 }
 
 #[test]
 fn sources(rt: HostRuntime) {
     let text = SourceText::V3("[first [[year]-[month]] [x]]");
-    assert!(rt; counts(rt.alloc(), text, b"x") == (6, 8));
+    assert!(rt; are_counted(rt.alloc(), text, b"x"));
 }
