@@ -104,7 +104,8 @@ fn write_by(rt: &HostRuntime, words: &[&str], is_quiet: bool) -> ExitCode {
         return ended(rt, Err(LinesFault::Program(ProgramFault::Memory)), None);
     };
     let mut input = Noting::new(Looking::new(own_rt, rt.stdin(), is_quiet));
-    let mut output = Noting::new(Watching::new(rt.stdout()));
+    let is_asked = !is_quiet && asks_keys(words);
+    let mut output = Noting::new(Watching::new(rt.stdout(), is_asked));
     let mut reader = StdReader::new(&mut input);
     let mut writer = BlockWriter::new(block, StdWriter::new(&mut output));
     let end = if asks_guess(words) {
@@ -117,7 +118,7 @@ fn write_by(rt: &HostRuntime, words: &[&str], is_quiet: bool) -> ExitCode {
     };
     drop(writer);
     drop(reader);
-    if end.is_ok() && !is_quiet && asks_keys(words) && output.inner().is_undated() {
+    if end.is_ok() && output.inner().is_undated() {
         warn_of_undated(rt);
     }
     ended(rt, end, output.failure().or(input.failure()))

@@ -16,17 +16,17 @@ pub struct Watching<W> {
 }
 
 impl<W> Watching<W> {
-    /// Nothing was written yet.
-    pub fn new(inner: W) -> Self {
+    /// Nothing was written yet. Where nobody asks, nothing is looked at.
+    pub fn new(inner: W, is_asked: bool) -> Self {
         Watching {
             inner,
             place: 0,
             has_lines: false,
-            has_date: false,
+            has_date: !is_asked,
         }
     }
 
-    /// Whether there are lines, and no source found a date in any.
+    /// Whether somebody asks, there are lines, and no source found a date in any.
     pub fn is_undated(&self) -> bool {
         self.has_lines && !self.has_date
     }

@@ -135,17 +135,10 @@ impl<'a> Described<'a> {
         ensures { result ≡ true
             → ReadsNoneWhole (reads_written (written self.now.description)) line.now }
     {
-        // (the first byte alone tells most lines of other descriptions, and then sixteen bytes at once)
-        if let [first, ..] = line {
-            if !self.can_begin(*first) {
-                return true;
-            }
-        }
-        self.first_bounds.rule_out_whole(line) || self.first_bytes.rule_out(line)
+        self.first_bytes.rule_out(line) || self.first_bounds.rule_out_whole(line)
     }
 
     /// Whether a line that the description reads can begin with a byte: `true` says nothing of the line.
-    #[inline(always)]
     pub fn can_begin(&self, byte: u8) -> bool
         ensures { result ≡ false
             → IsRefusedAt (reads_written (written self.now.description)) 0 byte }
