@@ -105,7 +105,7 @@ def test_names(merge: Merge, name: str) -> None:
         (["log"], b"2024-05-01 10:00:00 up\n", "log: its dates have no offset; say -a +HH:MM before it\n"),
         (["-a", "+02:00", "log"], b"May  1 10:00:00 host cron[1]: run\n", "log: its dates have no year; say -y YYYY, that of its first line, before it\n"),
         (["log"], b"up\n", "log: no format is found, say one by -f before it: no known format dates any of 1 lines\n"),
-        (["log"], b"", "log: no format is found, say one by -f before it: it is empty\n"),
+        (["log"], b"", "log: no format is found, say one by -f before it: no known format dates any of 0 lines\n"),
         (["-a", "Z", "log"], b"01/02/2024 10:00:00 up\n", "log: day and month are not sure; say -f dmy before it, or another format\n"),
         (["-f", "strftime '%F", "log"], b"", "-f strftime '%F: a quotation mark is left open\n"),
         (["-f"], b"", "-f needs a word after it\n"),
@@ -191,7 +191,7 @@ def test_lines_without_a_date(merge: Merge) -> None:
         (["--until", "2024-05-01T10:00:02+02:00"], 3),
         (["--since", "2024-05-01", "--until", "2024-05-02"], 4),
         (["--since", "2024-05-01 08:01"], 1),
-        (["--since", "01/May/2024:10:00:02 +0200", "-f", "rfc3339 access-log"], 2),
+        (["--since", "[01/May/2024:10:00:02 +0200]", "-f", "rfc3339 access-log"], 2),
     ],
 )
 def test_window(merge: Merge, words: list[str], count: int) -> None:
@@ -238,7 +238,7 @@ def test_a_full_disk(merge: Merge) -> None:
         status, written, said = merge.call("-f", "rfc3339", merge.write("log", WORKER * 9999), env={**os.environ, "TMPDIR": str(small)})
     finally:
         subprocess.run(["umount", small], check=True)
-    assert (status, written) == (1, b"") and "log: writing failed: no storage space" in said and "log: it was not read to its end" in said
+    assert (status, written) == (1, b"") and said.startswith("log: it was not read to its end\nno room is left in ")
 
 
 def test_killed(merge: Merge) -> None:
@@ -305,7 +305,7 @@ LOGS = (
     ("access.log", "-a - -y -", 120, "%d/%b/%Y:%H:%M:%S +0200", 0, '192.0.2.1 - - [{}] "GET /orders/{} HTTP/1.1" 200 512'),
     ("syslog", "-a +02:00 -y 2024", 120, "%b %d %H:%M:%S", 0, "{} host cron[{}]: run"),
     ("docker.json", "-a - -y -", 0, "%Y-%m-%dT%H:%M:%S", 9, '{{"log":"took {1} of 17\\n","stream":"stdout","time":"{0}Z"}}'),
-    ("postgresql.log", "", 0, "%Y-%m-%d %H:%M:%S", 3, "{} UTC [{}] LOG:  duration: 3.217 ms"),
+    ("postgresql.log", "-a Z", 0, "%Y-%m-%d %H:%M:%S", 3, "{} UTC [{}] LOG:  duration: 3.217 ms"),
     ("spring.log", "-a +01:00", 60, "%Y-%m-%d %H:%M:%S", 3, "{}  INFO {} --- [           main] c.example.Main : started"),
     ("python.log", "-a +02:00", 120, "%Y-%m-%d %H:%M:%S", -3, "{} INFO order {} until 17:00"),
 )
@@ -345,11 +345,11 @@ def test_six_logs(merge: Merge, pytestconfig: pytest.Config) -> None:
         words += [*log[1].split(), log[0]]
     wanted = "".join(sorted(lines, key=lambda it: it.partition("\t")[0])).encode()
     status, written, said = merge.call(*words)
-    assert (status, written == wanted) == (0, True)
+    assert (status, written == wanted) == (0, True), said
     formats = dict(re.findall(r"^(\S+): (\S+), by guess", said, re.M))
     carries = []
     for number, (name, options, *_) in enumerate(LOGS):
-        given = {"-y 2024": "+02:00 year 2024"}.get(options[-7:], options[3:9] if "+" in options else "-")
+        given = re.sub(r"-a (\S+)(?: -y -)?", r"\1", options).replace("-y", "year")
         carries.append(f"{merge.file.parent}/instants-lines carry +00:00 {given} label {name} {formats[name]} < {name} > {number}.timed &")
     plain = "\n".join([*carries, "wait", "LC_ALL=C sort -s -t '\t' -k1,1 -S 25% -- ?.timed"])
     times = [(seconds_of(merge, [str(merge.file), *words]), seconds_of(merge, ["sh", "-c", plain])) for _ in range(3)]
