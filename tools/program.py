@@ -60,6 +60,8 @@ class Program:
     def __init__(self, crate: str, name: str, made: str | None = None, repeats_lines: bool = False) -> None:
         self.crate, self.name, self.repeats_lines = crate, name, repeats_lines
         self.file = ROOT / "crates" / crate / "out" / (made or crate)
+        # What a trial made of it, which is not proved.
+        self.trial = self.file.with_name(f"{self.file.name}.trial")
 
     def say(self, text: object) -> None:
         print(f"{self.name}: {text}", file=sys.stderr, flush=True)
@@ -76,10 +78,10 @@ class Program:
         """Returns the crates that the program is made of, each after those that it uses."""
         return crates_for(self.crate)
 
-    def is_current(self) -> bool:
-        """Returns whether the program is there and none of its sources is newer."""
+    def is_current(self, file: pathlib.Path | None = None) -> bool:
+        """Returns whether the program, or another file that is made of its sources, is there and none of the sources is newer."""
         try:
-            made = self.file.stat().st_mtime_ns
+            made = (file or self.file).stat().st_mtime_ns
         except FileNotFoundError:
             return False
         files: list[str | pathlib.Path] = [ROOT / "crates.txt"]
