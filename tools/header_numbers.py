@@ -27,7 +27,6 @@ PLACES = (
     ("GREATEST_LIMIT", "crates/instants_words/specs/Pieces.antt", rf"^limit_said word = number_said 1 {NUMBER} 7 word$"),
     ("GREATEST_LIMIT", "crates/instants_faults/specs/ProgramText.antt", rf"the limit must be a number from 1 to {NUMBER}\""),
     ("GREATEST_LIMIT", "bindings/python/instants/_library.py", rf"^GREATEST_LIMIT = {NUMBER}$"),
-    ("GREATEST_LIMIT", "packaging/instants.bash", rf"^ *3\) words='100 {NUMBER}' ;;"),
     ("VERSION", "crates/instants_c/src/lib.rt", rf"^const VERSION: u32 = {NUMBER};"),
     ("GREATEST_LIMIT", "bindings/rust/sys/src/lib.rs", rf"^pub const GREATEST_LIMIT: usize = {NUMBER};"),
     ("VERSION", "bindings/rust/sys/src/lib.rs", rf"^pub const VERSION: u32 = {NUMBER};"),

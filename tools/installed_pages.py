@@ -8,7 +8,7 @@ SOURCES = re.compile(r"^<!-- sources -->\n.*?^<!-- /sources -->\n+|<!-- sources 
 INSTALLED = tuple((re.compile(before, re.M), after) for before, after in (
     (r"-I include (\S+) crates/instants_c/out/libinstants\.a", r"\1 -linstants"),
     (r"^export INSTANTS_LIBRARY=\S+ PYTHONPATH=\S+\n|\bINSTANTS_LIBRARY=crates\S+ PYTHONPATH=bindings/python ", ""),
-    (r"\./(instants(?:-lines)?)\b(?![./])", r"\1"),
+    (r"\./(instants(?:-lines|-merge)?)\b(?![./])", r"\1"),
     (r"man \./docs/([\w-]+)\.\d", r"man \1"),
     (r"crates/description_check/out/description_check", "description_check"),
     (r"make -C bindings/postgres && sudo make -C bindings/postgres install",

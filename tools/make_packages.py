@@ -28,7 +28,9 @@ DOCUMENTS = ("README.md", "SECURITY.md", "docs/GUIDE.md", "docs/FORMATS.md", "do
              "docs/CLAIMS.md", "docs/PROMISES.md", "docs/DIFFERENCES.md", "docs/PEERS.md", "docs/SPEED.md")
 # The pictures of these documents.
 PICTURES = ("docs/speed.svg",)
-PAGES = ("instants.1", "instants-lines.1", "instants-descriptions.7")
+PAGES = ("instants.1", "instants-lines.1", "instants-merge.1", "instants-descriptions.7")
+# The script over the programs, and what it calls.
+SCRIPT, HELPERS = "instants-merge", ("follow_logs.py",)
 # Which of the bindings are handed on as sources.
 SOURCES = ("c", "postgres", "rust", "sqlite")
 # What each package has: the licence, and the notice of whose code is in it. The crates for Rust have copies of their own.
@@ -118,12 +120,16 @@ def lay_out_documents(folder: pathlib.Path) -> None:
 
 def lay_out(top: pathlib.Path) -> None:
     """Lays out the archive's folder."""
-    for name in ("Makefile", "instants.bash"):
-        put(PACKAGING / name, top / name)
+    put(PACKAGING / "Makefile", top / "Makefile")
+    for file in (PACKAGING / "completions").iterdir():
+        put(file, top / "completions" / file.name)
     put_text((PACKAGING / "instants.pc.in").read_text().replace("@VERSION@", version()), top / "instants.pc.in")
     for name, program in programs().items():
         put(program.file, top / "bin" / name)
         run(["strip", "--strip-unneeded", "--remove-section=.comment", top / "bin" / name])
+    put(ROOT / SCRIPT, top / "bin" / SCRIPT)
+    for name in HELPERS:
+        put(ROOT / "tools" / name, top / "helpers" / name)
     for name in (build_library.ARCHIVE, build_library.SHARED):
         put(build_library.out() / name, top / "lib" / name)
     put(ROOT / "include" / "instants.h", top / "include" / "instants.h")

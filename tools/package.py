@@ -5,8 +5,8 @@
 
 They are put into FOLDER (`packages` in the system's temporary folder if left out): by debhelper
 
-- `instants_VERSION_amd64.deb`: the programs `instants` and `instants-lines`, their manual pages, bash's completion of their
-  words and the documents; and `description_check` too, where its program is current (tools/build_program.py description_check);
+- `instants_VERSION_amd64.deb`: the programs `instants` and `instants-lines`, the script `instants-merge`, their manual pages,
+  completions of their words for bash, zsh and fish, and the documents; and `description_check` too, where its program is current (tools/build_program.py description_check);
 - `libinstants0`: the shared library; `libinstants-dev`: the static one, the header, a file for pkg-config, and as examples
   programs in C and the functions for SQLite and PostgreSQL; `python3-instants`: the package for Python;
 

@@ -10,6 +10,7 @@ The table of wrong arguments is a test of the gate (crates/instants_lines_tests/
 - a pipe whose reader has ended is no news: status 1, and nothing on standard error;
 - a description that names no component is warned of, before it is refused with status 2;
 - packed input is warned of, and lines none of which is dated, where they stand after keys; `-q` keeps this silent;
+- `--count` says how many lines have which key, and the least and the greatest, in the modes that write keys, and is refused in others;
 - `--help`, `-h` and `--version` alone are answered on standard output with status 0, as ./instants-lines answers them.
 """
 
@@ -104,6 +105,42 @@ def test_packed_input(instants_lines: pathlib.Path) -> None:
 )
 def test_lines_without_a_date(instants_lines: pathlib.Path, words: str, lines: str, text: str, is_told: bool) -> None:
     assert call(instants_lines, *words.split(), input=lines) == (0, text, UNDATED if is_told else "")
+
+
+@pytest.mark.parametrize(
+    "words, lines, counts",
+    [
+        ("key rfc3339", "", "0 dated, 0 none, 0 doubt, 0 year"),
+        ("key rfc3339", "x\n2021-01-02T03:04:05Zx\n", "0 dated, 1 none, 1 doubt, 0 year"),
+        ("key -23:59 rfc3339", "0000-01-01T00:00:00Z\n", "0 dated, 0 none, 0 doubt, 1 year"),
+        (
+            "carry rfc3339",
+            "2021-01-02T03:04:05Z\n2020-01-02T03:04:05Z\nx\n2022-01-02T03:04:05Z",
+            "4 dated, 0 none, 0 doubt, 0 year, 2020-01-02T03:04:05.000000000Z to 2022-01-02T03:04:05.000000000Z",
+        ),
+        (
+            "locate +01:00 rfc3339",
+            "2021-01-02T03:04:05Z\n",
+            "1 dated, 0 none, 0 doubt, 0 year, 2021-01-02T04:04:05.000000000+01:00 to 2021-01-02T04:04:05.000000000+01:00",
+        ),
+    ],
+)
+def test_counts(instants_lines: pathlib.Path, words: str, lines: str, counts: str) -> None:
+    said = f"instants-lines: {counts}\n"
+    assert call(instants_lines, "-q", "--count", *words.split(), input=lines)[::2] == (0, said)
+    assert call(instants_lines, "--count", *words.split(), input=lines)[2] in (said, said + UNDATED)
+
+
+def test_counts_of_many_lines(instants_lines: pathlib.Path) -> None:
+    lines = "".join(f"2021-01-02T03:{at // 60 % 60:02}:{at % 60:02}Z {'x' * (at % 777)}\n" for at in range(5000))
+    said = "instants-lines: 5000 dated, 0 none, 0 doubt, 0 year, 2021-01-02T03:00:00.000000000Z to 2021-01-02T03:59:59.000000000Z\n"
+    assert call(instants_lines, "--count", "key", "rfc3339", input=lines)[::2] == (0, said)
+
+
+@pytest.mark.parametrize("words", ["guess", "replace rfc3339", "explain rfc3339", ""])
+def test_nothing_to_count(instants_lines: pathlib.Path, words: str) -> None:
+    said = "instants-lines: --count: modes key, carry and locate have keys to count\n"
+    assert call(instants_lines, "--count", *words.split()) == (2, "", said)
 
 
 def test_quiet_about_a_description(instants_lines: pathlib.Path) -> None:

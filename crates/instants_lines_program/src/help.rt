@@ -6,8 +6,8 @@ ghost use Rattle.std.specs.Str.{bytes_eq};
 pub(crate) const VERSION: &str = "instants-lines 0.1.0";
 
 pub(crate) const HELP: &str = "\
-instants-lines [-q] MODE [TARGET [ASSUMED [LIMIT]]] [year N] [time HH:MM]
-               [label TEXT] SOURCE...
+instants-lines [-q] [--count] MODE [TARGET [ASSUMED [LIMIT]]] [year N]
+               [time HH:MM] [label TEXT] SOURCE...
     reads lines from standard input, finds the date-time of each, and writes
     the line to standard output with that at one offset
 instants-lines guess
@@ -18,6 +18,8 @@ instants-lines guess
 
     -q       no warnings: of a description that names no component, of packed
              input, and of lines none of which has a date
+    --count  says on standard error at the end how many lines have which key in
+             the modes key, carry and locate, and the least and the greatest
     MODE     key      the line after the date-time and a tab; `! none` where it
                       has no date-time, `! doubt` where that is in doubt, `! year`
                       where the year is not written
@@ -57,11 +59,12 @@ Formats by name, each a language and a description (FORMATS.md):";
 /// The text that a word alone asks for.
 pub(crate) fn text_for(word: &str) -> Option<&'static str>
     ensures asked { is_some result
-        ≡ (bytes_eq word.now (codes "--help") || (bytes_eq word.now (codes "-h") || bytes_eq word.now (codes "--version"))) }
+        ≡ (bytes_eq word.now (codes "--help") || (bytes_eq word.now (codes "-h")
+        || (bytes_eq word.now (codes "--version") || bytes_eq word.now (codes "-V")))) }
 {
     match word {
         "--help" | "-h" => Some(HELP),
-        "--version" => Some(VERSION),
+        "--version" | "-V" => Some(VERSION),
         _ => None,
     }
 }

@@ -1,19 +1,23 @@
-//! `instants-lines [-q] MODE [TARGET [ASSUMED [LIMIT]]] [year N] [time HH:MM] SOURCE...`: reads lines with dates in them from
-//! standard input, and writes each to standard output: after the date-time at the target offset, or with that in place of
-//! its date. `instants-lines guess`: writes which formats date the lines of standard input.
+//! `instants-lines [-q] [--count] MODE [TARGET [ASSUMED [LIMIT]]] [year N] [time HH:MM] SOURCE...`: reads lines with dates in
+//! them from standard input, and writes each to standard output: after the date-time at the target offset, or with that in
+//! place of its date. `instants-lines guess`: writes which formats date the lines of standard input.
 #![tactic(auto)]
 
 mod bare;
+mod counting;
 mod help;
+mod hints;
 mod noting;
+mod options;
 mod packed;
-mod watching;
 
 use crate::bare::warn_of_bare;
+use crate::counting::{Counting, Counts};
 use crate::help::{HELP, text_for};
+use crate::hints::hint;
 use crate::noting::Noting;
+use crate::options::Options;
 use crate::packed::Looking;
-use crate::watching::{Watching, asks_keys, warn_of_undated};
 use instants_formats::formats;
 use instants_guess::guess;
 use instants_lines::{
@@ -79,33 +83,36 @@ fn shown(rt: &HostRuntime, text: &str) -> ExitCode {
 fn write_input(rt: &HostRuntime, words: &Vec<String>) -> ExitCode {
     let words = words.iter().skip(1).map(|word| word.as_str());
     match words.collect::<Vec<&str>>(rt.alloc()) {
-        Ok(words) => write_quietly(rt, words.as_slice()),
+        Ok(words) => write_as_asked(rt, words.as_slice()),
         Err(fault) => ended(rt, Err(LinesFault::from(fault)), None),
     }
 }
 
-// Writes what these words ask for; after `-q` without warnings.
-fn write_quietly(rt: &HostRuntime, words: &[&str]) -> ExitCode {
-    match words {
-        [first, others @ ..] if *first == "-q" => write_by(rt, others, true),
-        _ => {
-            warn_of_bare(rt, words);
-            write_by(rt, words, false)
-        }
+// Writes what the words after the options ask for.
+fn write_as_asked(rt: &HostRuntime, words: &[&str]) -> ExitCode {
+    let (options, words) = Options::read(words);
+    if !options.is_quiet {
+        warn_of_bare(rt, words);
     }
+    if options.counts && !asks_keys(words) {
+        let _ = eprintln!(rt;
+            "instants-lines: --count: modes key, carry and locate have keys to count"
+        );
+        return ExitCode::from(2);
+    }
+    write_by(rt, words, options)
 }
 
 // Writes what these words ask for.
-fn write_by(rt: &HostRuntime, words: &[&str], is_quiet: bool) -> ExitCode {
+fn write_by(rt: &HostRuntime, words: &[&str], options: Options) -> ExitCode {
     let Ok(block) = vec![in rt.alloc(); 0; BLOCK] else {
         return ended(rt, Err(LinesFault::Program(ProgramFault::Memory)), None);
     };
     let Ok(own_rt) = rt.clone() else {
         return ended(rt, Err(LinesFault::Program(ProgramFault::Memory)), None);
     };
-    let mut input = Noting::new(Looking::new(own_rt, rt.stdin(), is_quiet));
-    let is_asked = !is_quiet && asks_keys(words);
-    let mut output = Noting::new(Watching::new(rt.stdout(), is_asked));
+    let mut input = Noting::new(Looking::new(own_rt, rt.stdin(), options.is_quiet));
+    let mut output = Noting::new(Counting::new(rt.stdout(), options.asked(asks_keys(words))));
     let mut reader = StdReader::new(&mut input);
     let mut writer = BlockWriter::new(block, StdWriter::new(&mut output));
     let end = if asks_guess(words) {
@@ -118,10 +125,31 @@ fn write_by(rt: &HostRuntime, words: &[&str], is_quiet: bool) -> ExitCode {
     };
     drop(writer);
     drop(reader);
-    if end.is_ok() && output.inner().is_undated() {
-        warn_of_undated(rt);
+    if end.is_ok() {
+        tell(rt, output.inner().counts(), options);
     }
     ended(rt, end, output.failure().or(input.failure()))
+}
+
+// Says how many lines have which key, where that is asked, and that none is dated. Where this can't be printed the run has
+// ended well all the same.
+fn tell(rt: &HostRuntime, counts: &Counts, options: Options) {
+    if options.counts {
+        let _ = eprintln!(rt; "instants-lines: {counts}");
+    }
+    if !options.is_quiet && counts.is_undated() {
+        let _ = eprintln!(rt;
+            "instants-lines: warning: no line has a date that these sources read: try instants-lines guess < FILE"
+        );
+    }
+}
+
+// Whether the words ask for lines after keys.
+fn asks_keys(words: &[&str]) -> bool {
+    match words {
+        [mode, ..] => matches!(*mode, "key" | "carry" | "locate"),
+        [] => false,
+    }
 }
 
 // Whether the words ask which formats date the lines.
@@ -144,5 +172,8 @@ fn ended(rt: &HostRuntime, end: Result<(), LinesFault>, failure: Option<ErrorKin
         (LinesFault::Program(ProgramFault::Run(_)), Some(kind)) => eprintln!(rt; "{fault}: {kind}"),
         _ => eprintln!(rt; "{fault}"),
     };
+    if let Some(hint) = hint(&fault) {
+        let _ = eprintln!(rt; "instants-lines: hint: {hint}");
+    }
     ExitCode::from(fault.status())
 }

@@ -1,0 +1,142 @@
+//! What to do where the words are wrong, as a second sentence after that of the fault.
+
+ghost use Rattle.std.specs.Prelude.{◌≤◌, length};
+
+use instants_formats::formats;
+use instants_lines::{LinesFault, WrongWords};
+use instants_prefixes::Lack;
+use std::fmt::{self, Display, Formatter};
+
+/// What to do.
+#[derive(Clone, Copy)]
+pub enum Hint {
+    Do(&'static str),
+    /// There is a format with a name that is near.
+    Name(&'static str),
+}
+
+impl Display for Hint {
+    fn fmt<F: fmt::Write>(&self, f: &mut Formatter<F>) -> fmt::Result {
+        match self {
+            Hint::Do(text) => f.write_str(text),
+            Hint::Name(name) => write!(f, "there is a source {name}"),
+        }
+    }
+}
+
+/// What to do about a fault, where that can be said.
+pub fn hint(fault: &LinesFault<'_>) -> Option<Hint> {
+    match fault {
+        LinesFault::Words(wrong) => hint_on_words(wrong),
+        LinesFault::Lacks(lacking) => hint_on_lack(lacking.lack),
+        LinesFault::Program(_) => None,
+    }
+}
+
+fn hint_on_words(wrong: &WrongWords<'_>) -> Option<Hint> {
+    match wrong {
+        WrongWords::UnknownMode(word) => hint_on_mode(word),
+        WrongWords::Year(_) => {
+            Some(Hint::Do("the year of the first line stands after year, as year 2024"))
+        }
+        WrongWords::Source { word, .. } | WrongWords::FirstSource(word) => hint_on_source(word),
+        _ => None,
+    }
+}
+
+fn hint_on_lack(lack: Lack) -> Option<Hint> {
+    match lack {
+        Lack::Year => Some(Hint::Do("give that of the first line before the sources: year 2024")),
+        Lack::Time => Some(Hint::Do("give one before the sources: time 00:00")),
+        Lack::Offset => Some(Hint::Do("give one after the target: +00:00 +02:00")),
+        Lack::Day => None,
+    }
+}
+
+fn hint_on_mode(word: &str) -> Option<Hint> {
+    if word == "guess" {
+        return Some(Hint::Do("guess has no other arguments: instants-lines guess < FILE"));
+    }
+    match near(word) {
+        Some(_) => Some(Hint::Do("a mode stands before the sources: instants-lines key SOURCE..")),
+        None => None,
+    }
+}
+
+fn hint_on_source(word: &str) -> Option<Hint> {
+    match word {
+        "year" | "time" | "label" => {
+            let order = "year N, time HH:MM and label TEXT stand in this order before the sources";
+            Some(Hint::Do(order))
+        }
+        _ => Some(Hint::Name(near(word)?)),
+    }
+}
+
+// What programs are called whose formats have other names.
+static PROGRAMS: [(&str, &str); 12] = [
+    ("nginx", "access-log"),
+    ("apache", "access-log"),
+    ("httpd", "access-log"),
+    ("clf", "access-log"),
+    ("django", "python-logging"),
+    ("spring", "postgres"),
+    ("journalctl", "syslog"),
+    ("rsyslog", "syslog"),
+    ("kubernetes", "klog"),
+    ("epoch", "unix-time"),
+    ("email", "rfc2822"),
+    ("iso", "iso8601"),
+];
+
+static FORMATS: [&str; 3] = ["rfc3339", "rfc2822", "iso8601"];
+
+// The name of a source that is near a word: that of what a program writes, or one that begins as the word does.
+fn near(word: &str) -> Option<&'static str> {
+    for (program, name) in PROGRAMS.iter() {
+        if word == *program {
+            return Some(*name);
+        }
+    }
+    for name in FORMATS.iter() {
+        if begin_alike(word, name) {
+            return Some(*name);
+        }
+    }
+    for format in formats() {
+        if begin_alike(word, format.name) {
+            return Some(format.name);
+        }
+    }
+    None
+}
+
+// The bytes from the next letter or digit on.
+fn from_letter(text: &[u8]) -> &[u8]
+    ensures { length result.now ≤ length text.now }
+{
+    let mut rest = text;
+    while let [first, others @ ..] = rest {
+        if first.is_ascii_alphanumeric() {
+            break;
+        }
+        rest = others;
+    }
+    rest
+}
+
+// Whether one of two words begins as the other one, by three letters or more of either case, whatever marks stand between.
+fn begin_alike(one: &str, other: &str) -> bool {
+    let mut one = from_letter(one.as_bytes());
+    let mut other = from_letter(other.as_bytes());
+    let mut count = 0_usize;
+    while let ([first, ones @ ..], [second, others @ ..]) = (one, other) {
+        if !first.eq_ignore_ascii_case(second) {
+            return false;
+        }
+        one = from_letter(ones);
+        other = from_letter(others);
+        count = count.saturating_add(1);
+    }
+    count >= 3
+}
