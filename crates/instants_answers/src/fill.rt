@@ -71,7 +71,8 @@ fn put_clock(room: &mut [u8], minute: usize, second: u32, fraction: Fraction)
     put_first(room, 10, &row(minute), 7);
     put(room, 17, &two_digits(second));
     put(room, 19, b".");
-    put(room, 20, &fraction.digits());
+    // (one store of sixteen bytes)
+    put_first(room, 20, &fraction.padded_digits(), 9);
 }
 
 // Puts the line of a day of the fields' month, a minute of it, and the fields' second and fraction at the start of a room.

@@ -7,9 +7,6 @@ ghost use Rattle.instants_lines.specs.Wrote.{Wrote};
 use instants_answers::Answer;
 use instants_stream::{ByteWriter, DeviceFailed};
 
-// One byte, in the storage of a prefix, which is written in fewer instructions than a slice.
-static LINE_FEED: [u8; 64] = *b"\n                                                               ";
-
 /// Writes two parts.
 #[inline(always)]
 #[tactic(auto, using(crate::proofs::Turns::in_turn))]
@@ -91,7 +88,7 @@ fn write_fed<W: ByteWriter>(writer: &mut W, line: &[u8]) -> Result<(), DeviceFai
     ensures { Wrote W.ByteWriter writer.old writer.new result (line.now ++ line_feed ∷ []) }
 {
     writer.write_all(line)?;
-    writer.write_prefix(&LINE_FEED, 1)
+    writer.write_byte(b'\n')
 }
 
 // The same after a label; a line without one has a way of its own.

@@ -180,6 +180,23 @@ impl<W: ByteWriter> BlockWriter<W> {
         self.write_all(&bytes[..len])
     }
 
+    // Writes one byte where the block has no room for it.
+    #[cold]
+    #[inline(never)]
+    fn write_byte_past_end(&mut self, byte: u8) -> Result<(), DeviceFailed>
+        requires { W.failed self.old.inner ≡ false }
+        ensures written { OnOk result
+            (Appends (held_by W.held self.old) (held_by W.held self.new) (byte ∷ [])) }
+        ensures ok { OnOk result (W.failed self.new.inner ≡ W.failed self.old.inner) }
+        ensures unflushed { OnOk result
+            (⟦<BlockWriter<W> as ByteWriter>⟧.flushed self.new ≡ false) }
+        ensures prefix { OnErr result
+            (AppendsPrefix (held_by W.held self.old) (held_by W.held self.new) (byte ∷ [])) }
+        ensures err { OnErr result (W.failed self.new.inner ≡ true) }
+    {
+        self.write_all(&[byte])
+    }
+
     // Writes the answer to a line, and a line feed, where the block has no room for 64 bytes.
     #[cold]
     #[inline(never)]
@@ -262,6 +279,17 @@ impl<W: ByteWriter> ByteWriter for BlockWriter<W> {
             self.write_block()?;
         }
         self.inner.hand_on()
+    }
+
+    #[inline(always)]
+    fn write_byte(&mut self, byte: u8) -> Result<(), DeviceFailed> {
+        if self.end == self.block.len() {
+            self.write_byte_past_end(byte)?;
+            return Ok(());
+        }
+        self.is_flushed = false;
+        self.gather(&[byte]);
+        Ok(())
     }
 
     // All 64 bytes are put into the block, which needs no test of how many they are.

@@ -129,6 +129,20 @@ pub trait ByteWriter {
         Ok(())
     }
 
+    /// Writes one byte.
+    #[inline(always)]
+    fn write_byte(&mut self, byte: u8) -> Result<(), DeviceFailed>
+        requires { failed self.old ≡ false }
+        ensures written { OnOk result (Appends (held self.old) (held self.new) (byte ∷ [])) }
+        ensures ok { OnOk result (failed self.new ≡ failed self.old) }
+        ensures unflushed { OnOk result (flushed self.new ≡ false) }
+
+        ensures prefix { OnErr result (AppendsPrefix (held self.old) (held self.new) (byte ∷ [])) }
+        ensures err { OnErr result (failed self.new ≡ true) }
+    {
+        self.write_all(&[byte])
+    }
+
     /// Writes all of the first `len` bytes. The first write that fails ends it, and a prefix of them is written.
     ///
     /// A writer into memory can copy all 64 bytes, whatever the length is, which takes fewer instructions.

@@ -1,6 +1,10 @@
 //! The devices at work: what they move, and when they fail.
 
-use instants_stream::{ByteReader, ByteWriter, CutReader, CutWriter, DeviceFailed, StdReader};
+ghost use Rattle.std.specs.Prelude.{◌<◌, vec_len};
+
+use instants_stream::{
+    BlockWriter, ByteReader, ByteWriter, CutReader, CutWriter, DeviceFailed, StdReader,
+};
 
 // How many bytes reads of four give in all until one gives none or fails, and whether the reader has failed.
 fn read(most: usize, fail_after: Option<usize>) -> (usize, bool) {
@@ -57,6 +61,33 @@ static WRITES: [(&[u8], Option<usize>, ([u8; 6], usize)); 4] = [
 fn cut_writer(rt: HostRuntime) {
     for row in &WRITES {
         assert!(rt; written(row.0, row.1) == row.2);
+    }
+}
+
+// What stands in six bytes of space after bytes are written one by one, by way of a block.
+fn written_one_by_one(block: Vec<u8>, bytes: &[u8]) -> [u8; 6]
+    requires { 0 < vec_len block }
+{
+    let mut space = [0; 6];
+    {
+        let mut writer = BlockWriter::new(block, CutWriter::new(&mut space, 4, None));
+        for byte in bytes {
+            if !writer.has_failed() {
+                let _ = writer.write_byte(*byte);
+            }
+        }
+        if !writer.has_failed() {
+            let _ = writer.flush();
+        }
+    }
+    space
+}
+
+#[test]
+fn bytes_one_by_one(rt: HostRuntime) {
+    for size in [1, 2, 9] {
+        let block = vec![in rt.alloc(); 0; size].expect(&rt, "memory");
+        assert!(rt; written_one_by_one(block, b"abcde") == *b"abcde\0");
     }
 }
 

@@ -319,10 +319,24 @@ impl Places {
             (λ x. NamesPrefix m (beginning assumed) line.now x.1.now (moment_of x.0)) }
         ensures end { IfSome result (λ x. EndsWith line.now x.1.now) }
     {
-        if line.len() >= self.plain_length {
-            let fields = self.plain_fields(line)?;
-            return Some((fields, from(line, self.plain_length)));
+        if line.len() < self.plain_length {
+            return self.read_any_prefix(line, assumed);
         }
+        let fields = self.plain_fields(line)?;
+        Some((fields, from(line, self.plain_length)))
+    }
+
+    // The same for all places.
+    #[inline(never)]
+    fn read_any_prefix<'l>(
+        &self,
+        line: &'l [u8],
+        assumed: Option<UtcOffset>,
+    ) -> Option<(Fields, &'l [u8])>
+        ensures prefix { (m : Meaning) → ArePlacesOf m self.now → IfSome result
+            (λ x. NamesPrefix m (beginning assumed) line.now x.1.now (moment_of x.0)) }
+        ensures end { IfSome result (λ x. EndsWith line.now x.1.now) }
+    {
         let minutes = Minutes::assumed(self.front.beside.has_offset, assumed)?;
         if let Some(back) = &self.back {
             let (end, count) = split_end(&self.front.shape, back, line)?;

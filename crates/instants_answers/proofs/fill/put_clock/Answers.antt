@@ -18,5 +18,5 @@ returns-clause-text c =
     let next : take 19 c.put.new.room ≡ (date ++ minute) ++ second = after_text 17 2 c.put_first.new.room c.put.new.room c.two_digits.result second (date ++ minute) c.two_digits.ensures (decimal_length 2 c.args.second) first c.put.ensures.prefix in
     let point : take 20 c.put-2.new.room ≡ ((date ++ minute) ++ second) ++ dot ∷ [] = after_text 19 1 c.put.new.room c.put-2.new.room (dot ∷ []) (dot ∷ []) ((date ++ minute) ++ second) refl refl next c.put-2.ensures.prefix in
     let nine = decimal 9 c.args.fraction in
-    let all : take 29 c.put-3.new.room ≡ (((date ++ minute) ++ second) ++ dot ∷ []) ++ nine = after_text 20 9 c.put-2.new.room c.put-3.new.room c.digits.result nine (((date ++ minute) ++ second) ++ dot ∷ []) c.digits.ensures.text (decimal_length 9 c.args.fraction) point c.put-3.ensures.prefix in
+    let all : take 29 c.put_first-2.new.room ≡ (((date ++ minute) ++ second) ++ dot ∷ []) ++ nine = c.put_first-2.ensures.prefix ∙ ap (λ l. take 20 c.put-2.new.room ++ l) c.padded_digits.ensures.text ∙ ap (λ l. l ++ nine) point in
     all ∙ clock_text date nine c.args.minute c.args.second c.args.fraction c.requires.second refl

@@ -1,6 +1,5 @@
-use Rattle.std.proofs.Common.{◌≡◌, ◌+◌, ◌≤◌, ◌∷◌, [], ◌++◌, take, length, ap, ◌∙◌, arith, rules}
+use Rattle.std.proofs.Common.{◌∷◌, [], ◌++◌, ap, ◌∙◌, arith}
 use Rattle.instants_answers.specs.Text.{offset_text}
-use Rattle.instants_answers.specs.Padded.{offset_len}
 use Rattle.instants_answers.proofs.TargetLemmas.{text_small, ended_prefix}
 use Rattle.instants_answers.proofs.target.Target.line_end.Goals as goal
 

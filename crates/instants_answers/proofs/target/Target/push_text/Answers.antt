@@ -1,4 +1,4 @@
-use Rattle.std.proofs.Common.{◌≡◌, ℕ, ◌-◌, List, ◌++◌, take, drop, length, ap, ◌∙◌, arith, length-append}
+use Rattle.std.proofs.Common.{◌≡◌, ℕ, List, ◌++◌, take, drop, length, ap, ◌∙◌, arith, length-append}
 use Rattle.instants_answers.specs.Text.{offset_text}
 use Rattle.instants_answers.specs.Padded.{offset_len}
 use Rattle.instants_answers.proofs.TargetLemmas.{text_len, text_few, padded_len, text_prefix, text_zeros}
