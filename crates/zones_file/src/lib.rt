@@ -1,0 +1,10 @@
+//! Zones from TZif files, RFC 9636: their tables, their abbreviations, and what a file's fault is.
+#![tactic(auto)]
+
+mod bytes;
+mod fault;
+mod layout;
+mod table;
+
+pub use fault::ZoneFault;
+pub use layout::FILE_LIMIT;
