@@ -3,6 +3,7 @@
 
 mod bytes;
 mod fault;
+mod footer;
 mod layout;
 mod table;
 

@@ -1,0 +1,15 @@
+-- Footers, RFC 9636, section 3.3.
+use Rattle.std.specs.Prelude.{ℕ, ◌==◌, List, [], ◌∷◌, take, drop, position, Option, Some, None, option_map, if◌then◌else◌}
+use Rattle.zones_file.specs.declared.layout.Layout.{Layout}
+
+-- a line feed, and what stands before the next
+abbrev pub up_to_line_feed : List ℕ → Option (List ℕ)
+up_to_line_feed bytes = option_map (λ length. take length bytes) (position (λ byte. byte == 10) bytes)
+
+unfoldable pub line_of : List ℕ → Option (List ℕ)
+line_of [] = None
+line_of (byte ∷ bytes) = if byte == 10 then up_to_line_feed bytes else None
+
+-- the text of the rule, which is empty where there is none, as in version 1
+abbrev pub footer_text : List ℕ → Layout → Option (List ℕ)
+footer_text bytes layout = if layout.time_size == 4 then Some [] else line_of (drop layout.end bytes)
