@@ -1,0 +1,3 @@
+pub mod Offsets
+pub mod Pieces
+pub mod Grammar
