@@ -183,30 +183,23 @@ fn read_summer(standard: i32, text: &[u8]) -> Option<(Summer, &[u8])>
     Some((Summer { offset, start, end }, rest))
 }
 
-/// The rule that a whole text is.
-#[tactic(auto, unfolding(crate::specs::Grammar::rule, crate::specs::Grammar::with_summer, crate::specs::Pieces::at_end))]
-pub fn read_rule(text: &[u8]) -> Option<Footer<'_>>
-    ensures read { option_map Grammar.footer_view result ≡ Grammar.rule_of text.now }
+// The rule of a text whose standard time was read, and whose rest is its summer time.
+#[tactic(auto, unfolding(crate::specs::Grammar::with_summer))]
+fn read_with_summer<'a>(
+    standard_name: &'a [u8],
+    standard: i32,
+    text: &'a [u8],
+) -> Option<Footer<'a>>
+    requires { IsWithin 90_000 standard }
+    ensures read { option_map Grammar.footer_view result
+        ≡ Pieces.whole (Grammar.with_summer standard_name.now standard text.now) }
     ensures offsets { IfSome result (λ footer. AreOffsets footer.rule) }
 {
-    let (standard_name, rest) = read_name(text)?;
-    let (standard, rest) = read_offset(rest)?;
-    if rest.is_empty() {
-        let rule = Rule {
-            standard,
-            summer: None,
-        };
-        return Some(Footer {
-            rule,
-            standard_name,
-            summer_name: rest,
-        });
-    }
-    let (summer_name, rest) = read_name(rest)?;
+    let (summer_name, rest) = read_name(text)?;
     let (summer, rest) = read_summer(standard, rest)?;
-    if !rest.is_empty() {
+    let [] = rest else {
         return None;
-    }
+    };
     let rule = Rule {
         standard,
         summer: Some(summer),
@@ -216,4 +209,26 @@ pub fn read_rule(text: &[u8]) -> Option<Footer<'_>>
         standard_name,
         summer_name,
     })
+}
+
+/// The rule that a whole text is.
+#[tactic(auto, unfolding(crate::specs::Grammar::rule, crate::specs::Pieces::at_end))]
+pub fn read_rule(text: &[u8]) -> Option<Footer<'_>>
+    ensures read { option_map Grammar.footer_view result ≡ Grammar.rule_of text.now }
+    ensures offsets { IfSome result (λ footer. AreOffsets footer.rule) }
+{
+    let (standard_name, rest) = read_name(text)?;
+    let (standard, rest) = read_offset(rest)?;
+    let [_, ..] = rest else {
+        let rule = Rule {
+            standard,
+            summer: None,
+        };
+        return Some(Footer {
+            rule,
+            standard_name,
+            summer_name: rest,
+        });
+    };
+    read_with_summer(standard_name, standard, rest)
 }
