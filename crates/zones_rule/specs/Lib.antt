@@ -1,3 +1,4 @@
 pub mod Offsets
 pub mod Pieces
 pub mod Grammar
+pub mod Years

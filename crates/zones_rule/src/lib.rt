@@ -4,6 +4,7 @@
 mod cut;
 mod footer;
 mod rule;
+mod years;
 
 pub use footer::{Footer, read_rule};
 pub use rule::{Change, Day, Rule, Summer};
