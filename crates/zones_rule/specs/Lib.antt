@@ -2,3 +2,4 @@ pub mod Offsets
 pub mod Pieces
 pub mod Grammar
 pub mod Years
+pub mod Transitions

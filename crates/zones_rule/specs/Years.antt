@@ -1,5 +1,5 @@
 -- The instants at which a rule changes the clock in a year: POSIX.1-2024, section 8.3, `TZ`. Days are counted from 0001-01-01, which is a Monday.
-use Rattle.std.specs.Prelude.{ℕ, ◌+◌, ◌-◌, ◌*◌, ◌/◌, ◌%◌, ◌==◌, ◌&&◌, ◌||◌, not, Bool, true, false, nat_lt, int_lt, int_le, ℤ, pos, ◌+ℤ◌, ◌-ℤ◌, ◌*ℤ◌, if◌then◌else◌, List, [], ◌∷◌, get_or}
+use Rattle.std.specs.Prelude.{ℕ, ◌+◌, ◌-◌, ◌*◌, ◌/◌, ◌%◌, ◌==◌, ◌&&◌, ◌||◌, not, Bool, true, false, nat_lt, int_le, ℤ, pos, ◌+ℤ◌, ◌-ℤ◌, ◌*ℤ◌, if◌then◌else◌, List, [], ◌∷◌, get_or}
 use Rattle.zones_rule.specs.declared.rule.Day.{Day}
 use Rattle.zones_rule.specs.declared.rule.Day.TheVariants.{Julian, Numbered, Weekday}
 use Rattle.zones_rule.specs.declared.rule.Change.{Change}
@@ -59,8 +59,12 @@ unfoldable pub end_in : ℤ → Summer → ℕ → Transition
 end_in standard summer year = record { at = instant_in summer.end year summer.offset; is_summer = false }
 
 -- a year's two transitions in the order of their instants
+abbrev pub paired : Bool → Transition → Transition → Transition × Transition
+paired true start end = (start, end)
+paired false start end = (end, start)
+
 abbrev pub in_order : Transition → Transition → Transition × Transition
-in_order one other = if int_le one.at other.at then (one, other) else (other, one)
+in_order start end = paired (int_le start.at end.at) start end
 
 unfoldable pub transitions_in : ℤ → Summer → ℕ → Transition × Transition
 transitions_in standard summer year = in_order (start_in standard summer year) (end_in standard summer year)

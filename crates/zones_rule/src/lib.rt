@@ -7,4 +7,4 @@ mod rule;
 mod years;
 
 pub use footer::{Footer, read_rule};
-pub use rule::{Change, Day, Rule, Summer};
+pub use rule::{Change, Day, Names, Rule, Summer};

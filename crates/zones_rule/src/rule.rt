@@ -33,3 +33,10 @@ pub struct Rule {
     pub standard: i32,
     pub summer: Option<Summer>,
 }
+
+/// Where the names of standard and summer time stand among a zone's letters.
+#[derive(Clone, Copy)]
+pub struct Names {
+    pub standard: u16,
+    pub summer: u16,
+}
