@@ -1,0 +1,198 @@
+-- The clock of transitions in order, and of those that are left of them.
+use Rattle.std.proofs.Common.{◌≡◌, ◌⊎◌, inl, inr, subst, ◌-◌, ℕ, zero, suc, ◌+◌, ◌<◌, ◌≤◌, Bool, true, false, refl, ap, ◌∙◌, sym, arith, ℤ, ◌<ℤ◌, ◌≤ℤ◌, int_lt, int_le, List, [], ◌∷◌, ◌++◌, length, map, if◌then◌else◌, Option, Some, None}
+use Rattle.std.proofs.lemmas.Bool.{cases_lt}
+use Rattle.std.proofs.lemmas.Int.{ints}
+use Rattle.zones_clock.specs.declared.zone.Step.{Step}
+use Rattle.zones_clock.specs.Steps.{offset_at, step_at}
+use Rattle.zones_rule.specs.declared.rule.Summer.{Summer}
+use Rattle.zones_rule.specs.declared.rule.Names.{Names}
+use Rattle.zones_rule.specs.declared.years.Transition.{Transition}
+use Rattle.zones_rule.specs.Years.{start_in, end_in, paired, transitions_in}
+use Rattle.zones_rule.specs.Transitions.{years_from, all_years, after, without_overtaken, is_summer_by, offset_when, offset_by, step_of, steps_by, YearsInOrder, IsOfYear, is_between, is_summer_in}
+
+lt-true : (a b : ℤ) → a <ℤ b → int_lt a b ≡ true
+lt-true a b h = grind (arith, ints)
+
+lt-false : (a b : ℤ) → b ≤ℤ a → int_lt a b ≡ false
+lt-false a b h = grind (arith, ints)
+
+-- a first transition that has come, or has not
+begun : (b : Bool) (t : Transition) (rest : List Transition) (m : ℤ) → t.at ≤ℤ m → is_summer_by b (t ∷ rest) m ≡ is_summer_by t.is_summer rest m
+unfolding is_summer_by
+begun b t rest m h = ap (λ v. if v then b else is_summer_by t.is_summer rest m) (lt-false m t.at h)
+
+none_yet : (b : Bool) (m : ℤ) → is_summer_by b [] m ≡ b
+unfolding is_summer_by
+none_yet b m = refl
+
+waits : (b : Bool) (t : Transition) (rest : List Transition) (m : ℤ) → m <ℤ t.at → is_summer_by b (t ∷ rest) m ≡ b
+unfolding is_summer_by
+waits b t rest m h = ap (λ v. if v then b else is_summer_by t.is_summer rest m) (lt-true m t.at h)
+
+-- ---- a year's clock
+
+-- the transitions of a year that has not come change nothing
+years_wait : (standard : ℤ) (summer : Summer) (b : Bool) (year count : ℕ) (m : ℤ) → m <ℤ (transitions_in standard summer year).0.at → is_summer_by b (years_from standard summer year count) m ≡ b
+unfolding years_from
+years_wait standard summer b year zero m h = none_yet b m
+years_wait standard summer b year (suc count) m h = waits b (transitions_in standard summer year).0 ((transitions_in standard summer year).1 ∷ years_from standard summer (year + 1) count) m h
+
+one_or_other : (a b : ℤ) → (a <ℤ b) ⊎ (b ≤ℤ a)
+one_or_other a b = elim (int_lt a b) as (λ v. int_lt a b ≡ v → (a <ℤ b) ⊎ (b ≤ℤ a)) [
+  | true ↦ λ e. inl (grind (arith, ints))
+  | false ↦ λ e. inr (grind (arith, ints))
+] refl
+
+pair_rising : (v : Bool) (start end : Transition) → int_le start.at end.at ≡ v → (paired v start end).0.at ≤ℤ (paired v start end).1.at
+pair_rising true start end e = grind (arith, ints)
+pair_rising false start end e = grind (arith, ints)
+
+pub year_rising : (standard : ℤ) (summer : Summer) (year : ℕ) → (transitions_in standard summer year).0.at ≤ℤ (transitions_in standard summer year).1.at
+unfolding transitions_in
+year_rising standard summer year = pair_rising _ (start_in standard summer year) (end_in standard summer year) refl
+
+-- the transitions of a year come no later than those of each year after it
+years_rising : (standard : ℤ) (summer : Summer) → YearsInOrder standard (Some summer) → (year more : ℕ) → 1 ≤ year → year + more ≤ 9_999 → (transitions_in standard summer year).1.at ≤ℤ (transitions_in standard summer (year + more + 1)).0.at
+years_rising standard summer order year zero some last = rw (let e : year + 0 ≡ year = omega arith in e) (order year some (omega arith))
+years_rising standard summer order year (suc more) some last =
+    let before : (transitions_in standard summer year).1.at ≤ℤ (transitions_in standard summer (year + more + 1)).0.at = years_rising standard summer order year more some (omega arith) in
+    let within : (transitions_in standard summer (year + more + 1)).0.at ≤ℤ (transitions_in standard summer (year + more + 1)).1.at = year_rising standard summer (year + more + 1) in
+    let next : (transitions_in standard summer (year + more + 1)).1.at ≤ℤ (transitions_in standard summer (year + more + 1 + 1)).0.at = order (year + more + 1) (omega arith) (omega arith) in
+    let e : year + suc more ≡ year + more + 1 = omega arith in
+    rw e (omega (arith, ints))
+
+passed : (standard : ℤ) (summer : Summer) → YearsInOrder standard (Some summer) → (from year : ℕ) (m : ℤ) → 1 ≤ from → from < year → IsOfYear standard summer year m → (transitions_in standard summer from).1.at ≤ℤ m
+passed standard summer order from year m some lt is =
+    let e : from + (year - from - 1) + 1 ≡ year = omega arith in
+    let le : (transitions_in standard summer from).1.at ≤ℤ (transitions_in standard summer year).0.at = subst (λ y. (transitions_in standard summer from).1.at ≤ℤ (transitions_in standard summer y).0.at) e (years_rising standard summer order from (year - from - 1) some (let l = is.last in omega arith)) in
+    let h : (transitions_in standard summer year).0.at ≤ℤ m = is.begun in
+    omega (arith, ints)
+
+-- in its year a moment is before the second transition or not
+two_now : (one two : Transition) (b : Bool) (rest : List Transition) (m : ℤ) → one.at ≤ℤ m → ((v : Bool) → is_summer_by v rest m ≡ v) → is_summer_by b (one ∷ two ∷ rest) m ≡ (if int_lt m two.at then one.is_summer else two.is_summer)
+two_now one two b rest m h still = elim (one_or_other m two.at) [
+  | inl lt ↦ begun b one (two ∷ rest) m h ∙ waits one.is_summer two rest m lt ∙ ap (λ v. if v then one.is_summer else two.is_summer) (sym (lt-true m two.at lt))
+  | inr le ↦ begun b one (two ∷ rest) m h ∙ begun one.is_summer two rest m le ∙ still two.is_summer ∙ ap (λ v. if v then one.is_summer else two.is_summer) (sym (lt-false m two.at le))
+]
+
+between_now : (v : Bool) (start end : Transition) (m : ℤ) → start.is_summer ≡ true → end.is_summer ≡ false → (paired v start end).0.at ≤ℤ m → (if int_lt m (paired v start end).1.at then (paired v start end).0.is_summer else (paired v start end).1.is_summer) ≡ is_between v start.at end.at m
+between_now true start end m s e h = grind (arith, ints)
+between_now false start end m s e h = grind (arith, ints)
+
+-- the clock of a moment's year
+year_now : (standard : ℤ) (summer : Summer) (b : Bool) (year : ℕ) (rest : List Transition) (m : ℤ) → (transitions_in standard summer year).0.at ≤ℤ m → ((v : Bool) → is_summer_by v rest m ≡ v) → is_summer_by b ((transitions_in standard summer year).0 ∷ (transitions_in standard summer year).1 ∷ rest) m ≡ is_summer_in standard summer year m
+unfolding transitions_in start_in end_in
+year_now standard summer b year rest m h still =
+    two_now (transitions_in standard summer year).0 (transitions_in standard summer year).1 b rest m h still
+    ∙ between_now _ (start_in standard summer year) (end_in standard summer year) m refl refl h
+
+-- the clock of all years
+year_law : (standard : ℤ) (summer : Summer) (year : ℕ) (m : ℤ) (b : Bool) (from count : ℕ) → YearsInOrder standard (Some summer) → IsOfYear standard summer year m → 1 ≤ from → from ≤ year → year < from + count → is_summer_by b (years_from standard summer from count) m ≡ is_summer_in standard summer year m
+unfolding years_from
+year_law standard summer year m b from zero order is some low high = absurd (omega arith)
+year_law standard summer year m b from (suc count) order is some low high = elim (cases_lt from year) [
+  | inl lt ↦
+      let second : (transitions_in standard summer from).1.at ≤ℤ m = passed standard summer order from year m some lt is in
+      let first : (transitions_in standard summer from).0.at ≤ℤ m = let r : (transitions_in standard summer from).0.at ≤ℤ (transitions_in standard summer from).1.at = year_rising standard summer from in omega (arith, ints) in
+      begun b (transitions_in standard summer from).0 _ m first ∙ begun _ (transitions_in standard summer from).1 _ m second
+      ∙ year_law standard summer year m (transitions_in standard summer from).1.is_summer (from + 1) count order is (omega arith) (omega arith) (omega arith)
+  | inr le ↦
+      let e : year ≡ from = omega arith in
+      let now : IsOfYear standard summer from m = subst (λ y. IsOfYear standard summer y m) e is in
+      subst (λ y. is_summer_by b (years_from standard summer from (suc count)) m ≡ is_summer_in standard summer y m) (sym e)
+      (year_now standard summer b from _ m now.begun (λ v. years_wait standard summer v (from + 1) count m now.next))
+]
+
+-- ---- what is left of the transitions of all years
+
+-- no transition comes before the one before it
+abbrev pub IsRising : List Transition → Type 0
+IsRising [] = Unit {0}
+IsRising (one ∷ []) = Unit {0}
+IsRising (one ∷ (next ∷ rest)) = (one.at ≤ℤ next.at) × IsRising (next ∷ rest)
+
+all_rising : (standard : ℤ) (summer : Summer) → YearsInOrder standard (Some summer) → (year count : ℕ) → 1 ≤ year → year + count ≤ 10_000 → IsRising (years_from standard summer year count)
+unfolding years_from
+all_rising standard summer order year zero some last = tt
+all_rising standard summer order year (suc zero) some last = (year_rising standard summer year, tt)
+all_rising standard summer order year (suc (suc count)) some last = (year_rising standard summer year, (order year some (omega arith), all_rising standard summer order (year + 1) (suc count) (omega arith) (omega arith)))
+
+after_rising : (moment : ℤ) (ts : List Transition) → IsRising ts → IsRising (after moment ts)
+unfolding after
+after_rising moment [] r = tt
+after_rising moment (one ∷ []) r = elim (int_lt moment one.at) as (λ v. IsRising (if v then one ∷ [] else [])) [ true ↦ tt | false ↦ tt ]
+after_rising moment (one ∷ (next ∷ rest)) r = elim (int_lt moment one.at) as (λ v. IsRising (if v then one ∷ (next ∷ rest) else after moment (next ∷ rest))) [
+  | true ↦ r
+  | false ↦ after_rising moment (next ∷ rest) r.1
+]
+
+same_after : (b : Bool) (t : Transition) (xs ys : List Transition) (m : ℤ) → is_summer_by t.is_summer xs m ≡ is_summer_by t.is_summer ys m → is_summer_by b (t ∷ xs) m ≡ is_summer_by b (t ∷ ys) m
+unfolding is_summer_by
+same_after b t xs ys m e = ap (λ x. if int_lt m t.at then b else x) e
+
+same_instant : (b : Bool) (one next : Transition) (rest : List Transition) (m : ℤ) → one.at ≤ℤ next.at → next.at ≤ℤ one.at → is_summer_by b (next ∷ rest) m ≡ is_summer_by b (one ∷ (next ∷ rest)) m
+same_instant b one next rest m le ge = elim (one_or_other m one.at) [
+  | inl lt ↦ waits b next rest m (omega (arith, ints)) ∙ sym (waits b one (next ∷ rest) m lt)
+  | inr came ↦
+      let second : next.at ≤ℤ m = omega (arith, ints) in
+      begun b next rest m second ∙ sym (begun b one (next ∷ rest) m came ∙ begun one.is_summer next rest m second)
+]
+
+-- what is overtaken changes no clock
+left_clock : (ts : List Transition) (b : Bool) (m : ℤ) → IsRising ts → is_summer_by b (without_overtaken ts) m ≡ is_summer_by b ts m
+unfolding without_overtaken
+left_clock [] b m r = refl
+left_clock (one ∷ []) b m r = refl
+left_clock (one ∷ (next ∷ rest)) b m r = elim (one_or_other one.at next.at) [
+  | inl lt ↦
+      ap (λ v. is_summer_by b (if v then one ∷ without_overtaken (next ∷ rest) else without_overtaken (next ∷ rest)) m) (lt-true one.at next.at lt)
+      ∙ same_after b one _ _ m (left_clock (next ∷ rest) one.is_summer m r.1)
+  | inr le ↦
+      ap (λ v. is_summer_by b (if v then one ∷ without_overtaken (next ∷ rest) else without_overtaken (next ∷ rest)) m) (lt-false one.at next.at le)
+      ∙ left_clock (next ∷ rest) b m r.1 ∙ same_instant b one next rest m r.0 le
+]
+
+-- from a moment on the clock is that of the transitions after it
+after_clock : (ts : List Transition) (b : Bool) (from m : ℤ) → from ≤ℤ m → is_summer_by (is_summer_by b ts from) (after from ts) m ≡ is_summer_by b ts m
+unfolding after
+after_clock [] b from m le = ap (λ v. is_summer_by v [] m) (none_yet b from)
+after_clock (one ∷ rest) b from m le = elim (one_or_other from one.at) [
+  | inl lt ↦
+      ap (λ v. is_summer_by (is_summer_by b (one ∷ rest) from) (if v then one ∷ rest else after from rest) m) (lt-true from one.at lt)
+      ∙ ap (λ v. is_summer_by v (one ∷ rest) m) (waits b one rest from lt)
+  | inr came ↦
+      ap (λ v. is_summer_by (is_summer_by b (one ∷ rest) from) (if v then one ∷ rest else after from rest) m) (lt-false from one.at came)
+      ∙ ap (λ v. is_summer_by v (after from rest) m) (begun b one rest from came)
+      ∙ after_clock rest one.is_summer from m le ∙ sym (begun b one rest m (omega (arith, ints)))
+]
+
+-- a zone's clock with the steps of transitions
+step_clock : (standard : ℤ) (summer : Summer) (names : Names) (ts : List Transition) (b : Bool) (m : ℤ) → offset_at (offset_when standard summer b) (map (step_of standard summer names) ts) m ≡ offset_when standard summer (is_summer_by b ts m)
+unfolding offset_at is_summer_by
+step_clock standard summer names [] b m = refl
+step_clock standard summer names (one ∷ rest) b m = elim (int_lt m one.at) as (λ v. (if v then offset_when standard summer b else offset_at (offset_when standard summer one.is_summer) (map (step_of standard summer names) rest) m) ≡ offset_when standard summer (if v then b else is_summer_by one.is_summer rest m)) [
+  | true ↦ refl
+  | false ↦ step_clock standard summer names rest one.is_summer m
+]
+
+-- ---- the steps after a zone's own
+
+-- steps that have all begun, and others after them
+joined_clock : (first : ℤ) (steps more : List Step) (from m : ℤ) → ((i : ℕ) → i < length steps → (step_at steps i).from ≤ℤ from) → from ≤ℤ m → offset_at first (steps ++ more) m ≡ offset_at (offset_at first steps from) more m
+unfolding offset_at
+joined_clock first [] more from m all le = refl
+joined_clock first (step ∷ steps) more from m all le =
+    let here : step.from ≤ℤ from = all 0 (omega arith) in
+    let there : step.from ≤ℤ m = omega (arith, ints) in
+    ap (λ v. if v then first else offset_at step.offset (steps ++ more) m) (lt-false m step.from there)
+    ∙ joined_clock step.offset steps more from m (λ i lt. all (suc i) (omega arith)) le
+    ∙ sym (ap (λ v. offset_at (if v then first else offset_at step.offset steps from) more m) (lt-false from step.from here))
+
+pub summer_clock : (standard : ℤ) (summer : Summer) (names : Names) (first : ℤ) (steps : List Step) (from m : ℤ) → YearsInOrder standard (Some summer) → ((i : ℕ) → i < length steps → (step_at steps i).from ≤ℤ from) → offset_at first steps from ≡ offset_by standard (Some summer) from → from ≤ℤ m → offset_at first (steps ++ steps_by standard (Some summer) names from) m ≡ offset_by standard (Some summer) m
+summer_clock standard summer names first steps from m order all agrees le =
+    let years : List Transition = all_years standard summer in
+    let rising : IsRising (after from years) = after_rising from years (all_rising standard summer order 1 9_999 (omega arith) (omega arith)) in
+    joined_clock first steps _ from m all le
+    ∙ ap (λ o. offset_at o (steps_by standard (Some summer) names from) m) agrees
+    ∙ step_clock standard summer names (without_overtaken (after from years)) (is_summer_by false years from) m
+    ∙ ap (offset_when standard summer) (left_clock (after from years) (is_summer_by false years from) m rising ∙ after_clock years false from m le)

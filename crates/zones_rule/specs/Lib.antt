@@ -1,0 +1,5 @@
+pub mod Offsets
+pub mod Pieces
+pub mod Grammar
+pub mod Years
+pub mod Transitions
