@@ -1,8 +1,9 @@
 -- What is wrong with a file: the first of the faults that it has, in the order in which a reader comes to them.
 use Rattle.std.specs.Prelude.{◌≡◌, ◌⊎◌, ℤ, pos, negsuc, int_lt, Result, MatchResult, ℕ, zero, suc, ◌+◌, ◌-◌, ◌==◌, ◌&&◌, ◌||◌, not, nat_lt, nat_le, Bool, true, false, List, [], ◌∷◌, length, slice_index, Option, Some, None}
-use Rattle.std.specs.Option.{option_or}
+use Rattle.std.specs.Option.{option_or, is_none}
+use Rattle.zones_rule.specs.Grammar.{rule_of}
 use Rattle.zones_file.specs.declared.fault.ZoneFault.{ZoneFault}
-use Rattle.zones_file.specs.declared.fault.ZoneFault.TheVariants.{Long, Header, Version, Length, LeapSeconds, UnknownType, Offset, Order, Memory}
+use Rattle.zones_file.specs.declared.fault.ZoneFault.TheVariants.{Long, Header, Version, Length, LeapSeconds, UnknownType, Offset, Order, Footer, Memory}
 use Rattle.zones_file.specs.declared.layout.Layout.{Layout}
 use Rattle.zones_file.specs.declared.layout.Counts.{Counts}
 use Rattle.zones_file.specs.Layout.{has_magic, counts_at, data_place, data_layout}
@@ -77,3 +78,9 @@ step_fault bytes layout index = first_of (type_fault bytes layout (slice_index b
 unfoldable pub table_fault : List ℕ → Layout → ℕ → Option ZoneFault
 table_fault bytes layout zero = type_fault bytes layout 0
 table_fault bytes layout (suc count) = first_of (table_fault bytes layout count ∷ step_fault bytes layout count ∷ [])
+
+-- there is no footer, or a text in it that is no rule (section 3.3)
+abbrev pub text_fault : Option (List ℕ) → Option ZoneFault
+text_fault None = Some Footer
+text_fault (Some []) = None
+text_fault (Some (byte ∷ text)) = when (is_none (rule_of (byte ∷ text))) Footer

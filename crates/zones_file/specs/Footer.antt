@@ -1,5 +1,7 @@
 -- Footers, RFC 9636, section 3.3.
 use Rattle.std.specs.Prelude.{ℕ, ◌==◌, List, [], ◌∷◌, take, drop, position, Option, Some, None, option_map, if◌then◌else◌}
+use Rattle.zones_rule.specs.declared.rule.Rule.{Rule}
+use Rattle.zones_rule.specs.Grammar.{rule_of}
 use Rattle.zones_file.specs.declared.layout.Layout.{Layout}
 
 -- a line feed, and what stands before the next
@@ -13,3 +15,12 @@ line_of (byte ∷ bytes) = if byte == 10 then up_to_line_feed bytes else None
 -- the text of the rule, which is empty where there is none, as in version 1
 abbrev pub footer_text : List ℕ → Layout → Option (List ℕ)
 footer_text bytes layout = if layout.time_size == 4 then Some [] else line_of (drop layout.end bytes)
+
+-- its rule, and the names of standard and summer time
+abbrev pub footer_of : Option (List ℕ) → Option (Rule × List ℕ × List ℕ)
+footer_of None = None
+footer_of (Some []) = None
+footer_of (Some (byte ∷ text)) = rule_of (byte ∷ text)
+
+abbrev pub footer_in : List ℕ → Layout → Option (Rule × List ℕ × List ℕ)
+footer_in bytes layout = footer_of (footer_text bytes layout)

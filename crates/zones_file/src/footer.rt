@@ -1,9 +1,15 @@
 //! Footers: the text of the rule for what comes after the last transition.
-ghost use Rattle.std.specs.Prelude.{◌≡◌, ◌<◌, ◌==◌, IfSome, length, option_map, position};
+ghost use Rattle.std.specs.Prelude.{◌≡◌, ◌<◌, ◌==◌, IfOk, IfSome, Some, length, option_map, position};
+ghost use Rattle.std.specs.Result.{result_err};
+ghost use Rattle.zones_rule.specs.Grammar.{footer_view};
+ghost use Rattle.zones_rule.specs.Offsets.{AreOffsets};
+ghost use Rattle.zones_file.specs.Faults.{text_fault};
 ghost use Rattle.zones_file.specs.Layout.{IsLaidOut};
-ghost use Rattle.zones_file.specs.Footer.{up_to_line_feed, line_of, footer_text};
+ghost use Rattle.zones_file.specs.Footer.{up_to_line_feed, line_of, footer_text, footer_of, footer_in};
 
+use crate::fault::ZoneFault;
 use crate::layout::Layout;
+use zones_rule::{Footer, read_rule};
 
 // The place of the first line feed.
 fn find_line_feed(bytes: &[u8]) -> Option<usize>
@@ -33,7 +39,7 @@ fn read_line(footer: &[u8]) -> Option<&[u8]>
 }
 
 // The text of a rule, which is empty where there is none.
-pub(crate) fn footer_text(bytes: &[u8], layout: Layout) -> Option<&[u8]>
+fn footer_text(bytes: &[u8], layout: Layout) -> Option<&[u8]>
     requires { IsLaidOut layout (length bytes.now) }
     ensures { option_map (λ text. text.now) result ≡ footer_text bytes.now layout }
 {
@@ -41,5 +47,33 @@ pub(crate) fn footer_text(bytes: &[u8], layout: Layout) -> Option<&[u8]>
         Some(&[])
     } else {
         read_line(&bytes[layout.end..])
+    }
+}
+
+// The rule of a text, if it is not empty.
+fn read_text(text: &[u8]) -> Result<Option<Footer<'_>>, ZoneFault>
+    ensures footer { IfOk result (λ footer. option_map footer_view footer ≡ footer_of (Some text.now)) }
+    ensures fault { result_err result ≡ text_fault (Some text.now) }
+    ensures offsets { IfOk result (λ footer. IfSome footer (λ f. AreOffsets f.rule)) }
+{
+    if text.is_empty() {
+        return Ok(None);
+    }
+    match read_rule(text) {
+        Some(footer) => Ok(Some(footer)),
+        None => Err(ZoneFault::Footer),
+    }
+}
+
+// The rule of a file, if it has one.
+pub(crate) fn read_footer(bytes: &[u8], layout: Layout) -> Result<Option<Footer<'_>>, ZoneFault>
+    requires { IsLaidOut layout (length bytes.now) }
+    ensures footer { IfOk result (λ footer. option_map footer_view footer ≡ footer_in bytes.now layout) }
+    ensures fault { result_err result ≡ text_fault (footer_text bytes.now layout) }
+    ensures offsets { IfOk result (λ footer. IfSome footer (λ f. AreOffsets f.rule)) }
+{
+    match footer_text(bytes, layout) {
+        Some(text) => read_text(text),
+        None => Err(ZoneFault::Footer),
     }
 }
