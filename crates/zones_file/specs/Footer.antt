@@ -1,6 +1,7 @@
 -- Footers, RFC 9636, section 3.3.
-use Rattle.std.specs.Prelude.{ℕ, ◌==◌, List, [], ◌∷◌, take, drop, position, Option, Some, None, option_map, if◌then◌else◌}
+use Rattle.std.specs.Prelude.{ℕ, ◌==◌, List, [], ◌∷◌, ◌++◌, length, take, drop, position, Option, Some, None, option_map, if◌then◌else◌}
 use Rattle.zones_rule.specs.declared.rule.Rule.{Rule}
+use Rattle.zones_rule.specs.declared.rule.Names.{Names}
 use Rattle.zones_rule.specs.Grammar.{rule_of}
 use Rattle.zones_file.specs.declared.layout.Layout.{Layout}
 
@@ -24,3 +25,11 @@ footer_of (Some (byte ∷ text)) = rule_of (byte ∷ text)
 
 abbrev pub footer_in : List ℕ → Layout → Option (Rule × List ℕ × List ℕ)
 footer_in bytes layout = footer_of (footer_text bytes layout)
+
+-- letters and after them a name, which a 0 ends
+abbrev pub ended : List ℕ → List ℕ → List ℕ
+ended letters name = letters ++ name ++ 0 ∷ []
+
+-- where the names of a footer stand after letters
+abbrev pub names_after : List ℕ → List ℕ → Names
+names_after letters standard_name = record { standard = length letters; summer = length (ended letters standard_name) }

@@ -5,6 +5,7 @@ mod bytes;
 mod fault;
 mod footer;
 mod layout;
+mod names;
 mod table;
 
 pub use fault::ZoneFault;
