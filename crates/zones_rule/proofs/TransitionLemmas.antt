@@ -1,5 +1,5 @@
 -- The clock of transitions in order, and of those that are left of them.
-use Rattle.std.proofs.Common.{◌≡◌, ◌⊎◌, inl, inr, subst, ◌-◌, ℕ, zero, suc, ◌+◌, ◌<◌, ◌≤◌, Bool, true, false, refl, ap, ◌∙◌, sym, arith, ℤ, ◌<ℤ◌, ◌≤ℤ◌, int_lt, int_le, List, [], ◌∷◌, ◌++◌, length, map, if◌then◌else◌, Option, Some, None}
+use Rattle.std.proofs.Common.{◌≡◌, ◌↔◌, IsTrue, ◌⊎◌, inl, inr, subst, ◌-◌, ℕ, zero, suc, ◌+◌, ◌<◌, ◌≤◌, Bool, true, false, refl, ap, ◌∙◌, sym, arith, ℤ, ◌<ℤ◌, ◌≤ℤ◌, int_lt, int_le, List, [], ◌∷◌, ◌++◌, length, map, if◌then◌else◌, Option, Some, None}
 use Rattle.std.proofs.lemmas.Bool.{cases_lt}
 use Rattle.std.proofs.lemmas.Int.{ints}
 use Rattle.zones_clock.specs.declared.zone.Step.{Step}
@@ -10,10 +10,10 @@ use Rattle.zones_rule.specs.declared.years.Transition.{Transition}
 use Rattle.zones_rule.specs.Years.{start_in, end_in, paired, transitions_in}
 use Rattle.zones_rule.specs.Transitions.{years_from, all_years, after, without_overtaken, is_summer_by, offset_when, offset_by, step_of, steps_by, YearsInOrder, IsOfYear, is_between, is_summer_in}
 
-lt-true : (a b : ℤ) → a <ℤ b → int_lt a b ≡ true
+pub lt-true : (a b : ℤ) → a <ℤ b → int_lt a b ≡ true
 lt-true a b h = grind (arith, ints)
 
-lt-false : (a b : ℤ) → b ≤ℤ a → int_lt a b ≡ false
+pub lt-false : (a b : ℤ) → b ≤ℤ a → int_lt a b ≡ false
 lt-false a b h = grind (arith, ints)
 
 -- a first transition that has come, or has not
@@ -102,6 +102,44 @@ year_law standard summer year m b from (suc count) order is some low high = elim
       subst (λ y. is_summer_by b (years_from standard summer from (suc count)) m ≡ is_summer_in standard summer y m) (sym e)
       (year_now standard summer b from _ m now.begun (λ v. years_wait standard summer v (from + 1) count m now.next))
 ]
+
+-- ---- the clock of all years, year by year
+
+pub next_years : (standard : ℤ) (summer : Summer) (year : ℕ) → year < 10_000 → years_from standard summer year (10_000 - year) ≡ (transitions_in standard summer year).0 ∷ (transitions_in standard summer year).1 ∷ years_from standard summer (year + 1) (10_000 - (year + 1))
+unfolding years_from
+next_years standard summer year lt =
+    let e : 10_000 - year ≡ suc (10_000 - (year + 1)) = omega arith in
+    ap (λ n. years_from standard summer year n) e
+
+abbrev pub summer_from : ℤ → Summer → ℕ → Bool → ℤ → Bool
+summer_from standard summer year b m = is_summer_by b (years_from standard summer year (10_000 - year)) m
+
+-- the same of a pair that is the year's, and of what the clock of all years is
+pub before_first : (standard : ℤ) (summer : Summer) (year : ℕ) (b whole : Bool) (m : ℤ) (pair : Transition × Transition) → pair ≡ transitions_in standard summer year → summer_from standard summer year b m ≡ whole → m <ℤ pair.0.at → b ≡ whole
+before_first standard summer year b whole m pair e is h =
+    sym (years_wait standard summer b year (10_000 - year) m (subst (λ p. m <ℤ p.0.at) e h)) ∙ is
+
+pub before_second : (standard : ℤ) (summer : Summer) (year : ℕ) (b whole : Bool) (m : ℤ) (pair : Transition × Transition) → year < 10_000 → pair ≡ transitions_in standard summer year → summer_from standard summer year b m ≡ whole → pair.0.at ≤ℤ m → m <ℤ pair.1.at → pair.0.is_summer ≡ whole
+before_second standard summer year b whole m pair lt e is h k =
+    ap (λ p. p.0.is_summer) e
+    ∙ sym (
+    ap (λ ts. is_summer_by b ts m) (next_years standard summer year lt)
+    ∙ begun b (transitions_in standard summer year).0 _ m (subst (λ p. p.0.at ≤ℤ m) e h) ∙ waits _ (transitions_in standard summer year).1 _ m (subst (λ p. m <ℤ p.1.at) e k)
+    ) ∙ is
+
+pub after_second : (standard : ℤ) (summer : Summer) (year : ℕ) (b whole : Bool) (m : ℤ) (pair : Transition × Transition) → year < 10_000 → pair ≡ transitions_in standard summer year → summer_from standard summer year b m ≡ whole → pair.0.at ≤ℤ m → pair.1.at ≤ℤ m → summer_from standard summer (year + 1) pair.1.is_summer m ≡ whole
+after_second standard summer year b whole m pair lt e is h k =
+    ap (λ p. summer_from standard summer (year + 1) p.1.is_summer m) e
+    ∙ sym (
+    ap (λ ts. is_summer_by b ts m) (next_years standard summer year lt)
+    ∙ begun b (transitions_in standard summer year).0 _ m (subst (λ p. p.0.at ≤ℤ m) e h) ∙ begun _ (transitions_in standard summer year).1 _ m (subst (λ p. p.1.at ≤ℤ m) e k)
+    ) ∙ is
+
+pub after_all : (standard : ℤ) (summer : Summer) (year : ℕ) (b whole : Bool) (m : ℤ) → 10_000 ≤ year → summer_from standard summer year b m ≡ whole → b ≡ whole
+unfolding years_from
+after_all standard summer year b whole m le is =
+    let e : 10_000 - year ≡ 0 = omega arith in
+    sym (ap (λ n. is_summer_by b (years_from standard summer year n) m) e ∙ none_yet b m) ∙ is
 
 -- ---- what is left of the transitions of all years
 
@@ -196,3 +234,26 @@ summer_clock standard summer names first steps from m order all agrees le =
     ∙ ap (λ o. offset_at o (steps_by standard (Some summer) names from) m) agrees
     ∙ step_clock standard summer names (without_overtaken (after from years)) (is_summer_by false years from) m
     ∙ ap (offset_when standard summer) (left_clock (after from years) (is_summer_by false years from) m rising ∙ after_clock years false from m le)
+
+-- one more year in order
+pub order_next : (standard : ℤ) (summer : Summer) (year : ℕ) (last : Transition) (pair : Transition × Transition) → last ≡ (transitions_in standard summer year).1 → pair ≡ transitions_in standard summer (year + 1) → last.at ≤ℤ pair.0.at → ((y : ℕ) → 1 ≤ y → y < year → (transitions_in standard summer y).1.at ≤ℤ (transitions_in standard summer (y + 1)).0.at) → (y : ℕ) → 1 ≤ y → y < year + 1 → (transitions_in standard summer y).1.at ≤ℤ (transitions_in standard summer (y + 1)).0.at
+order_next standard summer year last pair e f h before y some lt = elim (cases_lt y year) [
+  | inl less ↦ before y some less
+  | inr ge ↦
+      let same : year ≡ y = omega arith in
+      subst (λ z. (transitions_in standard summer z).1.at ≤ℤ (transitions_in standard summer (z + 1)).0.at) same
+      (subst (λ p. (transitions_in standard summer year).1.at ≤ℤ p.0.at) f (subst (λ t. t.at ≤ℤ pair.0.at) e h))
+]
+
+false_true : false ≡ true → ⊥
+false_true h = grind arith
+
+not_below : (a b : ℤ) → a <ℤ b → b ≤ℤ a → ⊥
+not_below a b h g = omega (arith, ints)
+
+-- a year that begins before the one before it ends
+pub out_of_order : (standard : ℤ) (summer : Summer) (year : ℕ) (last : Transition) (pair : Transition × Transition) → 1 ≤ year → year ≤ 9_999 → last ≡ (transitions_in standard summer year).1 → pair ≡ transitions_in standard summer (year + 1) → pair.0.at <ℤ last.at → IsTrue false ↔ YearsInOrder standard (Some summer)
+out_of_order standard summer year last pair some most e f h = (
+  λ y. absurd (false_true y),
+  λ order. absurd (not_below pair.0.at last.at h (subst (λ p. last.at ≤ℤ p.0.at) (sym f) (subst (λ t. t.at ≤ℤ (transitions_in standard summer (year + 1)).0.at) (sym e) (order year some most)))),
+)

@@ -3,3 +3,4 @@ pub mod Pieces
 pub mod Grammar
 pub mod Years
 pub mod Transitions
+pub mod Pushing

@@ -1,6 +1,7 @@
 -- The transitions of a rule in all years, and the clock that they give.
-use Rattle.std.specs.Prelude.{◌≡◌, ℕ, zero, suc, ◌+◌, ◌≤◌, Bool, true, false, ◌&&◌, ◌||◌, int_lt, int_le, ℤ, ◌<ℤ◌, ◌≤ℤ◌, if◌then◌else◌, List, [], ◌∷◌, map, Option, Some, None}
+use Rattle.std.specs.Prelude.{◌≡◌, ℕ, zero, suc, ◌+◌, ◌≤◌, Bool, true, false, ◌&&◌, ◌||◌, int_lt, int_le, ℤ, ◌<ℤ◌, ◌≤ℤ◌, if◌then◌else◌, List, [], ◌∷◌, length, map, Option, Some, None}
 use Rattle.zones_clock.specs.declared.zone.Step.{Step}
+use Rattle.zones_clock.specs.Steps.{offset_at, step_at}
 use Rattle.zones_rule.specs.declared.rule.Summer.{Summer}
 use Rattle.zones_rule.specs.declared.rule.Rule.{Rule}
 use Rattle.zones_rule.specs.declared.rule.Names.{Names}
@@ -59,6 +60,10 @@ steps_by standard (Some summer) names moment = map (step_of standard summer name
 abbrev pub steps_after : Rule → Names → ℤ → List Step
 steps_after rule names moment = steps_by rule.standard rule.summer names moment
 
+-- the last of the steps, if there is one, has begun at a moment
+abbrev pub LastHasBegun : List Step → ℤ → Type 0
+LastHasBegun steps moment = (i : ℕ) → i + 1 ≡ length steps → (step_at steps i).from ≤ℤ moment
+
 -- the transitions of no year come before those of the year before it
 abbrev pub YearsInOrder : ℤ → Option Summer → Type 0
 YearsInOrder standard None = Unit {0}
@@ -90,3 +95,7 @@ FollowsYears standard (Some summer) moment offset = (year : ℕ) → IsOfYear st
 
 abbrev pub FollowsRule : Rule → ℤ → ℤ → Type 0
 FollowsRule rule moment offset = FollowsYears rule.standard rule.summer moment offset
+
+-- from a moment on it is so
+abbrev pub FollowsFrom : Rule → ℤ → ℤ → List Step → Type 0
+FollowsFrom rule from first steps = (moment : ℤ) → from ≤ℤ moment → FollowsRule rule moment (offset_at first steps moment)

@@ -18,7 +18,7 @@ pub(crate) fn byte(wanted: u8, text: &[u8]) -> Option<&[u8]>
 }
 
 // A run of so many bytes, where they are not too few.
-fn split_run(count: usize, least: usize, text: &[u8]) -> Option<(&[u8], &[u8])> 
+fn split_run(count: usize, least: usize, text: &[u8]) -> Option<(&[u8], &[u8])>
     requires { count ≤ length text.now }
     ensures { Pieces.run_view result ≡ Pieces.run_of count least text.now }
 {

@@ -4,6 +4,7 @@
 mod cut;
 mod footer;
 mod rule;
+mod steps;
 mod years;
 
 pub use footer::{Footer, read_rule};
