@@ -3,12 +3,13 @@ use Rattle.std.proofs.Common.{◌≡◌, ◌↔◌, IsTrue, ◌⊎◌, inl, inr,
 use Rattle.std.proofs.lemmas.Bool.{cases_lt}
 use Rattle.std.proofs.lemmas.Int.{ints}
 use Rattle.zones_clock.specs.declared.zone.Step.{Step}
-use Rattle.zones_clock.specs.Steps.{offset_at, step_at}
+use Rattle.zones_clock.specs.Steps.{offset_at, step_at, InOrder}
+use Rattle.zones_clock.proofs.ClockLemmas.{all_begun}
 use Rattle.zones_rule.specs.declared.rule.Summer.{Summer}
 use Rattle.zones_rule.specs.declared.rule.Names.{Names}
 use Rattle.zones_rule.specs.declared.years.Transition.{Transition}
 use Rattle.zones_rule.specs.Years.{start_in, end_in, paired, transitions_in}
-use Rattle.zones_rule.specs.Transitions.{years_from, all_years, after, without_overtaken, is_summer_by, offset_when, offset_by, step_of, steps_by, YearsInOrder, IsOfYear, is_between, is_summer_in}
+use Rattle.zones_rule.specs.Transitions.{years_from, all_years, after, without_overtaken, is_summer_by, offset_when, offset_by, step_of, steps_by, YearsInOrder, LastHasBegun, FollowsYears, IsOfYear, is_between, is_summer_in}
 
 pub lt-true : (a b : ℤ) → a <ℤ b → int_lt a b ≡ true
 lt-true a b h = grind (arith, ints)
@@ -226,7 +227,7 @@ joined_clock first (step ∷ steps) more from m all le =
     ∙ joined_clock step.offset steps more from m (λ i lt. all (suc i) (omega arith)) le
     ∙ sym (ap (λ v. offset_at (if v then first else offset_at step.offset steps from) more m) (lt-false from step.from here))
 
-pub summer_clock : (standard : ℤ) (summer : Summer) (names : Names) (first : ℤ) (steps : List Step) (from m : ℤ) → YearsInOrder standard (Some summer) → ((i : ℕ) → i < length steps → (step_at steps i).from ≤ℤ from) → offset_at first steps from ≡ offset_by standard (Some summer) from → from ≤ℤ m → offset_at first (steps ++ steps_by standard (Some summer) names from) m ≡ offset_by standard (Some summer) m
+summer_clock : (standard : ℤ) (summer : Summer) (names : Names) (first : ℤ) (steps : List Step) (from m : ℤ) → YearsInOrder standard (Some summer) → ((i : ℕ) → i < length steps → (step_at steps i).from ≤ℤ from) → offset_at first steps from ≡ offset_by standard (Some summer) from → from ≤ℤ m → offset_at first (steps ++ steps_by standard (Some summer) names from) m ≡ offset_by standard (Some summer) m
 summer_clock standard summer names first steps from m order all agrees le =
     let years : List Transition = all_years standard summer in
     let rising : IsRising (after from years) = after_rising from years (all_rising standard summer order 1 9_999 (omega arith) (omega arith)) in
@@ -257,3 +258,28 @@ out_of_order standard summer year last pair some most e f h = (
   λ y. absurd (false_true y),
   λ order. absurd (not_below pair.0.at last.at h (subst (λ p. last.at ≤ℤ p.0.at) (sym f) (subst (λ t. t.at ≤ℤ (transitions_in standard summer (year + 1)).0.at) (sym e) (order year some most)))),
 )
+
+-- ---- what a rule says of a year is so
+
+pub rule_follows : (standard : ℤ) (o : Option Summer) (m : ℤ) → YearsInOrder standard o → FollowsYears standard o m (offset_by standard o m)
+rule_follows standard None m order = refl
+rule_follows standard (Some summer) m order = λ year is.
+    ap (offset_when standard summer) (year_law standard summer year m false 1 9_999 order is (omega arith) is.some (let l : year ≤ 9_999 = is.last in omega arith))
+
+all_begun_of : (steps : List Step) (t : ℤ) → InOrder steps → LastHasBegun steps t → (i : ℕ) → i < length steps → (step_at steps i).from ≤ℤ t
+all_begun_of steps t order last i lt = all_begun steps (length steps - 1) t order (omega arith) (last (length steps - 1) (omega arith)) i (omega arith)
+
+none_more : (offset : ℤ) (m : ℤ) → offset_at offset [] m ≡ offset
+unfolding offset_at
+none_more offset m = refl
+
+joined_by : (standard : ℤ) (o : Option Summer) (names : Names) (first : ℤ) (steps : List Step) (from m : ℤ) → YearsInOrder standard o → ((i : ℕ) → i < length steps → (step_at steps i).from ≤ℤ from) → offset_at first steps from ≡ offset_by standard o from → from ≤ℤ m → offset_at first (steps ++ steps_by standard o names from) m ≡ offset_by standard o m
+joined_by standard None names first steps from m order all agrees le = joined_clock first steps [] from m all le ∙ none_more (offset_at first steps from) m ∙ agrees
+joined_by standard (Some summer) names first steps from m order all agrees le = summer_clock standard summer names first steps from m order all agrees le
+
+pub clock_follows : (standard : ℤ) (o : Option Summer) (names : Names) (first again : ℤ) (steps new : List Step) (from : ℤ) → YearsInOrder standard o → InOrder steps → LastHasBegun steps from → new ≡ steps ++ steps_by standard o names from → again ≡ first → offset_at first steps from ≡ offset_by standard o from → (m : ℤ) → from ≤ℤ m → FollowsYears standard o m (offset_at again new m)
+clock_follows standard o names first again steps new from order rising last pushed same agrees m le =
+    let e : offset_at again new m ≡ offset_by standard o m =
+    ap (λ f. offset_at f new m) same ∙ ap (λ l. offset_at first l m) pushed
+    ∙ joined_by standard o names first steps from m order (all_begun_of steps from rising last) agrees le in
+    subst (FollowsYears standard o m) (sym e) (rule_follows standard o m order)

@@ -124,3 +124,79 @@ impl Clock {
         Ok(())
     }
 }
+
+impl Rule {
+    /// Whether the transitions of each year up to 9999 come no earlier than those of the year before it: the last of a year
+    /// may be at the instant of the next year's first, as where it is summer time all year.
+    pub fn is_in_order(&self) -> bool
+        ensures { IsTrue result ↔ Transitions.AreYearsInOrder self.now }
+    {
+        match self.summer {
+            None => true,
+            Some(summer) => are_in_order(self.standard, summer),
+        }
+    }
+
+    // How far the clock is ahead of UTC at a moment.
+    fn offset_by_years(&self, moment: i64) -> i32
+        ensures { result ≡ Transitions.offset_by_rule self.now moment }
+    {
+        match self.summer {
+            Some(summer) if is_summer_at(self.standard, summer, moment) => summer.offset,
+            _ => self.standard,
+        }
+    }
+
+    /// How many seconds the clock is ahead of UTC at a moment, given in seconds since 1970-01-01T00:00:00Z, by the rule's
+    /// years 1 to 9999.
+    pub fn offset_at(&self, moment: i64) -> i32
+        ensures value { result ≡ Transitions.offset_by_rule self.now moment }
+        ensures law { Transitions.AreYearsInOrder self.now → Transitions.FollowsRule self.now moment result }
+    {
+        self.offset_by_years(moment)
+    }
+
+    // Adds the steps of the rule, if it has any.
+    fn push_if_any(&self, names: Names, zone: &mut Zone, moment: i64) -> Result<(), AllocError>
+        requires order { Transitions.AreYearsInOrder self.now }
+        requires offsets { AreOffsets self.now }
+        requires last { Transitions.LastHasBegun zone.old.steps.items moment }
+        ensures pushed { OnOk result (zone.new.steps.items
+            ≡ zone.old.steps.items ++ Transitions.steps_after self.now names moment) }
+        ensures first { zone.new.first ≡ zone.old.first }
+        ensures first_name { zone.new.first_name ≡ zone.old.first_name }
+        ensures letters { zone.new.letters.items ≡ zone.old.letters.items }
+    {
+        match self.summer {
+            None => Ok(()),
+            Some(summer) => {
+                let clock = Clock {
+                    standard: self.standard,
+                    summer,
+                    names,
+                };
+                clock.push_years(zone, moment)
+            }
+        }
+    }
+
+    /// Adds to a zone the steps that the rule gives after a moment, in seconds since 1970-01-01T00:00:00Z, up to the year
+    /// 9999. The error is that memory ended; the zone then has some of them.
+    pub fn push_steps(&self, names: Names, zone: &mut Zone, moment: i64) -> Result<(), AllocError>
+        requires order { Transitions.AreYearsInOrder self.now }
+        requires offsets { AreOffsets self.now }
+        requires last { Transitions.LastHasBegun zone.old.steps.items moment }
+
+        ensures pushed { OnOk result (zone.new.steps.items
+            ≡ zone.old.steps.items ++ Transitions.steps_after self.now names moment) }
+        ensures law { OnOk result (offset_at zone.old.first zone.old.steps.items moment ≡ Transitions.offset_by_rule self.now moment
+            → Transitions.FollowsFrom self.now moment zone.new.first zone.new.steps.items) }
+
+        ensures first { zone.new.first ≡ zone.old.first }
+        ensures first_name { zone.new.first_name ≡ zone.old.first_name }
+        ensures letters { zone.new.letters.items ≡ zone.old.letters.items }
+    {
+        self.push_if_any(names, zone, moment)?;
+        Ok(())
+    }
+}
