@@ -68,3 +68,9 @@ in_order start end = paired (int_le start.at end.at) start end
 
 unfoldable pub transitions_in : ℤ → Summer → ℕ → Transition × Transition
 transitions_in standard summer year = in_order (start_in standard summer year) (end_in standard summer year)
+
+abbrev pub first_in : ℤ → Summer → ℕ → Transition
+first_in standard summer year = (transitions_in standard summer year).0
+
+abbrev pub second_in : ℤ → Summer → ℕ → Transition
+second_in standard summer year = (transitions_in standard summer year).1
