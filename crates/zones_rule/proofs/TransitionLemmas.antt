@@ -261,10 +261,19 @@ out_of_order standard summer year last pair some most e f h = (
 
 -- ---- what a rule says of a year is so
 
+year_of : (standard : ℤ) (summer : Summer) (m : ℤ) (count : ℕ) → count ≤ 9_999 → (first_in standard summer 1).at ≤ℤ m → m <ℤ (first_in standard summer (1 + count)).at → (year : ℕ) × IsOfYear standard summer year m
+year_of standard summer m zero most h k = absurd (not_below m (first_in standard summer 1).at k h)
+year_of standard summer m (suc count) most h k = elim (one_or_other m (first_in standard summer (1 + count)).at) [
+  | inl lt ↦ year_of standard summer m count (omega arith) h lt
+  | inr le ↦ (1 + count, record { some = omega arith; last = omega arith; begun = le; next = let e : 1 + count + 1 ≡ 1 + suc count = omega arith in rw e k })
+]
+
 pub rule_follows : (standard : ℤ) (o : Option Summer) (m : ℤ) → YearsInOrder standard o → FollowsYears standard o m (offset_by standard o m)
 rule_follows standard None m order = refl
-rule_follows standard (Some summer) m order = λ year is.
-    ap (offset_when standard summer) (year_law standard summer year m false 1 9_999 order is (omega arith) is.some (let l : year ≤ 9_999 = is.last in omega arith))
+rule_follows standard (Some summer) m order = λ h k.
+    let found = year_of standard summer m 9_999 (omega arith) h k in
+    let is : IsOfYear standard summer found.0 m = found.1 in
+    (found.0, (is, ap (offset_when standard summer) (year_law standard summer found.0 m false 1 9_999 order is (omega arith) is.some (let l : found.0 ≤ 9_999 = is.last in omega arith))))
 
 all_begun_of : (steps : List Step) (t : ℤ) → InOrder steps → LastHasBegun steps t → (i : ℕ) → i < length steps → (step_at steps i).from ≤ℤ t
 all_begun_of steps t order last i lt = all_begun steps (length steps - 1) t order (omega arith) (last (length steps - 1) (omega arith)) i (omega arith)

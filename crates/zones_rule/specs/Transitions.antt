@@ -88,10 +88,12 @@ abbrev pub is_summer_in : ℤ → Summer → ℕ → ℤ → Bool
 is_summer_in standard summer year moment =
     is_between (int_le (start_in standard summer year).at (end_in standard summer year).at) (start_in standard summer year).at (end_in standard summer year).at moment
 
--- at a moment the clock is as the rule says of its year
+-- before the year 10000 a moment is of a year, and the clock is as the rule says of that year
 abbrev pub FollowsYears : ℤ → Option Summer → ℤ → ℤ → Type 0
 FollowsYears standard None moment offset = offset ≡ standard
-FollowsYears standard (Some summer) moment offset = (year : ℕ) → IsOfYear standard summer year moment → offset ≡ offset_when standard summer (is_summer_in standard summer year moment)
+FollowsYears standard (Some summer) moment offset =
+    (first_in standard summer 1).at ≤ℤ moment → moment <ℤ (first_in standard summer 10_000).at →
+    (year : ℕ) × (IsOfYear standard summer year moment × (offset ≡ offset_when standard summer (is_summer_in standard summer year moment)))
 
 abbrev pub FollowsRule : Rule → ℤ → ℤ → Type 0
 FollowsRule rule moment offset = FollowsYears rule.standard rule.summer moment offset
