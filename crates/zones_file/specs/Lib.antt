@@ -1,0 +1,5 @@
+pub mod Bytes
+pub mod Layout
+pub mod Table
+pub mod Footer
+pub mod Faults
