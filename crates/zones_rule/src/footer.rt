@@ -16,23 +16,16 @@ pub struct Footer<'a> {
     pub summer_name: &'a [u8],
 }
 
-// A name between `<` and `>`, after the `<`.
-#[tactic(auto, unfolding(crate::specs::Grammar::quoted))]
-fn quoted_name(text: &[u8]) -> Option<(&[u8], &[u8])>
-    ensures { Pieces.run_view result ≡ Grammar.quoted text.now }
-{
-    let (name, rest) = quoted_bytes(text)?;
-    let rest = byte(b'>', rest)?;
-    Some((name, rest))
-}
-
 // A name.
-#[tactic(auto, unfolding(crate::specs::Grammar::name, crate::specs::Pieces::after_byte))]
+#[tactic(auto, unfolding(crate::specs::Grammar::name, crate::specs::Grammar::quoted, crate::specs::Pieces::after_byte))]
 fn read_name(text: &[u8]) -> Option<(&[u8], &[u8])>
     ensures { Pieces.run_view result ≡ Grammar.name text.now }
 {
     match text {
-        [b'<', rest @ ..] => quoted_name(rest),
+        [b'<', rest @ ..] => {
+            let (name, rest) = quoted_bytes(rest)?;
+            Some((name, byte(b'>', rest)?))
+        }
         _ => letters(text),
     }
 }
