@@ -61,18 +61,15 @@ impl Clock {
         ensures value { result ≡ Transitions.step_of self.standard self.summer self.names transition }
         ensures offset { IsOffset result.offset }
     {
-        if transition.is_summer {
-            Step {
-                from: transition.at,
-                offset: self.summer.offset,
-                name: self.names.summer,
-            }
+        let (offset, name) = if transition.is_summer {
+            (self.summer.offset, self.names.summer)
         } else {
-            Step {
-                from: transition.at,
-                offset: self.standard,
-                name: self.names.standard,
-            }
+            (self.standard, self.names.standard)
+        };
+        Step {
+            from: transition.at,
+            offset,
+            name,
         }
     }
 
