@@ -1,5 +1,5 @@
 -- One more transition: what is added, and what is put off.
-use Rattle.std.proofs.Common.{◌≡◌, ℕ, suc, ◌+◌, ◌-◌, ◌<◌, ◌≤◌, Bool, true, false, refl, ap, ◌∙◌, sym, subst, arith, ℤ, ◌<ℤ◌, ◌≤ℤ◌, int_lt, List, [], ◌∷◌, ◌++◌, append_assoc, append-nil, length-append, length, map, if◌then◌else◌, Option, Some, None}
+use Rattle.std.proofs.Common.{◌≡◌, ℕ, ◌+◌, ◌-◌, ◌<◌, ◌≤◌, ap, ◌∙◌, sym, subst, arith, ℤ, ◌<ℤ◌, ◌≤ℤ◌, List, [], ◌∷◌, ◌++◌, append_assoc, append-nil, length-append, length, map, if◌then◌else◌, Option, Some, None}
 use Rattle.std.proofs.lemmas.Int.{ints}
 use Rattle.std.proofs.lemmas.List.{get_or_push}
 use Rattle.zones_clock.specs.declared.zone.Step.{Step}
@@ -9,7 +9,7 @@ use Rattle.zones_rule.specs.declared.steps.Clock.{Clock}
 use Rattle.zones_rule.specs.declared.rule.Summer.{Summer}
 use Rattle.zones_rule.specs.Years.{transitions_in, first_in}
 use Rattle.zones_rule.specs.Transitions.{after, without_overtaken, step_of, years_from, YearsInOrder}
-use Rattle.zones_rule.specs.Pushing.{left, steps_left, LosesNothing, IsReady}
+use Rattle.zones_rule.specs.Pushing.{steps_left, LosesNothing, IsReady}
 use Rattle.zones_rule.proofs.TransitionLemmas.{lt-true, lt-false, year_rising, next_years}
 
 steps_of : Clock → List Transition → List Step

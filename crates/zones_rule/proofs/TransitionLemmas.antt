@@ -18,7 +18,7 @@ pub lt-false : (a b : ℤ) → b ≤ℤ a → int_lt a b ≡ false
 lt-false a b h = grind (arith, ints)
 
 -- a first transition that has come, or has not
-begun : (b : Bool) (t : Transition) (rest : List Transition) (m : ℤ) → t.at ≤ℤ m → is_summer_by b (t ∷ rest) m ≡ is_summer_by t.is_summer rest m
+pub begun : (b : Bool) (t : Transition) (rest : List Transition) (m : ℤ) → t.at ≤ℤ m → is_summer_by b (t ∷ rest) m ≡ is_summer_by t.is_summer rest m
 unfolding is_summer_by
 begun b t rest m h = ap (λ v. if v then b else is_summer_by t.is_summer rest m) (lt-false m t.at h)
 
@@ -26,7 +26,7 @@ none_yet : (b : Bool) (m : ℤ) → is_summer_by b [] m ≡ b
 unfolding is_summer_by
 none_yet b m = refl
 
-waits : (b : Bool) (t : Transition) (rest : List Transition) (m : ℤ) → m <ℤ t.at → is_summer_by b (t ∷ rest) m ≡ b
+pub waits : (b : Bool) (t : Transition) (rest : List Transition) (m : ℤ) → m <ℤ t.at → is_summer_by b (t ∷ rest) m ≡ b
 unfolding is_summer_by
 waits b t rest m h = ap (λ v. if v then b else is_summer_by t.is_summer rest m) (lt-true m t.at h)
 
@@ -100,26 +100,11 @@ next_years standard summer year lt =
 abbrev pub summer_from : ℤ → Summer → ℕ → Bool → ℤ → Bool
 summer_from standard summer year b m = is_summer_by b (years_from standard summer year (10_000 - year)) m
 
--- the same of a pair that is the year's, and of what the clock of all years is
-pub before_first : (standard : ℤ) (summer : Summer) (year : ℕ) (b whole : Bool) (m : ℤ) (pair : Transition × Transition) → pair ≡ transitions_in standard summer year → summer_from standard summer year b m ≡ whole → m <ℤ pair.0.at → b ≡ whole
-before_first standard summer year b whole m pair e is h =
-    sym (years_wait standard summer b year (10_000 - year) m (subst (λ p. m <ℤ p.0.at) e h)) ∙ is
-
-pub before_second : (standard : ℤ) (summer : Summer) (year : ℕ) (b whole : Bool) (m : ℤ) (pair : Transition × Transition) → year < 10_000 → pair ≡ transitions_in standard summer year → summer_from standard summer year b m ≡ whole → pair.0.at ≤ℤ m → m <ℤ pair.1.at → pair.0.is_summer ≡ whole
-before_second standard summer year b whole m pair lt e is h k =
-    ap (λ p. p.0.is_summer) e
-    ∙ sym (
-    ap (λ ts. is_summer_by b ts m) (next_years standard summer year lt)
-    ∙ begun b (first_in standard summer year) _ m (subst (λ p. p.0.at ≤ℤ m) e h) ∙ waits _ (second_in standard summer year) _ m (subst (λ p. m <ℤ p.1.at) e k)
-    ) ∙ is
-
-pub after_second : (standard : ℤ) (summer : Summer) (year : ℕ) (b whole : Bool) (m : ℤ) (pair : Transition × Transition) → year < 10_000 → pair ≡ transitions_in standard summer year → summer_from standard summer year b m ≡ whole → pair.0.at ≤ℤ m → pair.1.at ≤ℤ m → summer_from standard summer (year + 1) pair.1.is_summer m ≡ whole
-after_second standard summer year b whole m pair lt e is h k =
-    ap (λ p. summer_from standard summer (year + 1) p.1.is_summer m) e
-    ∙ sym (
-    ap (λ ts. is_summer_by b ts m) (next_years standard summer year lt)
-    ∙ begun b (first_in standard summer year) _ m (subst (λ p. p.0.at ≤ℤ m) e h) ∙ begun _ (second_in standard summer year) _ m (subst (λ p. p.1.at ≤ℤ m) e k)
-    ) ∙ is
+-- the same with a pair that is the year's, and with what the clock of all years is
+pub with_pair : (standard : ℤ) (summer : Summer) (year : ℕ) (b whole : Bool) (m : ℤ) (pair : Transition × Transition) → year < 10_000 → pair ≡ transitions_in standard summer year → summer_from standard summer year b m ≡ whole → is_summer_by b (pair.0 ∷ pair.1 ∷ years_from standard summer (year + 1) (10_000 - (year + 1))) m ≡ whole
+with_pair standard summer year b whole m pair lt e is =
+    ap (λ p. is_summer_by b (p.0 ∷ p.1 ∷ years_from standard summer (year + 1) (10_000 - (year + 1))) m) e
+    ∙ sym (ap (λ ts. is_summer_by b ts m) (next_years standard summer year lt)) ∙ is
 
 pub after_all : (standard : ℤ) (summer : Summer) (year : ℕ) (b whole : Bool) (m : ℤ) → 10_000 ≤ year → summer_from standard summer year b m ≡ whole → b ≡ whole
 unfolding years_from
