@@ -5,4 +5,5 @@ mod name;
 
 pub use name::{NAME_LIMIT, is_zone_name};
 pub use zones_clock::{Moments, OFFSET_BOUND, Step, Stretch, Zone};
-pub use zones_file::{FILE_LIMIT, ZoneFault};
+pub use zones_file::{FILE_LIMIT, ZoneFault, read_zone};
+pub use zones_rule::{Change, Day, Footer, Names, Rule, Summer, read_rule};

@@ -1,2 +1,3 @@
 pub mod TableLemmas
 pub mod NameLemmas
+pub mod OrderLemmas

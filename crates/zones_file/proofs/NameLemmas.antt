@@ -1,11 +1,16 @@
 -- The name with which a footer begins is no longer than its text.
-use Rattle.std.proofs.Common.{◌≡◌, ℕ, ◌+◌, ◌≤◌, ◌==◌, refl, ap, ◌∙◌, sym, subst, arith, Bool, true, false, nat_le, ℤ, List, [], ◌∷◌, length, take, drop, Option, Some, None, length-take, if◌then◌else◌}
+use Rattle.std.proofs.Common.{◌≡◌, ℕ, ◌+◌, ◌-◌, ◌<◌, ◌≤◌, ◌==◌, refl, ap, sym, subst, arith, Bool, true, false, nat_le, ℤ, List, [], ◌∷◌, length, take, drop, Option, Some, None, length-take, length-drop, option_map, position, IfSome, if◌then◌else◌}
 use Rattle.std.specs.List.{prefix_len}
 use Rattle.std.specs.Char.{is_ascii_alphabetic}
 use Rattle.zones_rule.specs.declared.rule.Rule.{Rule}
 use Rattle.zones_rule.specs.Grammar as Grammar
 use Rattle.zones_rule.specs.Pieces.{then_cut, run, after_byte, at_end, byte, give, whole}
-use Rattle.zones_file.specs.Footer.{footer_of}
+use Rattle.zones_rule.specs.declared.footer.Footer.{Footer}
+use Rattle.zones_rule.specs.Grammar.{footer_view}
+use Rattle.zones_file.specs.declared.layout.Layout.{Layout}
+use Rattle.zones_file.specs.Layout.{IsLaidOut}
+use Rattle.zones_file.specs.Table.{letters_in}
+use Rattle.zones_file.specs.Footer.{up_to_line_feed, line_of, footer_text, footer_of, footer_in}
 
 none-some : {A : Type 0} (x : A) → None ≡ Some x → ⊥
 none-some x e = cc
@@ -71,3 +76,36 @@ rule-short text x e =
 pub footer_short : (text : List ℕ) (footer : Rule × List ℕ × List ℕ) → footer_of (Some text) ≡ Some footer → length footer.1 ≤ length text
 footer_short [] footer e = absurd (none-some footer e)
 footer_short (c ∷ text) footer e = let w = of-whole (Grammar.rule (c ∷ text)) footer e in rule-short (c ∷ text) (footer, w.0) w.1
+
+line-short : (bytes text : List ℕ) → up_to_line_feed bytes ≡ Some text → length text ≤ length bytes
+line-short bytes text = elim (position (λ byte. byte == 10) bytes) as (λ place. option_map (λ length. take length bytes) place ≡ Some text → length text ≤ length bytes) [
+  | None ↦ λ e. absurd (none-some text e)
+  | Some place ↦ λ e. omega (arith, ap length (same-in-some _ text e), length-take {A = ℕ})
+]
+
+begun-short : (b : Bool) (byte : ℕ) (bytes text : List ℕ) → (if b then up_to_line_feed bytes else None) ≡ Some text → length text ≤ length (byte ∷ bytes)
+begun-short true byte bytes text e = omega (arith, line-short bytes text e)
+begun-short false byte bytes text e = absurd (none-some text e)
+
+line_of-short : (bytes text : List ℕ) → line_of bytes ≡ Some text → length text ≤ length bytes
+unfolding line_of
+line_of-short [] text e = absurd (none-some text e)
+line_of-short (byte ∷ bytes) text e = begun-short (byte == 10) byte bytes text e
+
+footer_text-short : (bytes : List ℕ) (layout : Layout) (text : List ℕ) → footer_text bytes layout ≡ Some text → length text ≤ length bytes - layout.end
+footer_text-short bytes layout text = elim (layout.time_size == 4) as (λ b. (if b then Some [] else line_of (drop layout.end bytes)) ≡ Some text → length text ≤ length bytes - layout.end) [
+  | true ↦ λ e. omega (arith, ap length (same-in-some _ text e))
+  | false ↦ λ e. omega (arith, line_of-short _ text e, length-drop {A = ℕ})
+]
+
+footer_of-short : (text : Option (List ℕ)) (footer : Rule × List ℕ × List ℕ) (bound : ℕ) → ((some : List ℕ) → text ≡ Some some → length some ≤ bound) → footer_of text ≡ Some footer → length footer.1 ≤ bound
+footer_of-short None footer bound h e = absurd (none-some footer e)
+footer_of-short (Some text) footer bound h e = omega (arith, footer_short text footer e, h text refl)
+
+-- so that there is room for it after the letters of the table
+pub names_short : (bytes : List ℕ) (layout : Layout) (letters : List ℕ) (footer : Option Footer) → IsLaidOut layout (length bytes) → letters ≡ letters_in bytes layout → option_map footer_view footer ≡ footer_in bytes layout → IfSome footer (λ f. length letters + length f.standard_name.now < 65535)
+names_short bytes layout letters None laid l e = tt
+names_short bytes layout letters (Some footer) laid l e =
+    let name : length (footer_view footer).1 ≤ length bytes - layout.end = footer_of-short (footer_text bytes layout) (footer_view footer) _ (footer_text-short bytes layout) (sym e) in
+    let count : length letters ≤ layout.letter_count = omega (arith, ap length l, length-take {A = ℕ}) in
+    omega (arith, laid.some, laid.letters, laid.within, laid.whole, laid.short)

@@ -1,13 +1,21 @@
 -- What is wrong with a file: the first of the faults that it has, in the order in which a reader comes to them.
-use Rattle.std.specs.Prelude.{◌≡◌, ◌⊎◌, ℤ, pos, negsuc, int_lt, Result, MatchResult, ℕ, zero, suc, ◌+◌, ◌-◌, ◌==◌, ◌&&◌, ◌||◌, not, nat_lt, nat_le, Bool, true, false, List, [], ◌∷◌, length, slice_index, Option, Some, None}
+use Rattle.std.specs.Prelude.{◌≡◌, ◌⊎◌, ℤ, pos, negsuc, int_lt, int_le, Result, MatchResult, ℕ, zero, suc, ◌+◌, ◌-◌, ◌==◌, ◌&&◌, ◌||◌, not, nat_lt, nat_le, Bool, true, false, List, [], ◌∷◌, length, slice_index, Option, Some, None}
 use Rattle.std.specs.Option.{option_or, is_none}
+use Rattle.std.specs.Ordering.{int_eq}
+use Rattle.zones_clock.specs.declared.zone.Step.{Step}
+use Rattle.zones_rule.specs.declared.rule.Rule.{Rule}
+use Rattle.zones_rule.specs.declared.rule.Summer.{Summer}
 use Rattle.zones_rule.specs.Grammar.{rule_of}
+use Rattle.zones_rule.specs.Years.{transitions_in}
+use Rattle.zones_rule.specs.Transitions.{offset_by_rule}
 use Rattle.zones_file.specs.declared.fault.ZoneFault.{ZoneFault}
-use Rattle.zones_file.specs.declared.fault.ZoneFault.TheVariants.{Long, Header, Version, Length, LeapSeconds, UnknownType, Offset, Order, Footer, Memory}
+use Rattle.zones_file.specs.declared.fault.ZoneFault.TheVariants.{Long, Header, Version, Length, LeapSeconds, UnknownType, Offset, Order, Footer, Crossing, Disagrees, Memory}
 use Rattle.zones_file.specs.declared.layout.Layout.{Layout}
 use Rattle.zones_file.specs.declared.layout.Counts.{Counts}
 use Rattle.zones_file.specs.Layout.{has_magic, counts_at, data_place, data_layout}
 use Rattle.zones_file.specs.Table.{type_in, time_in}
+use Rattle.zones_file.specs.Footer.{footer_text}
+use Rattle.zones_file.specs.Zone.{last_moment, last_offset, first_type, table_steps, footer_of_file}
 
 -- a fault where a test holds
 abbrev pub when : Bool → ZoneFault → Option ZoneFault
@@ -84,3 +92,29 @@ abbrev pub text_fault : Option (List ℕ) → Option ZoneFault
 text_fault None = Some Footer
 text_fault (Some []) = None
 text_fault (Some (byte ∷ text)) = when (is_none (rule_of (byte ∷ text))) Footer
+
+-- the transitions of no year come before those of the year before it, of so many years
+unfoldable pub years_in_order : ℤ → Summer → ℕ → Bool
+years_in_order standard summer zero = true
+years_in_order standard summer (suc count) = years_in_order standard summer count && int_le (transitions_in standard summer (count + 1)).1.at (transitions_in standard summer (count + 1 + 1)).0.at
+
+abbrev pub is_in_order : ℤ → Option Summer → Bool
+is_in_order standard None = true
+is_in_order standard (Some summer) = years_in_order standard summer 9_999
+
+-- a rule's years cross, or by it the clock has another offset at a moment (section 3.3)
+unfoldable pub rule_fault : Rule → ℤ → ℤ → Option ZoneFault
+rule_fault rule moment offset = first_of (when (not (is_in_order rule.standard rule.summer)) Crossing ∷ when (not (int_eq (offset_by_rule rule moment) offset)) Disagrees ∷ [])
+
+abbrev pub footer_fault : ℤ → List Step → Option (Rule × List ℕ × List ℕ) → Option ZoneFault
+footer_fault first steps None = None
+footer_fault first steps (Some (rule, standard, summer)) = rule_fault rule (last_moment steps) (last_offset first steps)
+
+-- the first fault of a file, if it has any
+unfoldable pub fault_of : List ℕ → Option ZoneFault
+fault_of bytes = first_of (
+    layout_fault bytes
+    ∷ table_fault bytes (data_layout bytes) (data_layout bytes).step_count
+    ∷ text_fault (footer_text bytes (data_layout bytes))
+    ∷ footer_fault (first_type bytes).offset (table_steps bytes) (footer_of_file bytes)
+    ∷ [])

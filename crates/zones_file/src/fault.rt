@@ -25,6 +25,8 @@ pub enum ZoneFault {
     Order,
     /// The rule for what comes after the last transition cannot be read.
     Footer,
+    /// By that rule the clock is changed in a year before it was changed in the year before.
+    Crossing,
     /// By that rule the clock has another offset at the last transition than by the table.
     Disagrees,
     /// There is no memory.

@@ -6,7 +6,9 @@ mod fault;
 mod footer;
 mod layout;
 mod names;
+mod read;
 mod table;
 
 pub use fault::ZoneFault;
 pub use layout::FILE_LIMIT;
+pub use read::read_zone;
