@@ -1,0 +1,92 @@
+-- What a clock shows, and the moments that a reading names.
+use Rattle.std.specs.Prelude.{pos, ◌-◌, ◌≡◌, ℕ, ◌<◌, ℤ, ◌<ℤ◌, ◌≤ℤ◌, ◌+ℤ◌, ◌-ℤ◌, length, List, ◌⊎◌, ◌↔◌}
+use Rattle.zones_clock.specs.declared.zone.Step.{Step}
+use Rattle.zones_clock.specs.declared.zone.Moments.{Moments}
+use Rattle.zones_clock.specs.declared.zone.Moments.TheVariants.{Skipped, One, Repeated}
+use Rattle.zones_clock.specs.Steps.{offset_at, offset_after, step_at, IsReading}
+
+-- at this moment the clock shows this reading
+pub record Shows (first : ℤ) (steps : List Step) (reading moment : ℤ) : Type 0 where
+  pub shown : moment +ℤ offset_at first steps moment ≡ reading
+
+-- the answer to a reading: the only moment at which the clock shows it, that there is none, or two of several
+abbrev pub AreTheMoments : ℤ → List Step → ℤ → Moments → Type 0
+AreTheMoments first steps reading Skipped = (moment : ℤ) → Shows first steps reading moment → ⊥
+AreTheMoments first steps reading (One m) = Shows first steps reading m × ((moment : ℤ) → Shows first steps reading moment → moment ≡ m)
+AreTheMoments first steps reading (Repeated m n) = Shows first steps reading m × Shows first steps reading n × (m <ℤ n)
+
+-- so many steps have begun at a moment
+abbrev pub AllBegun : List Step → ℕ → ℤ → Type 0
+AllBegun steps count moment = (i : ℕ) → i < count → (step_at steps i).from ≤ℤ moment
+
+-- so many steps have begun at a moment, and the next has not
+abbrev pub IsIn : List Step → ℕ → ℤ → Type 0
+IsIn steps count moment = AllBegun steps count moment × (count < length steps → moment <ℤ (step_at steps count).from)
+
+-- there is a step after so many, and it has begun at a moment
+pub record HasNextBegun (steps : List Step) (count : ℕ) (moment : ℤ) : Type 0 where
+  pub there : count < length steps
+  pub begun : (step_at steps count).from ≤ℤ moment
+
+-- the moment is the only one found, or there are several
+abbrev pub Has : Moments → ℤ → Type 0
+Has Skipped moment = ⊥
+Has (One m) moment = moment ≡ m
+Has (Repeated m n) moment = Unit {0}
+
+-- what was found is shown
+abbrev pub AreShown : ℤ → List Step → ℤ → Moments → Type 0
+AreShown first steps reading Skipped = Unit {0}
+AreShown first steps reading (One m) = Shows first steps reading m
+AreShown first steps reading (Repeated m n) = Shows first steps reading m × Shows first steps reading n × (m <ℤ n)
+
+-- the moment is later than the only one found
+abbrev pub IsAfter : Moments → ℤ → Type 0
+IsAfter Skipped moment = Unit {0}
+IsAfter (One m) moment = m <ℤ moment
+IsAfter (Repeated m n) moment = Unit {0}
+
+-- what was found lies before that many steps have begun
+abbrev pub AreBefore : Moments → List Step → ℕ → Type 0
+AreBefore found steps count = (moment : ℤ) → AllBegun steps count moment → IsAfter found moment
+
+-- each moment that shows the reading was found, or lies where that many steps have begun
+abbrev pub AllFound : ℤ → List Step → ℤ → Moments → ℕ → Type 0
+AllFound first steps reading found count = (moment : ℤ) → Shows first steps reading moment → Has found moment ⊎ AllBegun steps count moment
+
+-- what was found among the moments before that many steps have begun
+pub record IsFound (first : ℤ) (steps : List Step) (reading : ℤ) (count : ℕ) (found : Moments) : Type 0 where
+  pub shown : AreShown first steps reading found
+  pub all : AllFound first steps reading found count
+  pub before : AreBefore found steps count
+
+-- with a later moment added
+abbrev pub with_moment : Moments → ℤ → Moments
+with_moment Skipped moment = One moment
+with_moment (One m) moment = Repeated m moment
+with_moment (Repeated m n) moment = Repeated m n
+
+-- the moment at which a clock with the offset after that many steps shows the reading was added, if it lies there
+pub data IsTaken (first : ℤ) (steps : List Step) (reading : ℤ) (count : ℕ) (found : Moments) (result : Moments) : Type 0 where
+  lies_there : IsIn steps count (reading -ℤ offset_after first steps count) → result ≡ with_moment found (reading -ℤ offset_after first steps count) → IsTaken first steps reading count found result
+  lies_elsewhere : (IsIn steps count (reading -ℤ offset_after first steps count) → ⊥) → result ≡ found → IsTaken first steps reading count found result
+
+-- each reading from one on and before another names one moment, by one offset
+abbrev pub AreSure : ℤ → List Step → ℤ → ℤ → ℤ → Type 0
+AreSure first steps from until offset = (reading : ℤ) → IsReading reading → from ≤ℤ reading → reading <ℤ until → AreTheMoments first steps reading (One (reading -ℤ offset))
+
+-- the last of so many steps, if there is one, has begun at a moment
+abbrev pub HasLastBegun : List Step → ℕ → ℤ → Type 0
+HasLastBegun steps count moment = 0 < count → (step_at steps (count - 1)).from ≤ℤ moment
+
+-- readings from this one on are those 26 hours before which the last of so many steps has begun
+abbrev pub IsSureFrom : List Step → ℕ → ℤ → Type 0
+IsSureFrom steps count from = (reading : ℤ) → IsReading reading → (from ≤ℤ reading) ↔ HasLastBegun steps count (reading -ℤ pos 93_600)
+
+-- readings before this one are those 26 hours after which the step after so many has not begun
+abbrev pub IsSureUntil : List Step → ℕ → ℤ → Type 0
+IsSureUntil steps count until = (reading : ℤ) → IsReading reading → (reading <ℤ until) ↔ (count < length steps → (reading +ℤ pos 93_600) <ℤ (step_at steps count).from)
+
+-- no step begins within 26 hours of a reading
+abbrev pub IsFarFromSteps : List Step → ℤ → Type 0
+IsFarFromSteps steps reading = (i : ℕ) → i < length steps → ((step_at steps i).from ≤ℤ (reading -ℤ pos 93_600)) ⊎ ((reading +ℤ pos 93_600) <ℤ (step_at steps i).from)

@@ -1,0 +1,11 @@
+//! A zone's clock: a list of steps at which its distance from UTC changes, and the moments that a reading of it names.
+#![tactic(auto)]
+
+mod building;
+mod lookup;
+mod names;
+mod stretch;
+mod zone;
+
+pub use stretch::Stretch;
+pub use zone::{Moments, OFFSET_BOUND, Step, Zone};

@@ -1,0 +1,56 @@
+//! The abbreviations that a zone's clock has, as `CET` and `CEST`.
+ghost use Rattle.std.specs.Prelude.{◌≡◌, ◌≤◌, ◌==◌, not, drop, length, vec_len};
+ghost use Rattle.std.specs.List.{take_while};
+ghost use Rattle.zones_clock.specs.Steps.{name_place_at, name_place_after, name_in};
+
+use crate::zone::Zone;
+
+// The letters from a place on: none past the end.
+fn letters_from(letters: &[u8], place: usize) -> &[u8]
+    ensures { result.now ≡ drop place letters.now }
+{
+    if place < letters.len() {
+        &letters[place..]
+    } else {
+        &[]
+    }
+}
+
+// How many letters stand before the first byte 0.
+fn count_letters(letters: &[u8]) -> usize
+    ensures { result ≡ length (take_while (λ byte. not (byte == 0)) letters.now) }
+{
+    letters.iter().take_while(|byte| **byte != 0).count()
+}
+
+// The letters from a place up to the next byte 0.
+fn name_in(letters: &[u8], place: usize) -> &[u8]
+    ensures { result.now ≡ name_in letters.now place }
+{
+    let rest = letters_from(letters, place);
+    &rest[..count_letters(rest)]
+}
+
+impl Zone {
+    // The place of the abbreviation after so many steps.
+    fn name_place_after(&self, count: usize) -> u16
+        requires { count ≤ vec_len self.now.steps }
+        ensures { result ≡ name_place_after self.now.first_name self.now.steps.items count }
+    {
+        if count == 0 {
+            self.first_name
+        } else {
+            self.steps[count - 1].name
+        }
+    }
+
+    /// The abbreviation that the clock has at a moment, given in seconds since 1970-01-01T00:00:00Z: empty where the zone has
+    /// none.
+    pub fn name_at(&self, moment: i64) -> &[u8]
+        ensures { result.now ≡ name_in self.now.letters.items
+            (name_place_at self.now.first_name self.now.steps.items moment) }
+    {
+        let place = self.name_place_after(self.count_begun(moment));
+        name_in(&self.letters, usize::from(place))
+    }
+}

@@ -1,0 +1,3 @@
+pub mod NumberLemmas
+pub mod TransitionLemmas
+pub mod PushLemmas
