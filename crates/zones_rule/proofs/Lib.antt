@@ -1,3 +1,4 @@
 pub mod NumberLemmas
 pub mod TransitionLemmas
 pub mod PushLemmas
+pub mod WeekLemmas

@@ -12,9 +12,6 @@ use Rattle.zones_rule.specs.Transitions.{after, without_overtaken, step_of, year
 use Rattle.zones_rule.specs.Pushing.{steps_left, LosesNothing, IsReady}
 use Rattle.zones_rule.proofs.TransitionLemmas.{lt-true, lt-false, year_rising, next_years}
 
-steps_of : Clock → List Transition → List Step
-steps_of clock ts = map (step_of clock.standard clock.summer clock.names) (without_overtaken ts)
-
 -- the first that comes after the moment is put off
 pub starts : (clock : Clock) (moment : ℤ) (steps : List Step) (pending : Option Transition) (next : Transition) → pending ≡ None → moment <ℤ next.at → LosesNothing clock moment steps (Some next) steps pending next
 unfolding after

@@ -1,5 +1,5 @@
 -- The instants at which a rule changes the clock in a year: POSIX.1-2024, section 8.3, `TZ`. Days are counted from 0001-01-01, which is a Monday.
-use Rattle.std.specs.Prelude.{ℕ, ◌+◌, ◌-◌, ◌*◌, ◌/◌, ◌%◌, ◌==◌, ◌&&◌, ◌||◌, not, Bool, true, false, nat_lt, int_le, ℤ, pos, ◌+ℤ◌, ◌-ℤ◌, ◌*ℤ◌, if◌then◌else◌, List, [], ◌∷◌, get_or}
+use Rattle.std.specs.Prelude.{◌≡◌, ◌<◌, ◌≤◌, ℕ, ◌+◌, ◌-◌, ◌*◌, ◌/◌, ◌%◌, ◌==◌, ◌&&◌, ◌||◌, not, Bool, true, false, nat_lt, int_le, ℤ, pos, ◌+ℤ◌, ◌-ℤ◌, ◌*ℤ◌, if◌then◌else◌, List, [], ◌∷◌, get_or}
 use Rattle.zones_rule.specs.declared.rule.Day.{Day}
 use Rattle.zones_rule.specs.declared.rule.Day.TheVariants.{Julian, Numbered, Weekday}
 use Rattle.zones_rule.specs.declared.rule.Change.{Change}
@@ -41,6 +41,13 @@ unless_after found next = if nat_lt found next then found else found - 7
 
 abbrev pub weekday_in : ℕ → ℕ → ℕ → ℕ → ℕ
 weekday_in year month week weekday = unless_after (weekday_from (first_day_of_month year month) weekday + (week - 1) * 7) (first_day_after year month)
+
+-- `Mm.w.d` in words: that weekday of the month, in its week of the seven days from the month's first on, or for the fifth week the last
+pub record IsWeekday (first next week weekday day : ℕ) : Type 0 where
+  pub is_weekday : (day + 1) % 7 ≡ weekday
+  pub in_month : (first ≤ day) × (day < next)
+  pub in_week : week < 5 → (first + (week - 1) * 7 ≤ day) × (day < first + week * 7)
+  pub is_last : week ≡ 5 → next ≤ day + 7
 
 unfoldable pub day_in : Day → ℕ → ℕ
 day_in (Julian number) year = julian_day number year

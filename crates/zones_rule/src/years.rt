@@ -63,6 +63,8 @@ fn first_day_after(year: u64, month: u8) -> u64
 fn weekday_in(year: u64, month: u8, week: u8, weekday: u8) -> u64
     requires { (1 ≤ year) × (year ≤ 10000) }
     ensures value { result ≡ Years.weekday_in year month week weekday }
+    ensures words { 1 ≤ month → month ≤ 12 → 1 ≤ week → week ≤ 5 → weekday ≤ 6
+        → Years.IsWeekday (Years.first_day_of_month year month) (Years.first_day_after year month) week weekday result }
     ensures bound { result < 4075000 }
 {
     let first = first_day_of_month(year, month);
