@@ -1,3 +1,2 @@
 pub mod TableLemmas
-pub mod NameLemmas
 pub mod OrderLemmas

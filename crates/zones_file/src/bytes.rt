@@ -7,12 +7,8 @@ pub(crate) fn count_at(bytes: &[u8], place: usize) -> u32
     requires { place + 4 ≤ length bytes.now }
     ensures { result ≡ be_u32 bytes.now place }
 {
-    u32::from_be_bytes([
-        bytes[place],
-        bytes[place + 1],
-        bytes[place + 2],
-        bytes[place + 3],
-    ])
+    let b = &bytes[place..place + 4];
+    u32::from_be_bytes([b[0], b[1], b[2], b[3]])
 }
 
 /// A signed number of four bytes.
@@ -20,12 +16,7 @@ pub(crate) fn int_at(bytes: &[u8], place: usize) -> i32
     requires { place + 4 ≤ length bytes.now }
     ensures { result ≡ be_i32 bytes.now place }
 {
-    i32::from_be_bytes([
-        bytes[place],
-        bytes[place + 1],
-        bytes[place + 2],
-        bytes[place + 3],
-    ])
+    count_at(bytes, place).cast_signed()
 }
 
 /// A signed number of eight bytes.
@@ -33,14 +24,6 @@ pub(crate) fn long_at(bytes: &[u8], place: usize) -> i64
     requires { place + 8 ≤ length bytes.now }
     ensures { result ≡ be_i64 bytes.now place }
 {
-    i64::from_be_bytes([
-        bytes[place],
-        bytes[place + 1],
-        bytes[place + 2],
-        bytes[place + 3],
-        bytes[place + 4],
-        bytes[place + 5],
-        bytes[place + 6],
-        bytes[place + 7],
-    ])
+    let b = &bytes[place..place + 8];
+    i64::from_be_bytes([b[0], b[1], b[2], b[3], b[4], b[5], b[6], b[7]])
 }

@@ -55,30 +55,9 @@ fn check_rule(zone: &Zone, rule: &Rule, moment: i64) -> Result<(), ZoneFault>
     Ok(())
 }
 
-// Adds the names and the steps of a footer to the zone of a table.
-fn add_footer(zone: &mut Zone, footer: &Footer<'_>) -> Result<(), ZoneFault>
-    requires offsets { AreOffsets footer.now.rule }
-    requires short { length zone.old.letters.items + length footer.now.standard_name.now < 65535 }
-    ensures first { zone.new.first ≡ zone.old.first }
-    ensures first_name { zone.new.first_name ≡ zone.old.first_name }
-    ensures steps { OnOk result (zone.new.steps.items ≡ zone.old.steps.items
-        ++ steps_after footer.now.rule (names_after zone.old.letters.items footer.now.standard_name.now) (last_moment zone.old.steps.items)) }
-    ensures letters { OnOk result (zone.new.letters.items
-        ≡ ended (ended zone.old.letters.items footer.now.standard_name.now) footer.now.summer_name.now) }
-    ensures fault { Tells result (rule_fault footer.now.rule (last_moment zone.old.steps.items) (last_offset zone.old.first zone.old.steps.items)) }
-    ensures law { OnOk result (FollowsFrom footer.now.rule (last_moment zone.old.steps.items) zone.new.first zone.new.steps.items) }
-{
-    let moment = last_moment(zone);
-    check_rule(zone, &footer.rule, moment)?;
-    let names = push_names(&mut zone.letters, footer)?;
-    footer.rule.push_steps(names, zone, moment)?;
-    Ok(())
-}
-
-// Adds what a footer says, if there is one.
-fn add_if_any(zone: &mut Zone, footer: Option<Footer<'_>>) -> Result<(), ZoneFault>
-    requires offsets { IfSome footer (λ footer. AreOffsets footer.rule) }
-    requires short { IfSome footer (λ footer. length zone.old.letters.items + length footer.standard_name.now < 65535) }
+// Adds to the zone of a table what a footer says, if there is one.
+fn add_footer(zone: &mut Zone, footer: Option<Footer<'_>>) -> Result<(), ZoneFault>
+    requires { IfSome footer (λ footer. AreOffsets footer.rule) }
     ensures first { zone.new.first ≡ zone.old.first }
     ensures first_name { zone.new.first_name ≡ zone.old.first_name }
     ensures steps { OnOk result (zone.new.steps.items
@@ -87,10 +66,14 @@ fn add_if_any(zone: &mut Zone, footer: Option<Footer<'_>>) -> Result<(), ZoneFau
     ensures fault { Tells result (footer_fault zone.old.first zone.old.steps.items (option_map footer_view footer.entry)) }
     ensures law { OnOk result (FollowsFooter (option_map footer_view footer.entry) (last_moment zone.old.steps.items) zone.new.first zone.new.steps.items) }
 {
-    match footer {
-        Some(footer) => add_footer(zone, &footer),
-        None => Ok(()),
-    }
+    let Some(footer) = footer else {
+        return Ok(());
+    };
+    let moment = last_moment(zone);
+    check_rule(zone, &footer.rule, moment)?;
+    let names = push_names(&mut zone.letters, &footer)?;
+    footer.rule.push_steps(names, zone, moment)?;
+    Ok(())
 }
 
 /// The zone of a TZif file: the transitions of its table, and after them those that its footer's rule gives up to the year
@@ -111,6 +94,6 @@ pub fn read_zone(alloc: Global, bytes: &[u8]) -> Result<Zone, ZoneFault>
     let layout = read_layout(bytes)?;
     let mut zone = read_table(alloc, bytes, layout)?;
     let footer = read_footer(bytes, layout)?;
-    add_if_any(&mut zone, footer)?;
+    add_footer(&mut zone, footer)?;
     Ok(zone)
 }

@@ -1,5 +1,5 @@
 -- One more transition: what is added, and what is put off.
-use Rattle.std.proofs.Common.{◌≡◌, ℕ, suc, ◌+◌, ◌-◌, ◌<◌, ◌≤◌, Bool, true, false, refl, ap, ◌∙◌, sym, subst, arith, ℤ, ◌<ℤ◌, ◌≤ℤ◌, int_lt, List, [], ◌∷◌, ◌++◌, append_assoc, append-nil, length-append, length, map, if◌then◌else◌, Option, Some, None}
+use Rattle.std.proofs.Common.{◌≡◌, ℕ, ◌+◌, ◌-◌, ◌<◌, ◌≤◌, ap, ◌∙◌, sym, subst, arith, ℤ, ◌<ℤ◌, ◌≤ℤ◌, List, [], ◌∷◌, ◌++◌, append_assoc, append-nil, length-append, length, map, if◌then◌else◌, Option, Some, None}
 use Rattle.std.proofs.lemmas.Int.{ints}
 use Rattle.std.proofs.lemmas.List.{get_or_push}
 use Rattle.zones_clock.specs.declared.zone.Step.{Step}
@@ -7,9 +7,9 @@ use Rattle.zones_clock.specs.Steps.{step_at, no_step, ComesAfter}
 use Rattle.zones_rule.specs.declared.years.Transition.{Transition}
 use Rattle.zones_rule.specs.declared.steps.Clock.{Clock}
 use Rattle.zones_rule.specs.declared.rule.Summer.{Summer}
-use Rattle.zones_rule.specs.Years.{transitions_in}
+use Rattle.zones_rule.specs.Years.{transitions_in, first_in}
 use Rattle.zones_rule.specs.Transitions.{after, without_overtaken, step_of, years_from, YearsInOrder}
-use Rattle.zones_rule.specs.Pushing.{left, steps_left, LosesNothing, IsReady}
+use Rattle.zones_rule.specs.Pushing.{steps_left, LosesNothing, IsReady}
 use Rattle.zones_rule.proofs.TransitionLemmas.{lt-true, lt-false, year_rising, next_years}
 
 steps_of : Clock → List Transition → List Step
@@ -62,9 +62,9 @@ pub ready_in_year : (standard : ℤ) (summer : Summer) (year : ℕ) (pair : Tran
 ready_in_year standard summer year pair steps moment pending e h =
     ready_until steps moment pending pair.0.at pair.1.at (subst (λ p. p.0.at ≤ℤ p.1.at) (sym e) (year_rising standard summer year)) h
 
-pub ready_next_year : (standard : ℤ) (summer : Summer) (year : ℕ) (pair : Transition × Transition) (steps : List Step) (moment : ℤ) (pending : Option Transition) → YearsInOrder standard (Some summer) → 1 ≤ year → year ≤ 9_999 → pair ≡ transitions_in standard summer year → IsReady steps moment pending pair.1.at → IsReady steps moment pending (transitions_in standard summer (year + 1)).0.at
+pub ready_next_year : (standard : ℤ) (summer : Summer) (year : ℕ) (pair : Transition × Transition) (steps : List Step) (moment : ℤ) (pending : Option Transition) → YearsInOrder standard (Some summer) → 1 ≤ year → year ≤ 9_999 → pair ≡ transitions_in standard summer year → IsReady steps moment pending pair.1.at → IsReady steps moment pending (first_in standard summer (year + 1)).at
 ready_next_year standard summer year pair steps moment pending order some most e h =
-    ready_until steps moment pending pair.1.at _ (subst (λ p. p.1.at ≤ℤ (transitions_in standard summer (year + 1)).0.at) (sym e) (order year some most)) h
+    ready_until steps moment pending pair.1.at _ (subst (λ p. p.1.at ≤ℤ (first_in standard summer (year + 1)).at) (sym e) (order year some most)) h
 
 -- one more year
 pub year_pushed : (clock : Clock) (moment : ℤ) (year : ℕ) (pair : Transition × Transition) (old more new whole : List Step) (one two three : Option Transition) → year < 10_000 → pair ≡ transitions_in clock.standard clock.summer year → LosesNothing clock moment more two old one pair.0 → LosesNothing clock moment new three more two pair.1 → old ++ steps_left clock moment one (years_from clock.standard clock.summer year (10_000 - year)) ≡ whole → new ++ steps_left clock moment three (years_from clock.standard clock.summer (year + 1) (10_000 - (year + 1))) ≡ whole

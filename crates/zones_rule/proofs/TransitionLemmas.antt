@@ -8,7 +8,7 @@ use Rattle.zones_clock.proofs.ClockLemmas.{all_begun}
 use Rattle.zones_rule.specs.declared.rule.Summer.{Summer}
 use Rattle.zones_rule.specs.declared.rule.Names.{Names}
 use Rattle.zones_rule.specs.declared.years.Transition.{Transition}
-use Rattle.zones_rule.specs.Years.{start_in, end_in, paired, transitions_in}
+use Rattle.zones_rule.specs.Years.{start_in, end_in, paired, transitions_in, first_in, second_in}
 use Rattle.zones_rule.specs.Transitions.{years_from, all_years, after, without_overtaken, is_summer_by, offset_when, offset_by, step_of, steps_by, YearsInOrder, LastHasBegun, FollowsYears, IsOfYear, is_between, is_summer_in}
 
 pub lt-true : (a b : ℤ) → a <ℤ b → int_lt a b ≡ true
@@ -18,7 +18,7 @@ pub lt-false : (a b : ℤ) → b ≤ℤ a → int_lt a b ≡ false
 lt-false a b h = grind (arith, ints)
 
 -- a first transition that has come, or has not
-begun : (b : Bool) (t : Transition) (rest : List Transition) (m : ℤ) → t.at ≤ℤ m → is_summer_by b (t ∷ rest) m ≡ is_summer_by t.is_summer rest m
+pub begun : (b : Bool) (t : Transition) (rest : List Transition) (m : ℤ) → t.at ≤ℤ m → is_summer_by b (t ∷ rest) m ≡ is_summer_by t.is_summer rest m
 unfolding is_summer_by
 begun b t rest m h = ap (λ v. if v then b else is_summer_by t.is_summer rest m) (lt-false m t.at h)
 
@@ -26,17 +26,23 @@ none_yet : (b : Bool) (m : ℤ) → is_summer_by b [] m ≡ b
 unfolding is_summer_by
 none_yet b m = refl
 
-waits : (b : Bool) (t : Transition) (rest : List Transition) (m : ℤ) → m <ℤ t.at → is_summer_by b (t ∷ rest) m ≡ b
+pub waits : (b : Bool) (t : Transition) (rest : List Transition) (m : ℤ) → m <ℤ t.at → is_summer_by b (t ∷ rest) m ≡ b
 unfolding is_summer_by
 waits b t rest m h = ap (λ v. if v then b else is_summer_by t.is_summer rest m) (lt-true m t.at h)
+
+false_true : false ≡ true → ⊥
+false_true h = grind arith
+
+not_below : (a b : ℤ) → a <ℤ b → b ≤ℤ a → ⊥
+not_below a b h g = omega (arith, ints)
 
 -- ---- a year's clock
 
 -- the transitions of a year that has not come change nothing
-years_wait : (standard : ℤ) (summer : Summer) (b : Bool) (year count : ℕ) (m : ℤ) → m <ℤ (transitions_in standard summer year).0.at → is_summer_by b (years_from standard summer year count) m ≡ b
+years_wait : (standard : ℤ) (summer : Summer) (b : Bool) (year count : ℕ) (m : ℤ) → m <ℤ (first_in standard summer year).at → is_summer_by b (years_from standard summer year count) m ≡ b
 unfolding years_from
 years_wait standard summer b year zero m h = none_yet b m
-years_wait standard summer b year (suc count) m h = waits b (transitions_in standard summer year).0 ((transitions_in standard summer year).1 ∷ years_from standard summer (year + 1) count) m h
+years_wait standard summer b year (suc count) m h = waits b (first_in standard summer year) ((second_in standard summer year) ∷ years_from standard summer (year + 1) count) m h
 
 one_or_other : (a b : ℤ) → (a <ℤ b) ⊎ (b ≤ℤ a)
 one_or_other a b = elim (int_lt a b) as (λ v. int_lt a b ≡ v → (a <ℤ b) ⊎ (b ≤ℤ a)) [
@@ -48,26 +54,9 @@ pair_rising : (v : Bool) (start end : Transition) → int_le start.at end.at ≡
 pair_rising true start end e = grind (arith, ints)
 pair_rising false start end e = grind (arith, ints)
 
-pub year_rising : (standard : ℤ) (summer : Summer) (year : ℕ) → (transitions_in standard summer year).0.at ≤ℤ (transitions_in standard summer year).1.at
+pub year_rising : (standard : ℤ) (summer : Summer) (year : ℕ) → (first_in standard summer year).at ≤ℤ (second_in standard summer year).at
 unfolding transitions_in
 year_rising standard summer year = pair_rising _ (start_in standard summer year) (end_in standard summer year) refl
-
--- the transitions of a year come no later than those of each year after it
-years_rising : (standard : ℤ) (summer : Summer) → YearsInOrder standard (Some summer) → (year more : ℕ) → 1 ≤ year → year + more ≤ 9_999 → (transitions_in standard summer year).1.at ≤ℤ (transitions_in standard summer (year + more + 1)).0.at
-years_rising standard summer order year zero some last = rw (let e : year + 0 ≡ year = omega arith in e) (order year some (omega arith))
-years_rising standard summer order year (suc more) some last =
-    let before : (transitions_in standard summer year).1.at ≤ℤ (transitions_in standard summer (year + more + 1)).0.at = years_rising standard summer order year more some (omega arith) in
-    let within : (transitions_in standard summer (year + more + 1)).0.at ≤ℤ (transitions_in standard summer (year + more + 1)).1.at = year_rising standard summer (year + more + 1) in
-    let next : (transitions_in standard summer (year + more + 1)).1.at ≤ℤ (transitions_in standard summer (year + more + 1 + 1)).0.at = order (year + more + 1) (omega arith) (omega arith) in
-    let e : year + suc more ≡ year + more + 1 = omega arith in
-    rw e (omega (arith, ints))
-
-passed : (standard : ℤ) (summer : Summer) → YearsInOrder standard (Some summer) → (from year : ℕ) (m : ℤ) → 1 ≤ from → from < year → IsOfYear standard summer year m → (transitions_in standard summer from).1.at ≤ℤ m
-passed standard summer order from year m some lt is =
-    let e : from + (year - from - 1) + 1 ≡ year = omega arith in
-    let le : (transitions_in standard summer from).1.at ≤ℤ (transitions_in standard summer year).0.at = subst (λ y. (transitions_in standard summer from).1.at ≤ℤ (transitions_in standard summer y).0.at) e (years_rising standard summer order from (year - from - 1) some (let l = is.last in omega arith)) in
-    let h : (transitions_in standard summer year).0.at ≤ℤ m = is.begun in
-    omega (arith, ints)
 
 -- in its year a moment is before the second transition or not
 two_now : (one two : Transition) (b : Bool) (rest : List Transition) (m : ℤ) → one.at ≤ℤ m → ((v : Bool) → is_summer_by v rest m ≡ v) → is_summer_by b (one ∷ two ∷ rest) m ≡ (if int_lt m two.at then one.is_summer else two.is_summer)
@@ -81,32 +70,28 @@ between_now true start end m s e h = grind (arith, ints)
 between_now false start end m s e h = grind (arith, ints)
 
 -- the clock of a moment's year
-year_now : (standard : ℤ) (summer : Summer) (b : Bool) (year : ℕ) (rest : List Transition) (m : ℤ) → (transitions_in standard summer year).0.at ≤ℤ m → ((v : Bool) → is_summer_by v rest m ≡ v) → is_summer_by b ((transitions_in standard summer year).0 ∷ (transitions_in standard summer year).1 ∷ rest) m ≡ is_summer_in standard summer year m
+year_now : (standard : ℤ) (summer : Summer) (b : Bool) (year : ℕ) (rest : List Transition) (m : ℤ) → (first_in standard summer year).at ≤ℤ m → ((v : Bool) → is_summer_by v rest m ≡ v) → is_summer_by b ((first_in standard summer year) ∷ (second_in standard summer year) ∷ rest) m ≡ is_summer_in standard summer year m
 unfolding transitions_in start_in end_in
 year_now standard summer b year rest m h still =
-    two_now (transitions_in standard summer year).0 (transitions_in standard summer year).1 b rest m h still
+    two_now (first_in standard summer year) (second_in standard summer year) b rest m h still
     ∙ between_now _ (start_in standard summer year) (end_in standard summer year) m refl refl h
 
--- the clock of all years
-year_law : (standard : ℤ) (summer : Summer) (year : ℕ) (m : ℤ) (b : Bool) (from count : ℕ) → YearsInOrder standard (Some summer) → IsOfYear standard summer year m → 1 ≤ from → from ≤ year → year < from + count → is_summer_by b (years_from standard summer from count) m ≡ is_summer_in standard summer year m
+-- a moment is of one of the years, and the clock of all is that year's
+year_law : (standard : ℤ) (summer : Summer) (m : ℤ) (count : ℕ) (b : Bool) (from : ℕ) → YearsInOrder standard (Some summer) → 1 ≤ from → from + count ≤ 10_000 → (first_in standard summer from).at ≤ℤ m → m <ℤ (first_in standard summer (from + count)).at → (year : ℕ) × (IsOfYear standard summer year m × (is_summer_by b (years_from standard summer from count) m ≡ is_summer_in standard summer year m))
 unfolding years_from
-year_law standard summer year m b from zero order is some low high = absurd (omega arith)
-year_law standard summer year m b from (suc count) order is some low high = elim (cases_lt from year) [
-  | inl lt ↦
-      let second : (transitions_in standard summer from).1.at ≤ℤ m = passed standard summer order from year m some lt is in
-      let first : (transitions_in standard summer from).0.at ≤ℤ m = let r : (transitions_in standard summer from).0.at ≤ℤ (transitions_in standard summer from).1.at = year_rising standard summer from in omega (arith, ints) in
-      begun b (transitions_in standard summer from).0 _ m first ∙ begun _ (transitions_in standard summer from).1 _ m second
-      ∙ year_law standard summer year m (transitions_in standard summer from).1.is_summer (from + 1) count order is (omega arith) (omega arith) (omega arith)
+year_law standard summer m zero b from order some most h k = absurd (not_below m (first_in standard summer from).at (rw (let e : from + 0 ≡ from = omega arith in e) at k) h)
+year_law standard summer m (suc count) b from order some most h k = elim (one_or_other m (first_in standard summer (from + 1)).at) [
+  | inl lt ↦ (from, (record { some = some; last = omega arith; begun = h; next = lt }, year_now standard summer b from _ m h (λ v. years_wait standard summer v (from + 1) count m lt)))
   | inr le ↦
-      let e : year ≡ from = omega arith in
-      let now : IsOfYear standard summer from m = subst (λ y. IsOfYear standard summer y m) e is in
-      subst (λ y. is_summer_by b (years_from standard summer from (suc count)) m ≡ is_summer_in standard summer y m) (sym e)
-      (year_now standard summer b from _ m now.begun (λ v. years_wait standard summer v (from + 1) count m now.next))
+      let ends : (second_in standard summer from).at ≤ℤ (first_in standard summer (from + 1)).at = order from some (omega arith) in
+      let e : from + suc count ≡ from + 1 + count = omega arith in
+      let later = year_law standard summer m count (second_in standard summer from).is_summer (from + 1) order (omega arith) (omega arith) le (rw e at k) in
+      (later.0, (later.1.0, begun b (first_in standard summer from) _ m h ∙ begun _ (second_in standard summer from) _ m (omega (arith, ints)) ∙ later.1.1))
 ]
 
 -- ---- the clock of all years, year by year
 
-pub next_years : (standard : ℤ) (summer : Summer) (year : ℕ) → year < 10_000 → years_from standard summer year (10_000 - year) ≡ (transitions_in standard summer year).0 ∷ (transitions_in standard summer year).1 ∷ years_from standard summer (year + 1) (10_000 - (year + 1))
+pub next_years : (standard : ℤ) (summer : Summer) (year : ℕ) → year < 10_000 → years_from standard summer year (10_000 - year) ≡ (first_in standard summer year) ∷ (second_in standard summer year) ∷ years_from standard summer (year + 1) (10_000 - (year + 1))
 unfolding years_from
 next_years standard summer year lt =
     let e : 10_000 - year ≡ suc (10_000 - (year + 1)) = omega arith in
@@ -115,26 +100,11 @@ next_years standard summer year lt =
 abbrev pub summer_from : ℤ → Summer → ℕ → Bool → ℤ → Bool
 summer_from standard summer year b m = is_summer_by b (years_from standard summer year (10_000 - year)) m
 
--- the same of a pair that is the year's, and of what the clock of all years is
-pub before_first : (standard : ℤ) (summer : Summer) (year : ℕ) (b whole : Bool) (m : ℤ) (pair : Transition × Transition) → pair ≡ transitions_in standard summer year → summer_from standard summer year b m ≡ whole → m <ℤ pair.0.at → b ≡ whole
-before_first standard summer year b whole m pair e is h =
-    sym (years_wait standard summer b year (10_000 - year) m (subst (λ p. m <ℤ p.0.at) e h)) ∙ is
-
-pub before_second : (standard : ℤ) (summer : Summer) (year : ℕ) (b whole : Bool) (m : ℤ) (pair : Transition × Transition) → year < 10_000 → pair ≡ transitions_in standard summer year → summer_from standard summer year b m ≡ whole → pair.0.at ≤ℤ m → m <ℤ pair.1.at → pair.0.is_summer ≡ whole
-before_second standard summer year b whole m pair lt e is h k =
-    ap (λ p. p.0.is_summer) e
-    ∙ sym (
-    ap (λ ts. is_summer_by b ts m) (next_years standard summer year lt)
-    ∙ begun b (transitions_in standard summer year).0 _ m (subst (λ p. p.0.at ≤ℤ m) e h) ∙ waits _ (transitions_in standard summer year).1 _ m (subst (λ p. m <ℤ p.1.at) e k)
-    ) ∙ is
-
-pub after_second : (standard : ℤ) (summer : Summer) (year : ℕ) (b whole : Bool) (m : ℤ) (pair : Transition × Transition) → year < 10_000 → pair ≡ transitions_in standard summer year → summer_from standard summer year b m ≡ whole → pair.0.at ≤ℤ m → pair.1.at ≤ℤ m → summer_from standard summer (year + 1) pair.1.is_summer m ≡ whole
-after_second standard summer year b whole m pair lt e is h k =
-    ap (λ p. summer_from standard summer (year + 1) p.1.is_summer m) e
-    ∙ sym (
-    ap (λ ts. is_summer_by b ts m) (next_years standard summer year lt)
-    ∙ begun b (transitions_in standard summer year).0 _ m (subst (λ p. p.0.at ≤ℤ m) e h) ∙ begun _ (transitions_in standard summer year).1 _ m (subst (λ p. p.1.at ≤ℤ m) e k)
-    ) ∙ is
+-- the same with a pair that is the year's, and with what the clock of all years is
+pub with_pair : (standard : ℤ) (summer : Summer) (year : ℕ) (b whole : Bool) (m : ℤ) (pair : Transition × Transition) → year < 10_000 → pair ≡ transitions_in standard summer year → summer_from standard summer year b m ≡ whole → is_summer_by b (pair.0 ∷ pair.1 ∷ years_from standard summer (year + 1) (10_000 - (year + 1))) m ≡ whole
+with_pair standard summer year b whole m pair lt e is =
+    ap (λ p. is_summer_by b (p.0 ∷ p.1 ∷ years_from standard summer (year + 1) (10_000 - (year + 1))) m) e
+    ∙ sym (ap (λ ts. is_summer_by b ts m) (next_years standard summer year lt)) ∙ is
 
 pub after_all : (standard : ℤ) (summer : Summer) (year : ℕ) (b whole : Bool) (m : ℤ) → 10_000 ≤ year → summer_from standard summer year b m ≡ whole → b ≡ whole
 unfolding years_from
@@ -227,44 +197,30 @@ joined_clock first (step ∷ steps) more from m all le =
     ∙ joined_clock step.offset steps more from m (λ i lt. all (suc i) (omega arith)) le
     ∙ sym (ap (λ v. offset_at (if v then first else offset_at step.offset steps from) more m) (lt-false from step.from here))
 
-summer_clock : (standard : ℤ) (summer : Summer) (names : Names) (first : ℤ) (steps : List Step) (from m : ℤ) → YearsInOrder standard (Some summer) → ((i : ℕ) → i < length steps → (step_at steps i).from ≤ℤ from) → offset_at first steps from ≡ offset_by standard (Some summer) from → from ≤ℤ m → offset_at first (steps ++ steps_by standard (Some summer) names from) m ≡ offset_by standard (Some summer) m
-summer_clock standard summer names first steps from m order all agrees le =
-    let years : List Transition = all_years standard summer in
-    let rising : IsRising (after from years) = after_rising from years (all_rising standard summer order 1 9_999 (omega arith) (omega arith)) in
-    joined_clock first steps _ from m all le
-    ∙ ap (λ o. offset_at o (steps_by standard (Some summer) names from) m) agrees
-    ∙ step_clock standard summer names (without_overtaken (after from years)) (is_summer_by false years from) m
-    ∙ ap (offset_when standard summer) (left_clock (after from years) (is_summer_by false years from) m rising ∙ after_clock years false from m le)
-
 -- one more year in order
-pub order_next : (standard : ℤ) (summer : Summer) (year : ℕ) (last : Transition) (pair : Transition × Transition) → last ≡ (transitions_in standard summer year).1 → pair ≡ transitions_in standard summer (year + 1) → last.at ≤ℤ pair.0.at → ((y : ℕ) → 1 ≤ y → y < year → (transitions_in standard summer y).1.at ≤ℤ (transitions_in standard summer (y + 1)).0.at) → (y : ℕ) → 1 ≤ y → y < year + 1 → (transitions_in standard summer y).1.at ≤ℤ (transitions_in standard summer (y + 1)).0.at
+pub order_next : (standard : ℤ) (summer : Summer) (year : ℕ) (last : Transition) (pair : Transition × Transition) → last ≡ (second_in standard summer year) → pair ≡ transitions_in standard summer (year + 1) → last.at ≤ℤ pair.0.at → ((y : ℕ) → 1 ≤ y → y < year → (second_in standard summer y).at ≤ℤ (first_in standard summer (y + 1)).at) → (y : ℕ) → 1 ≤ y → y < year + 1 → (second_in standard summer y).at ≤ℤ (first_in standard summer (y + 1)).at
 order_next standard summer year last pair e f h before y some lt = elim (cases_lt y year) [
   | inl less ↦ before y some less
   | inr ge ↦
       let same : year ≡ y = omega arith in
-      subst (λ z. (transitions_in standard summer z).1.at ≤ℤ (transitions_in standard summer (z + 1)).0.at) same
-      (subst (λ p. (transitions_in standard summer year).1.at ≤ℤ p.0.at) f (subst (λ t. t.at ≤ℤ pair.0.at) e h))
+      subst (λ z. (second_in standard summer z).at ≤ℤ (first_in standard summer (z + 1)).at) same
+      (subst (λ p. (second_in standard summer year).at ≤ℤ p.0.at) f (subst (λ t. t.at ≤ℤ pair.0.at) e h))
 ]
 
-false_true : false ≡ true → ⊥
-false_true h = grind arith
-
-not_below : (a b : ℤ) → a <ℤ b → b ≤ℤ a → ⊥
-not_below a b h g = omega (arith, ints)
-
 -- a year that begins before the one before it ends
-pub out_of_order : (standard : ℤ) (summer : Summer) (year : ℕ) (last : Transition) (pair : Transition × Transition) → 1 ≤ year → year ≤ 9_999 → last ≡ (transitions_in standard summer year).1 → pair ≡ transitions_in standard summer (year + 1) → pair.0.at <ℤ last.at → IsTrue false ↔ YearsInOrder standard (Some summer)
+pub out_of_order : (standard : ℤ) (summer : Summer) (year : ℕ) (last : Transition) (pair : Transition × Transition) → 1 ≤ year → year ≤ 9_999 → last ≡ (second_in standard summer year) → pair ≡ transitions_in standard summer (year + 1) → pair.0.at <ℤ last.at → IsTrue false ↔ YearsInOrder standard (Some summer)
 out_of_order standard summer year last pair some most e f h = (
   λ y. absurd (false_true y),
-  λ order. absurd (not_below pair.0.at last.at h (subst (λ p. last.at ≤ℤ p.0.at) (sym f) (subst (λ t. t.at ≤ℤ (transitions_in standard summer (year + 1)).0.at) (sym e) (order year some most)))),
+  λ order. absurd (not_below pair.0.at last.at h (subst (λ p. last.at ≤ℤ p.0.at) (sym f) (subst (λ t. t.at ≤ℤ (first_in standard summer (year + 1)).at) (sym e) (order year some most)))),
 )
 
 -- ---- what a rule says of a year is so
 
 pub rule_follows : (standard : ℤ) (o : Option Summer) (m : ℤ) → YearsInOrder standard o → FollowsYears standard o m (offset_by standard o m)
 rule_follows standard None m order = refl
-rule_follows standard (Some summer) m order = λ year is.
-    ap (offset_when standard summer) (year_law standard summer year m false 1 9_999 order is (omega arith) is.some (let l : year ≤ 9_999 = is.last in omega arith))
+rule_follows standard (Some summer) m order = λ h k.
+    let found = year_law standard summer m 9_999 false 1 order (omega arith) (omega arith) h k in
+    (found.0, (found.1.0, ap (offset_when standard summer) found.1.1))
 
 all_begun_of : (steps : List Step) (t : ℤ) → InOrder steps → LastHasBegun steps t → (i : ℕ) → i < length steps → (step_at steps i).from ≤ℤ t
 all_begun_of steps t order last i lt = all_begun steps (length steps - 1) t order (omega arith) (last (length steps - 1) (omega arith)) i (omega arith)
@@ -275,7 +231,13 @@ none_more offset m = refl
 
 joined_by : (standard : ℤ) (o : Option Summer) (names : Names) (first : ℤ) (steps : List Step) (from m : ℤ) → YearsInOrder standard o → ((i : ℕ) → i < length steps → (step_at steps i).from ≤ℤ from) → offset_at first steps from ≡ offset_by standard o from → from ≤ℤ m → offset_at first (steps ++ steps_by standard o names from) m ≡ offset_by standard o m
 joined_by standard None names first steps from m order all agrees le = joined_clock first steps [] from m all le ∙ none_more (offset_at first steps from) m ∙ agrees
-joined_by standard (Some summer) names first steps from m order all agrees le = summer_clock standard summer names first steps from m order all agrees le
+joined_by standard (Some summer) names first steps from m order all agrees le =
+    let years : List Transition = all_years standard summer in
+    let rising : IsRising (after from years) = after_rising from years (all_rising standard summer order 1 9_999 (omega arith) (omega arith)) in
+    joined_clock first steps _ from m all le
+    ∙ ap (λ o. offset_at o (steps_by standard (Some summer) names from) m) agrees
+    ∙ step_clock standard summer names (without_overtaken (after from years)) (is_summer_by false years from) m
+    ∙ ap (offset_when standard summer) (left_clock (after from years) (is_summer_by false years from) m rising ∙ after_clock years false from m le)
 
 pub clock_follows : (standard : ℤ) (o : Option Summer) (names : Names) (first again : ℤ) (steps new : List Step) (from : ℤ) → YearsInOrder standard o → InOrder steps → LastHasBegun steps from → new ≡ steps ++ steps_by standard o names from → again ≡ first → offset_at first steps from ≡ offset_by standard o from → (m : ℤ) → from ≤ℤ m → FollowsYears standard o m (offset_at again new m)
 clock_follows standard o names first again steps new from order rising last pushed same agrees m le =

@@ -1,5 +1,5 @@
 -- The text of a rule: POSIX.1-2024, section 8.3, `TZ`, `stdoffset[dst[offset],start[/time],end[/time]]`, with the times of RFC 9636, section 3.3.
-use Rattle.std.specs.Prelude.{ℕ, ◌+◌, ◌*◌, ◌==◌, ◌||◌, Bool, ℤ, pos, ◌+ℤ◌, ◌-ℤ◌, List, [], ◌∷◌, Option, Some, None}
+use Rattle.std.specs.Prelude.{ℕ, ◌+◌, ◌*◌, ◌==◌, ◌||◌, Bool, ℤ, pos, ◌+ℤ◌, ◌-ℤ◌, List, [], Option, Some, None}
 use Rattle.std.specs.Char.{is_ascii_alphabetic, is_ascii_alphanumeric}
 use Rattle.zones_rule.specs.declared.rule.Day.{Day}
 use Rattle.zones_rule.specs.declared.rule.Day.TheVariants.{Julian, Numbered, Weekday}

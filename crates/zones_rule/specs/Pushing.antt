@@ -1,7 +1,7 @@
 -- Steps that are added to a zone's one after the other, each once it is known not to be overtaken.
-use Rattle.std.specs.Prelude.{◌≡◌, ℕ, ◌+◌, ◌≤◌, ℤ, ◌<ℤ◌, ◌≤ℤ◌, List, [], ◌∷◌, ◌++◌, length, map, Option, Some, None}
+use Rattle.std.specs.Prelude.{◌≡◌, ℤ, ◌≤ℤ◌, List, ◌∷◌, ◌++◌, map, Option, Some, None}
 use Rattle.zones_clock.specs.declared.zone.Step.{Step}
-use Rattle.zones_clock.specs.Steps.{step_at, ComesAfter}
+use Rattle.zones_clock.specs.Steps.{ComesAfter}
 use Rattle.zones_rule.specs.declared.years.Transition.{Transition}
 use Rattle.zones_rule.specs.declared.steps.Clock.{Clock}
 use Rattle.zones_rule.specs.Transitions.{after, without_overtaken, step_of, LastHasBegun}

@@ -6,12 +6,12 @@ use Rattle.zones_rule.specs.declared.rule.Summer.{Summer}
 use Rattle.zones_rule.specs.declared.rule.Rule.{Rule}
 use Rattle.zones_rule.specs.declared.rule.Names.{Names}
 use Rattle.zones_rule.specs.declared.years.Transition.{Transition}
-use Rattle.zones_rule.specs.Years.{start_in, end_in, transitions_in}
+use Rattle.zones_rule.specs.Years.{start_in, end_in, first_in, second_in}
 
 -- those of so many years from one on, year after year
 unfoldable pub years_from : ℤ → Summer → ℕ → ℕ → List Transition
 years_from standard summer year zero = []
-years_from standard summer year (suc count) = (transitions_in standard summer year).0 ∷ (transitions_in standard summer year).1 ∷ years_from standard summer (year + 1) count
+years_from standard summer year (suc count) = (first_in standard summer year) ∷ (second_in standard summer year) ∷ years_from standard summer (year + 1) count
 
 -- those of the years 1 to 9999
 abbrev pub all_years : ℤ → Summer → List Transition
@@ -67,7 +67,7 @@ LastHasBegun steps moment = (i : ℕ) → i + 1 ≡ length steps → (step_at st
 -- the transitions of no year come before those of the year before it
 abbrev pub YearsInOrder : ℤ → Option Summer → Type 0
 YearsInOrder standard None = Unit {0}
-YearsInOrder standard (Some summer) = (year : ℕ) → 1 ≤ year → year ≤ 9_999 → (transitions_in standard summer year).1.at ≤ℤ (transitions_in standard summer (year + 1)).0.at
+YearsInOrder standard (Some summer) = (year : ℕ) → 1 ≤ year → year ≤ 9_999 → (second_in standard summer year).at ≤ℤ (first_in standard summer (year + 1)).at
 
 abbrev pub AreYearsInOrder : Rule → Type 0
 AreYearsInOrder rule = YearsInOrder rule.standard rule.summer
@@ -76,8 +76,8 @@ AreYearsInOrder rule = YearsInOrder rule.standard rule.summer
 pub record IsOfYear (standard : ℤ) (summer : Summer) (year : ℕ) (moment : ℤ) : Type 0 where
   pub some : 1 ≤ year
   pub last : year ≤ 9_999
-  pub begun : (transitions_in standard summer year).0.at ≤ℤ moment
-  pub next : moment <ℤ (transitions_in standard summer (year + 1)).0.at
+  pub begun : (first_in standard summer year).at ≤ℤ moment
+  pub next : moment <ℤ (first_in standard summer (year + 1)).at
 
 -- summer time is from a year's start until its end; or where the end comes first, until the end and from the start on
 abbrev pub is_between : Bool → ℤ → ℤ → ℤ → Bool
@@ -88,10 +88,12 @@ abbrev pub is_summer_in : ℤ → Summer → ℕ → ℤ → Bool
 is_summer_in standard summer year moment =
     is_between (int_le (start_in standard summer year).at (end_in standard summer year).at) (start_in standard summer year).at (end_in standard summer year).at moment
 
--- at a moment the clock is as the rule says of its year
+-- before the year 10000 a moment is of a year, and the clock is as the rule says of that year
 abbrev pub FollowsYears : ℤ → Option Summer → ℤ → ℤ → Type 0
 FollowsYears standard None moment offset = offset ≡ standard
-FollowsYears standard (Some summer) moment offset = (year : ℕ) → IsOfYear standard summer year moment → offset ≡ offset_when standard summer (is_summer_in standard summer year moment)
+FollowsYears standard (Some summer) moment offset =
+    (first_in standard summer 1).at ≤ℤ moment → moment <ℤ (first_in standard summer 10_000).at →
+    (year : ℕ) × (IsOfYear standard summer year moment × (offset ≡ offset_when standard summer (is_summer_in standard summer year moment)))
 
 abbrev pub FollowsRule : Rule → ℤ → ℤ → Type 0
 FollowsRule rule moment offset = FollowsYears rule.standard rule.summer moment offset

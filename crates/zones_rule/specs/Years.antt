@@ -42,7 +42,7 @@ unless_after found next = if nat_lt found next then found else found - 7
 abbrev pub weekday_in : ℕ → ℕ → ℕ → ℕ → ℕ
 weekday_in year month week weekday = unless_after (weekday_from (first_day_of_month year month) weekday + (week - 1) * 7) (first_day_after year month)
 
-abbrev pub day_in : Day → ℕ → ℕ
+unfoldable pub day_in : Day → ℕ → ℕ
 day_in (Julian number) year = julian_day number year
 day_in (Numbered number) year = numbered_day number year
 day_in (Weekday month week weekday) year = weekday_in year month week weekday
@@ -68,3 +68,9 @@ in_order start end = paired (int_le start.at end.at) start end
 
 unfoldable pub transitions_in : ℤ → Summer → ℕ → Transition × Transition
 transitions_in standard summer year = in_order (start_in standard summer year) (end_in standard summer year)
+
+abbrev pub first_in : ℤ → Summer → ℕ → Transition
+first_in standard summer year = (transitions_in standard summer year).0
+
+abbrev pub second_in : ℤ → Summer → ℕ → Transition
+second_in standard summer year = (transitions_in standard summer year).1

@@ -16,23 +16,16 @@ pub struct Footer<'a> {
     pub summer_name: &'a [u8],
 }
 
-// A name between `<` and `>`, after the `<`.
-#[tactic(auto, unfolding(crate::specs::Grammar::quoted))]
-fn quoted_name(text: &[u8]) -> Option<(&[u8], &[u8])>
-    ensures { Pieces.run_view result ≡ Grammar.quoted text.now }
-{
-    let (name, rest) = quoted_bytes(text)?;
-    let rest = byte(b'>', rest)?;
-    Some((name, rest))
-}
-
 // A name.
-#[tactic(auto, unfolding(crate::specs::Grammar::name, crate::specs::Pieces::after_byte))]
+#[tactic(auto, unfolding(crate::specs::Grammar::name, crate::specs::Grammar::quoted, crate::specs::Pieces::after_byte))]
 fn read_name(text: &[u8]) -> Option<(&[u8], &[u8])>
     ensures { Pieces.run_view result ≡ Grammar.name text.now }
 {
     match text {
-        [b'<', rest @ ..] => quoted_name(rest),
+        [b'<', rest @ ..] => {
+            let (name, rest) = quoted_bytes(rest)?;
+            Some((name, byte(b'>', rest)?))
+        }
         _ => letters(text),
     }
 }
@@ -92,24 +85,6 @@ fn read_offset(text: &[u8]) -> Option<(i32, &[u8])>
     Some((-west, rest))
 }
 
-// `n` after a `J`.
-#[tactic(auto, unfolding(crate::specs::Grammar::julian))]
-fn read_julian(text: &[u8]) -> Option<(Day, &[u8])>
-    ensures { Pieces.cut_view result ≡ Grammar.julian text.now }
-{
-    let (number, rest) = number(1, 365, text)?;
-    Some((Day::Julian(number), rest))
-}
-
-// `n`
-#[tactic(auto, unfolding(crate::specs::Grammar::numbered))]
-fn read_numbered(text: &[u8]) -> Option<(Day, &[u8])>
-    ensures { Pieces.cut_view result ≡ Grammar.numbered text.now }
-{
-    let (number, rest) = number(0, 365, text)?;
-    Some((Day::Numbered(number), rest))
-}
-
 // `m.w.d` after an `M`.
 #[tactic(auto, unfolding(crate::specs::Grammar::weekday))]
 fn read_weekday(text: &[u8]) -> Option<(Day, &[u8])>
@@ -124,14 +99,20 @@ fn read_weekday(text: &[u8]) -> Option<(Day, &[u8])>
 }
 
 // A day.
-#[tactic(auto, unfolding(crate::specs::Grammar::day, crate::specs::Pieces::after_byte))]
+#[tactic(auto, unfolding(crate::specs::Grammar::day, crate::specs::Grammar::julian, crate::specs::Grammar::numbered, crate::specs::Pieces::after_byte))]
 fn read_day(text: &[u8]) -> Option<(Day, &[u8])>
     ensures { Pieces.cut_view result ≡ Grammar.day text.now }
 {
     match text {
-        [b'J', rest @ ..] => read_julian(rest),
+        [b'J', rest @ ..] => {
+            let (number, rest) = number(1, 365, rest)?;
+            Some((Day::Julian(number), rest))
+        }
         [b'M', rest @ ..] => read_weekday(rest),
-        _ => read_numbered(text),
+        _ => {
+            let (number, rest) = number(0, 365, text)?;
+            Some((Day::Numbered(number), rest))
+        }
     }
 }
 

@@ -61,18 +61,15 @@ impl Clock {
         ensures value { result ≡ Transitions.step_of self.standard self.summer self.names transition }
         ensures offset { IsOffset result.offset }
     {
-        if transition.is_summer {
-            Step {
-                from: transition.at,
-                offset: self.summer.offset,
-                name: self.names.summer,
-            }
+        let (offset, name) = if transition.is_summer {
+            (self.summer.offset, self.names.summer)
         } else {
-            Step {
-                from: transition.at,
-                offset: self.standard,
-                name: self.names.standard,
-            }
+            (self.standard, self.names.standard)
+        };
+        Step {
+            from: transition.at,
+            offset,
+            name,
         }
     }
 
@@ -156,30 +153,6 @@ impl Rule {
         self.offset_by_years(moment)
     }
 
-    // Adds the steps of the rule, if it has any.
-    fn push_if_any(&self, names: Names, zone: &mut Zone, moment: i64) -> Result<(), AllocError>
-        requires order { Transitions.AreYearsInOrder self.now }
-        requires offsets { AreOffsets self.now }
-        requires last { Transitions.LastHasBegun zone.old.steps.items moment }
-        ensures pushed { OnOk result (zone.new.steps.items
-            ≡ zone.old.steps.items ++ Transitions.steps_after self.now names moment) }
-        ensures first { zone.new.first ≡ zone.old.first }
-        ensures first_name { zone.new.first_name ≡ zone.old.first_name }
-        ensures letters { zone.new.letters.items ≡ zone.old.letters.items }
-    {
-        match self.summer {
-            None => Ok(()),
-            Some(summer) => {
-                let clock = Clock {
-                    standard: self.standard,
-                    summer,
-                    names,
-                };
-                clock.push_years(zone, moment)
-            }
-        }
-    }
-
     /// Adds to a zone the steps that the rule gives after a moment, in seconds since 1970-01-01T00:00:00Z, up to the year
     /// 9999. The error is that memory ended; the zone then has some of them.
     pub fn push_steps(&self, names: Names, zone: &mut Zone, moment: i64) -> Result<(), AllocError>
@@ -196,7 +169,14 @@ impl Rule {
         ensures first_name { zone.new.first_name ≡ zone.old.first_name }
         ensures letters { zone.new.letters.items ≡ zone.old.letters.items }
     {
-        self.push_if_any(names, zone, moment)?;
+        if let Some(summer) = self.summer {
+            let clock = Clock {
+                standard: self.standard,
+                summer,
+                names,
+            };
+            clock.push_years(zone, moment)?;
+        }
         Ok(())
     }
 }

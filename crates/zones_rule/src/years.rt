@@ -1,5 +1,5 @@
 //! When a rule changes the clock in a year, POSIX.1-2024, section 8.3, `TZ`.
-ghost use Rattle.std.specs.Prelude.{◌≡◌, ◌<◌, ◌≤◌, pos, negsuc, ◌<ℤ◌, ◌-ℤ◌, ◌*ℤ◌};
+ghost use Rattle.std.specs.Prelude.{◌≡◌, ◌<◌, ◌≤◌};
 ghost use Rattle.zones_rule.specs.Years as Years;
 
 use crate::rule::{Change, Day, Summer};
@@ -76,44 +76,21 @@ fn weekday_in(year: u64, month: u8, week: u8, weekday: u8) -> u64
     }
 }
 
-// The day of a number from 1, not counting February 29.
-fn julian_day(number: u16, year: u64) -> u64
-    requires { (1 ≤ year) × (year ≤ 10000) }
-    ensures value { result ≡ Years.julian_day number year }
-    ensures bound { result < 4075000 }
-{
-    let leap_day = u64::from(number > 59 && is_leap(year));
-    (first_day(year) + u64::from(number) + leap_day).saturating_sub(1)
-}
-
 // The day that is meant in a year.
+#[tactic(auto, unfolding(crate::specs::Years::day_in))]
 fn day_in(day: Day, year: u64) -> u64
     requires { (1 ≤ year) × (year ≤ 10000) }
     ensures value { result ≡ Years.day_in day year }
     ensures bound { result < 4075000 }
 {
     match day {
-        Day::Julian(number) => julian_day(number, year),
+        Day::Julian(number) => {
+            let leap_day = u64::from(number > 59 && is_leap(year));
+            (first_day(year) + u64::from(number) + leap_day).saturating_sub(1)
+        }
         Day::Numbered(number) => first_day(year) + u64::from(number),
         Day::Weekday(month, week, weekday) => weekday_in(year, month, week, weekday),
     }
-}
-
-// The instant of the midnight in UTC with which a day begins.
-fn midnight_of(day: u64) -> i64
-    requires { day < 4075000 }
-    ensures value { result ≡ (pos day -ℤ pos 719_162) *ℤ pos 86_400 }
-    ensures bound { (negsuc 999999999999 <ℤ result) × (result <ℤ pos 1000000000000) }
-{
-    (day as i64 - EPOCH) * DAY
-}
-
-// How far a time of day is ahead of an offset.
-fn seconds_between(time: i32, offset: i32) -> i64
-    ensures value { result ≡ time -ℤ offset }
-    ensures bound { (negsuc 4999999999 <ℤ result) × (result <ℤ pos 5000000000) }
-{
-    i64::from(time) - i64::from(offset)
 }
 
 // The instant of a change in a year, where the clock is ahead by an offset before it.
@@ -121,7 +98,7 @@ fn instant_in(change: Change, year: u64, offset: i32) -> i64
     requires { (1 ≤ year) × (year ≤ 10000) }
     ensures { result ≡ Years.instant_in change year offset }
 {
-    midnight_of(day_in(change.day, year)) + seconds_between(change.time, offset)
+    (day_in(change.day, year) as i64 - EPOCH) * DAY + (i64::from(change.time) - i64::from(offset))
 }
 
 // The two transitions of a year, in the order of their instants.

@@ -4,16 +4,19 @@
 //! - `Berlin reading R`: the moments at which the clock shows a reading;
 //! - `Berlin stretch R`: whether a reading lies in its stretch, and the moment that it then names;
 //! - `Berlin byte PLACE BYTE`: the fault of the file with another byte at a place;
-//! - `Berlin length N`: the fault of the file with so many bytes, zeros after its own.
+//! - `Berlin length N`: the fault of the file with so many bytes, zeros after its own;
+//! - `rule TEXT M`: the names of a rule, its offset at a moment, and the instant and the offset of the next step.
 //!
 //! A row is written with its answer after ` => `.
 #![tactic(auto)]
 
 mod answers;
 mod row;
+mod rules;
 
 use answers::answer;
 use row::row_of;
+use rules::{answer_rule, rule_row_of};
 use std::io::{BufWriter, Write};
 use std::{fs, io};
 
@@ -27,6 +30,9 @@ fn main(rt: HostRuntime) -> io::Result<()> {
 
 fn answer_line<W: Write>(rt: &HostRuntime, out: &mut W, line: &str) -> io::Result<()> {
     write!(out, "{line} => ")?;
+    if let Some((text, moment)) = rule_row_of(line) {
+        return answer_rule(rt.alloc(), out, text, moment);
+    }
     match row_of(line) {
         Some(row) => answer(rt.alloc(), out, fs::read(rt, row.zone)?, row.question),
         None => writeln!(out, "?"),

@@ -1,25 +1,28 @@
-use Rattle.std.proofs.Common.{◌≡◌, arith, to_z, of_z, w32, w64}
+use Rattle.std.proofs.Common.{◌≡◌, ◌∙◌, sym, arith, to_z, of_z, w32, w64}
 use Rattle.std.proofs.lemmas.Int.{ints}
-use Rattle.zones_rule.proofs.TransitionLemmas.{before_first, before_second, after_second, after_all}
+use Rattle.zones_rule.proofs.TransitionLemmas.{begun, waits, with_pair, after_all}
 use Rattle.zones_rule.proofs.steps.is_summer_at.Goals as goal
 
 pub returns-then-moment-first : goal.returns-then-moment-first
 returns-then-moment-first c =
     let s : to_z w32 (of_z w32 c.args.standard) ≡ c.args.standard = omega (arith, ints) in
     let m : to_z w64 (of_z w64 c.args.moment) ≡ c.args.moment = omega (arith, ints) in
-    before_first _ _ c.loop-year.year _ _ _ _ (simp s at c.transitions_in.ensures) (simp (s, m) at c.loop-year.invariant) (omega (arith, ints))
+    sym (waits _ _ _ _ (omega (arith, ints)))
+    ∙ with_pair _ _ c.loop-year.year _ _ _ c.transitions_in.result (omega arith) (simp s at c.transitions_in.ensures) (simp (s, m) at c.loop-year.invariant)
 
 pub returns-then-moment-second : goal.returns-then-moment-second
 returns-then-moment-second c =
     let s : to_z w32 (of_z w32 c.args.standard) ≡ c.args.standard = omega (arith, ints) in
     let m : to_z w64 (of_z w64 c.args.moment) ≡ c.args.moment = omega (arith, ints) in
-    before_second _ _ c.loop-year.year _ _ _ _ (omega arith) (simp s at c.transitions_in.ensures) (simp (s, m) at c.loop-year.invariant) (omega (arith, ints)) (omega (arith, ints))
+    sym (begun _ c.transitions_in.result.0 _ _ (omega (arith, ints)) ∙ waits _ c.transitions_in.result.1 _ _ (omega (arith, ints)))
+    ∙ with_pair _ _ c.loop-year.year _ _ _ c.transitions_in.result (omega arith) (simp s at c.transitions_in.ensures) (simp (s, m) at c.loop-year.invariant)
 
 pub loop-year-preserved : goal.loop-year-preserved
 loop-year-preserved c =
     let s : to_z w32 (of_z w32 c.args.standard) ≡ c.args.standard = omega (arith, ints) in
     let m : to_z w64 (of_z w64 c.args.moment) ≡ c.args.moment = omega (arith, ints) in
-    simp (s, m) (after_second _ _ c.loop-year.year _ _ _ _ (omega arith) (simp s at c.transitions_in.ensures) (simp (s, m) at c.loop-year.invariant) (omega (arith, ints)) (omega (arith, ints)))
+    simp (s, m) (sym (begun _ c.transitions_in.result.0 _ _ (omega (arith, ints)) ∙ begun _ c.transitions_in.result.1 _ _ (omega (arith, ints)))
+    ∙ with_pair _ _ c.loop-year.year _ _ _ c.transitions_in.result (omega arith) (simp s at c.transitions_in.ensures) (simp (s, m) at c.loop-year.invariant))
 
 pub returns : goal.returns
 returns c =

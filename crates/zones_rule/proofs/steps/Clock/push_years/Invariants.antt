@@ -1,5 +1,5 @@
 use Rattle.std.proofs.Common.{◌≡◌, ◌-◌, ◌++◌, Some}
-use Rattle.zones_rule.specs.Years.{transitions_in}
+use Rattle.zones_rule.specs.Years.{first_in}
 use Rattle.zones_rule.specs.Transitions.{years_from, steps_by}
 use Rattle.zones_rule.specs.Pushing.{steps_left, IsReady}
 use Rattle.zones_rule.proofs.steps.Clock.push_years.Given as goal
@@ -10,5 +10,5 @@ invariant-loop-year l = record {
   first_name : l.zone.first_name ≡ l.fn.zone.first_name;
   letters : l.zone.letters.items ≡ l.fn.zone.letters.items;
   all : l.zone.steps.items ++ steps_left l.self l.moment l.pending (years_from l.self.standard l.self.summer l.year (10_000 - l.year)) ≡ l.fn.zone.steps.items ++ steps_by l.self.standard (Some l.self.summer) l.self.names l.moment;
-  ready : IsReady l.zone.steps.items l.moment l.pending (transitions_in l.self.standard l.self.summer l.year).0.at;
+  ready : IsReady l.zone.steps.items l.moment l.pending (first_in l.self.standard l.self.summer l.year).at;
 }
