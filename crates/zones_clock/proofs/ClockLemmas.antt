@@ -7,10 +7,10 @@ use Rattle.zones_clock.specs.declared.zone.Moments.TheVariants.{Skipped, One, Re
 use Rattle.zones_clock.specs.Steps.{InOrder, AreOffsets, IsOffset, IsReading, offset_at, offset_after, name_place_at, name_place_after, step_at}
 use Rattle.zones_clock.specs.Clock.{AllBegun, HasLastBegun, HasNextBegun, IsIn, Shows, Has, AreShown, IsAfter, AreBefore, AllFound, IsFound, with_moment, IsTaken, lies_there, lies_elsewhere, AreTheMoments, AreSure, IsFarFromSteps, IsSureFrom, IsSureUntil}
 
-lt-true : (a b : ℤ) → a <ℤ b → int_lt a b ≡ true
+pub lt-true : (a b : ℤ) → a <ℤ b → int_lt a b ≡ true
 lt-true a b h = grind (arith, ints)
 
-lt-false : (a b : ℤ) → b ≤ℤ a → int_lt a b ≡ false
+pub lt-false : (a b : ℤ) → b ≤ℤ a → int_lt a b ≡ false
 lt-false a b h = grind (arith, ints)
 
 tail-begun : (s : Step) (ss : List Step) (count : ℕ) (t : ℤ) → AllBegun (s ∷ ss) (suc count) t → AllBegun ss count t
@@ -67,33 +67,33 @@ all_begun steps (suc n) t order lt h =
     (λ k below. all_begun steps n t order (omega arith) (le-lt _ _ _ (next-order steps n order lt) h) k (omega arith))
     h
 
-has-itself : (found : Moments) (t : ℤ) → Has (with_moment found t) t
-has-itself Skipped t = refl
-has-itself (One m) t = tt
-has-itself (Repeated m n) t = tt
+has-itself : (found : Moments) (t : ℤ) → IsAfter found t → Has (with_moment found t) t
+has-itself Skipped t a = refl
+has-itself (One m) t a = inr (omega (arith, ints))
+has-itself (Repeated m n) t a = inr (omega (arith, ints))
 
 still-has : (found : Moments) (m t : ℤ) → Has found t → Has (with_moment found m) t
 still-has Skipped m t h = absurd h
-still-has (One n) m t h = tt
-still-has (Repeated a b) m t h = tt
+still-has (One n) m t h = inl h
+still-has (Repeated a b) m t h = h
 
 shown-with : (first : ℤ) (steps : List Step) (reading : ℤ) (found : Moments) (m : ℤ) → AreShown first steps reading found → Shows first steps reading m → IsAfter found m → AreShown first steps reading (with_moment found m)
 shown-with first steps reading Skipped m h s a = s
 shown-with first steps reading (One n) m h s a = (h, s, a)
 shown-with first steps reading (Repeated x y) m h s a = h
 
-after-with : (found : Moments) (m t : ℤ) → m <ℤ t → IsAfter (with_moment found m) t
-after-with Skipped m t h = h
-after-with (One n) m t h = tt
-after-with (Repeated x y) m t h = tt
+after-with : (found : Moments) (m t : ℤ) → IsAfter found m → m <ℤ t → IsAfter (with_moment found m) t
+after-with Skipped m t a h = h
+after-with (One n) m t a h = h
+after-with (Repeated x y) m t a h = omega (arith, ints)
 
-difference : (t o r : ℤ) → t +ℤ o ≡ r → t ≡ r -ℤ o
+pub difference : (t o r : ℤ) → t +ℤ o ≡ r → t ≡ r -ℤ o
 difference t o r h = omega (arith, ints)
 
 sum-back : (o r : ℤ) → (r -ℤ o) +ℤ o ≡ r
 sum-back o r = omega (arith, ints)
 
-lt-le : (a b c : ℤ) → a <ℤ b → b ≤ℤ c → a <ℤ c
+pub lt-le : (a b c : ℤ) → a <ℤ b → b ≤ℤ c → a <ℤ c
 lt-le a b c h g = omega (arith, ints)
 
 -- a moment between two steps that shows the reading is the one that their offset gives
@@ -105,12 +105,12 @@ that-shows : (first : ℤ) (steps : List Step) (reading : ℤ) (count : ℕ) →
 that-shows first steps reading count within h = record { shown = ap (λ o. (reading -ℤ offset_after first steps count) +ℤ o) (offset_between first steps count _ within h) ∙ sum-back (offset_after first steps count) reading }
 
 -- after a step's part, what was found has each moment there
-pub has-taken : (first : ℤ) (steps : List Step) (reading : ℤ) (count : ℕ) (found result : Moments) → count ≤ length steps → IsTaken first steps reading count found result → (t : ℤ) → Shows first steps reading t → IsIn steps count t → Has result t
-has-taken first steps reading count found result within (lies_there lies e) t s h =
+pub has-taken : (first : ℤ) (steps : List Step) (reading : ℤ) (count : ℕ) (found result : Moments) → count ≤ length steps → AreBefore found steps count → IsTaken first steps reading count found result → (t : ℤ) → Shows first steps reading t → IsIn steps count t → Has result t
+has-taken first steps reading count found result within before (lies_there lies e) t s h =
     let m : ℤ = reading -ℤ offset_after first steps count in
     let same : t ≡ m = the-moment first steps reading count t within s h in
-    subst (λ r. Has r t) (sym e) (subst (λ x. Has (with_moment found m) x) (sym same) (has-itself found m))
-has-taken first steps reading count found result within (lies_elsewhere out e) t s h =
+    subst (λ r. Has r t) (sym e) (subst (λ x. Has (with_moment found m) x) (sym same) (has-itself found m (before m lies.0)))
+has-taken first steps reading count found result within before (lies_elsewhere out e) t s h =
     absurd (out (subst (λ x. IsIn steps count x) (the-moment first steps reading count t within s h) h))
 
 pub keeps-taken : (first : ℤ) (steps : List Step) (reading : ℤ) (count : ℕ) (found result : Moments) → IsTaken first steps reading count found result → (t : ℤ) → Has found t → Has result t
@@ -127,11 +127,11 @@ fewer-begun steps count t h i lt = h i (omega arith)
 
 before-taken : (first : ℤ) (steps : List Step) (reading : ℤ) (count : ℕ) (found result : Moments) → count < length steps → IsFound first steps reading count found → IsTaken first steps reading count found result → AreBefore result steps (count + 1)
 before-taken first steps reading count found result within f (lies_there lies e) t h =
-    subst (λ r. IsAfter r t) (sym e) (after-with found _ t (lt-le _ _ _ (lies.1 within) (h count (omega arith))))
+    subst (λ r. IsAfter r t) (sym e) (after-with found _ t (f.before _ lies.0) (lt-le _ _ _ (lies.1 within) (h count (omega arith))))
 before-taken first steps reading count found result within f (lies_elsewhere out e) t h =
     subst (λ r. IsAfter r t) (sym e) (f.before t (fewer-begun steps count t h))
 
-less-or-not : (a b : ℤ) → (a <ℤ b) ⊎ (b ≤ℤ a)
+pub less-or-not : (a b : ℤ) → (a <ℤ b) ⊎ (b ≤ℤ a)
 less-or-not a b = elim (int_lt a b) as (λ v. int_lt a b ≡ v → (a <ℤ b) ⊎ (b ≤ℤ a)) [
   | true ↦ λ e. inl (grind (arith, ints))
   | false ↦ λ e. inr (grind (arith, ints))
@@ -148,7 +148,7 @@ all-taken : (first : ℤ) (steps : List Step) (reading : ℤ) (count : ℕ) (fou
 all-taken first steps reading count found result within f taken t s = elim (f.all t s) [
   | inl has ↦ inl (keeps-taken first steps reading count found result taken t has)
   | inr begun ↦ elim (next-or-in steps count t begun) [
-    | inl lies ↦ inl (has-taken first steps reading count found result within taken t s lies)
+    | inl lies ↦ inl (has-taken first steps reading count found result within f.before taken t s lies)
     | inr more ↦ inr more
   ]
 ]
@@ -175,21 +175,25 @@ found_first first steps reading earliest count one all e begun = record {
   before = λ t h. tt;
 }
 
--- what was found is the answer, once it has each moment that shows the reading
-the-answer : (first : ℤ) (steps : List Step) (reading : ℤ) (found : Moments) → AreShown first steps reading found → ((t : ℤ) → Shows first steps reading t → Has found t) → AreTheMoments first steps reading found
-the-answer first steps reading Skipped h all = all
-the-answer first steps reading (One m) h all = (h, all)
-the-answer first steps reading (Repeated m n) h all = h
+-- what was found shows the reading, and has each moment that does
+abbrev pub IsAnswer : ℤ → List Step → ℤ → Moments → Type 0
+IsAnswer first steps reading found = AreShown first steps reading found × ((t : ℤ) → Shows first steps reading t → Has found t)
+
+pub the_moments : (first : ℤ) (steps : List Step) (reading : ℤ) (found : Moments) → IsAnswer first steps reading found → AreTheMoments first steps reading found
+the_moments first steps reading Skipped h = h.1
+the_moments first steps reading (One m) h = h
+the_moments first steps reading (Repeated m n) h = h.0
 
 -- at the end: after the last part that a moment can lie in
-pub found_last : (first : ℤ) (steps : List Step) (reading latest : ℤ) (count : ℕ) (found result : Moments) → IsOffset first → AreOffsets steps → latest ≡ reading +ℤ pos 93_600 → count ≤ length steps → (count < length steps → latest <ℤ (step_at steps count).from) → IsFound first steps reading count found → IsTaken first steps reading count found result → AreTheMoments first steps reading result
-found_last first steps reading latest count found result one all e within past f taken =
-    the-answer first steps reading result (shown-taken first steps reading count found result within f taken)
-    (λ t s. elim (f.all t s) [
-      | inl has ↦ keeps-taken first steps reading count found result taken t has
-      | inr begun ↦ has-taken first steps reading count found result within taken t s
-          (begun, λ lt. later reading t (offset_at first steps t) latest (step_at steps count).from s.shown (offset_in first steps t one all) e (past lt))
-    ])
+pub found_last : (first : ℤ) (steps : List Step) (reading latest : ℤ) (count : ℕ) (found result : Moments) → IsOffset first → AreOffsets steps → latest ≡ reading +ℤ pos 93_600 → count ≤ length steps → (count < length steps → latest <ℤ (step_at steps count).from) → IsFound first steps reading count found → IsTaken first steps reading count found result → IsAnswer first steps reading result
+found_last first steps reading latest count found result one all e within past f taken = (
+  shown-taken first steps reading count found result within f taken,
+  λ t s. elim (f.all t s) [
+    | inl has ↦ keeps-taken first steps reading count found result taken t has
+    | inr begun ↦ has-taken first steps reading count found result within f.before taken t s
+        (begun, λ lt. later reading t (offset_at first steps t) latest (step_at steps count).from s.shown (offset_in first steps t one all) e (past lt))
+  ],
+)
 
 -- where the last of so many steps has begun, all have
 pub begun_of_last : (steps : List Step) (count : ℕ) (t : ℤ) → InOrder steps → 0 < count → count ≤ length steps → (step_at steps (count - 1)).from ≤ℤ t → AllBegun steps count t
@@ -259,7 +263,7 @@ found_next_of first steps reading kept passed again count found result k p a wit
     subst (λ r. IsFound first steps r (count + 1) result) (sym a)
     (found_next first steps reading count found result within (subst (λ r. IsFound first steps r count found) k f) (subst (λ r. IsTaken first steps r count found result) p taken))
 
-pub found_last_of : (first : ℤ) (steps : List Step) (reading kept passed latest : ℤ) (count : ℕ) (found result : Moments) → kept ≡ reading → passed ≡ reading → IsOffset first → AreOffsets steps → latest ≡ reading +ℤ pos 93_600 → count ≤ length steps → (count < length steps → latest <ℤ (step_at steps count).from) → IsFound first steps kept count found → IsTaken first steps passed count found result → AreTheMoments first steps reading result
+pub found_last_of : (first : ℤ) (steps : List Step) (reading kept passed latest : ℤ) (count : ℕ) (found result : Moments) → kept ≡ reading → passed ≡ reading → IsOffset first → AreOffsets steps → latest ≡ reading +ℤ pos 93_600 → count ≤ length steps → (count < length steps → latest <ℤ (step_at steps count).from) → IsFound first steps kept count found → IsTaken first steps passed count found result → IsAnswer first steps reading result
 found_last_of first steps reading kept passed latest count found result k p one all e within past f taken =
     found_last first steps reading latest count found result one all e within past (subst (λ r. IsFound first steps r count found) k f) (subst (λ r. IsTaken first steps r count found result) p taken)
 

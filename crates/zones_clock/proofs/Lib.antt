@@ -1,1 +1,2 @@
 pub mod ClockLemmas
+pub mod MomentLemmas

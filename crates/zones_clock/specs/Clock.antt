@@ -28,11 +28,11 @@ pub record HasNextBegun (steps : List Step) (count : ℕ) (moment : ℤ) : Type 
   pub there : count < length steps
   pub begun : (step_at steps count).from ≤ℤ moment
 
--- the moment is the only one found, or there are several
+-- the moment is the first found, or no earlier than the second
 abbrev pub Has : Moments → ℤ → Type 0
 Has Skipped moment = ⊥
 Has (One m) moment = moment ≡ m
-Has (Repeated m n) moment = Unit {0}
+Has (Repeated m n) moment = (moment ≡ m) ⊎ (n ≤ℤ moment)
 
 -- what was found is shown
 abbrev pub AreShown : ℤ → List Step → ℤ → Moments → Type 0
@@ -40,11 +40,11 @@ AreShown first steps reading Skipped = Unit {0}
 AreShown first steps reading (One m) = Shows first steps reading m
 AreShown first steps reading (Repeated m n) = Shows first steps reading m × Shows first steps reading n × (m <ℤ n)
 
--- the moment is later than the only one found
+-- the moment is later than what was found
 abbrev pub IsAfter : Moments → ℤ → Type 0
 IsAfter Skipped moment = Unit {0}
 IsAfter (One m) moment = m <ℤ moment
-IsAfter (Repeated m n) moment = Unit {0}
+IsAfter (Repeated m n) moment = n <ℤ moment
 
 -- what was found lies before that many steps have begun
 abbrev pub AreBefore : Moments → List Step → ℕ → Type 0

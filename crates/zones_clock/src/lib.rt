@@ -2,6 +2,7 @@
 #![tactic(auto)]
 
 mod building;
+pub mod laws;
 mod lookup;
 mod names;
 mod stretch;

@@ -2,6 +2,7 @@
 ghost use Rattle.std.specs.Prelude.{◌≡◌, ℕ, ◌+◌, ◌<◌, ◌≤◌, ◌↔◌, IsTrue, vec_len, ◌-ℤ◌, ◌≤ℤ◌};
 ghost use Rattle.zones_clock.specs.Steps.{offset_at, offset_after, step_at, IsOffset, IsReading};
 ghost use Rattle.zones_clock.specs.Clock.{IsIn, AllBegun, AreTheMoments, IsTaken, HasNextBegun, with_moment};
+ghost use Rattle.zones_clock.specs.AllMoments.{moments_of};
 
 use crate::zone::{Moments, OFFSET_BOUND, Zone};
 
@@ -121,7 +122,8 @@ impl Zone {
     /// The moments at which the clock shows a reading, given in seconds since the clock showed 1970-01-01T00:00:00.
     pub fn moments(&self, reading: i64) -> Moments
         requires { IsReading reading }
-        ensures { AreTheMoments self.now.first self.now.steps.items reading result }
+        ensures relation { AreTheMoments self.now.first self.now.steps.items reading result }
+        ensures function { result ≡ moments_of self.now.first self.now.steps.items reading }
     {
         let earliest = reading - OFFSET_BOUND;
         let latest = reading + OFFSET_BOUND;

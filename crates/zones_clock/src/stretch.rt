@@ -1,6 +1,7 @@
 //! Stretches of readings that name one moment each, by one offset: for lines that follow one another.
 ghost use Rattle.std.specs.Prelude.{vec_len, ◌≤◌, ◌≤ℤ◌, ◌<ℤ◌};
 ghost use Rattle.zones_clock.specs.Steps.{IsReading};
+ghost use Rattle.zones_clock.specs.AllMoments.{HaveOneEach};
 ghost use Rattle.zones_clock.specs.Clock.{AreSure, IsFarFromSteps, IsSureFrom, IsSureUntil};
 
 use crate::zone::{OFFSET_BOUND, Zone};
@@ -55,6 +56,7 @@ impl Zone {
     pub fn stretch_at(&self, reading: i64) -> Stretch
         requires { IsReading reading }
         ensures sure { AreSure self.now.first self.now.steps.items result.from result.until result.offset }
+        ensures one { HaveOneEach self.now.first self.now.steps.items result.from result.until result.offset }
         ensures found { IsFarFromSteps self.now.steps.items reading → (result.from ≤ℤ reading) × (reading <ℤ result.until) }
     {
         let count = self.count_begun(reading);
