@@ -18,7 +18,7 @@ from program import ROOT
 from rattle_files import Call, calls_in, exported, name_of
 
 PAGE = ROOT / "docs" / "CALLS.md"
-FAMILIES = ("calendar", "datetime", "description", "parsing", "instants")
+FAMILIES = ("calendar", "datetime", "description", "parsing", "instants", "zones")
 # Crates whose calls no named crate gives on, but which have users of their own.
 ALONE = (
     "instants_edges",

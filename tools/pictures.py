@@ -29,7 +29,7 @@ from program import ROOT, sure, uses
 
 DOCS = ROOT / "docs"
 ARCHITECTURE, SPEED = DOCS / "ARCHITECTURE.md", DOCS / "SPEED.md"
-ROWS = ("programs", "instants", "parsing", "description", "datetime", "calendar", "base")
+ROWS = ("programs", "instants", "parsing", "description", "datetime", "zones", "calendar", "base")
 PROGRAM = re.compile(r"_program$|_check$|^examples_|^rows$|^instants_c$")
 BEGIN, END = "<!-- tools/pictures.py begins -->", "<!-- tools/pictures.py ends -->"
 FONT = 'fontname="DejaVu Sans,sans-serif" fontsize=13'
