@@ -192,9 +192,9 @@ fn read_with_summer<'a>(
     })
 }
 
-/// The rule that a whole text is, without line ends: `stdoffset`, or `stdoffsetdst[offset],start[/time],end[/time]`, where hours
-/// of a time may be up to 167 and have a sign. Any other text is none, also one with summer time but not the days of its
-/// changes.
+/// The rule that a whole text is, without line ends: `stdoffset` or `stdoffsetdst[offset],start[/time],end[/time]`. The
+/// hours of a time may be up to 167 and have a sign. Any other text is none, also one with summer time but not the days
+/// of its changes.
 #[tactic(auto, unfolding(crate::specs::Grammar::rule, crate::specs::Pieces::at_end))]
 pub fn read_rule(text: &[u8]) -> Option<Footer<'_>>
     ensures read { option_map Grammar.footer_view result ≡ Grammar.rule_of text.now }
