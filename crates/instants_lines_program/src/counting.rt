@@ -7,11 +7,11 @@ use std::fmt::{self, Display, Formatter};
 use std::io::{self, Write};
 
 // The bytes of the longest key: a date-time with nine digits of its second's fraction, and `+HH:MM`.
-const KEY: usize = 35;
+const KEY_BYTES: usize = 35;
 
 // A key, filled up by zeros. Those of dates have one length in a run, so they compare as their bytes do.
 #[derive(Clone, Copy, PartialEq, Eq, PartialOrd, Ord)]
-struct Key([u8; KEY]);
+struct Key([u8; KEY_BYTES]);
 
 impl Display for Key {
     fn fmt<F: fmt::Write>(&self, f: &mut Formatter<F>) -> fmt::Result {
@@ -52,8 +52,8 @@ impl Counts {
             none: 0,
             doubt: 0,
             year: 0,
-            least: Key([0xff; KEY]),
-            greatest: Key([0; KEY]),
+            least: Key([0xff; KEY_BYTES]),
+            greatest: Key([0; KEY_BYTES]),
         }
     }
 
@@ -118,7 +118,7 @@ impl<W> Counting<W> {
         Counting {
             inner,
             asked,
-            key: Key([0; KEY]),
+            key: Key([0; KEY_BYTES]),
             place: Some(0),
             counts: Counts::new(),
         }
@@ -146,7 +146,7 @@ impl<W> Counting<W> {
                 self.counts.add(&self.key);
                 self.place = None;
             }
-            Some(place) if place < KEY => {
+            Some(place) if place < KEY_BYTES => {
                 self.key.0[place] = byte;
                 self.place = Some(place + 1);
             }

@@ -25,7 +25,7 @@ impl Display for Hint {
 }
 
 /// What to do about a fault, where that can be said.
-pub fn hint(fault: &LinesFault<'_>) -> Option<Hint> {
+pub fn hint_on(fault: &LinesFault<'_>) -> Option<Hint> {
     match fault {
         LinesFault::Words(wrong) => hint_on_words(wrong),
         LinesFault::Lacks(lacking) => hint_on_lack(lacking.lack),

@@ -14,7 +14,7 @@ mod packed;
 use crate::bare::warn_of_bare;
 use crate::counting::{Counting, Counts};
 use crate::help::{HELP, text_for};
-use crate::hints::hint;
+use crate::hints::hint_on;
 use crate::noting::Noting;
 use crate::options::Options;
 use crate::packed::Looking;
@@ -172,7 +172,7 @@ fn ended(rt: &HostRuntime, end: Result<(), LinesFault>, failure: Option<ErrorKin
         (LinesFault::Program(ProgramFault::Run(_)), Some(kind)) => eprintln!(rt; "{fault}: {kind}"),
         _ => eprintln!(rt; "{fault}"),
     };
-    if let Some(hint) = hint(&fault) {
+    if let Some(hint) = hint_on(&fault) {
         let _ = eprintln!(rt; "instants-lines: hint: {hint}");
     }
     ExitCode::from(fault.status())

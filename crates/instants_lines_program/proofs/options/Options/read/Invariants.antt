@@ -2,4 +2,4 @@ use Rattle.std.proofs.Common.{length}
 use Rattle.instants_lines_program.proofs.options.Options.read.Given as goal
 
 abbrev pub decreases-loop-rest : goal.decreases-loop-rest
-decreases-loop-rest g l = length l.rest
+decreases-loop-rest l = length l.rest
