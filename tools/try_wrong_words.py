@@ -5,7 +5,7 @@
 
 The table of wrong arguments is a test of the gate (crates/instants_lines_tests/src/wrong_words.rt); here is what only a process shows:
 
-- each kind of wrong argument by one row, with status 2 and nothing on standard output;
+- each kind of wrong argument by one row, with status 2 and nothing on standard output, and the hints;
 - an input that can't be read and an output that is full are told with their reason, with status 1;
 - a pipe whose reader has ended is no news: status 1, and nothing on standard error;
 - a description that names no component is warned of, before it is refused with status 2;
@@ -44,6 +44,7 @@ ROWS = (
 
 
 Answer = tuple[int, str | None, str]
+NO_YEAR = "instants-lines: hint: give that of the first line before the sources: year 2024\n"
 UNDATED = "instants-lines: warning: no line has a date that these sources read: try instants-lines guess < FILE\n"
 
 
@@ -56,7 +57,32 @@ def call(program: pathlib.Path, *words: str, **how: Any) -> Answer:
 
 @pytest.mark.parametrize("words, sentence", ROWS, ids=[words or "no words" for words, _ in ROWS])
 def test_refused(instants_lines: pathlib.Path, words: str, sentence: str) -> None:
-    assert call(instants_lines, *words.split()) == (2, "", f"instants-lines: {sentence}\n")
+    status, text, said = call(instants_lines, *words.split())
+    assert (status, text, said.split("\n")[0]) == (2, "", f"instants-lines: {sentence}")
+
+
+@pytest.mark.parametrize(
+    "words, hint",
+    [
+        ("guess x", "guess has no other arguments: instants-lines guess < FILE"),
+        ("rfc3339", "a mode stands before the sources: instants-lines key SOURCE.."),
+        ("key nginx", "there is a source access-log"),
+        ("key access_log", "there is a source access-log"),
+        ("key docker", "there is a source docker-json"),
+        ("key rfc3339 RFC-2822", "there is a source rfc2822"),
+        ("key year syslog rfc3339", "the year of the first line stands after year, as year 2024"),
+        ("key time 00:00 year 2024 syslog", "year N, time HH:MM and label TEXT stand in this order before the sources"),
+        ("key +00:00 Z syslog", "give that of the first line before the sources: year 2024"),
+        ("key +00:00 Z date", "give one before the sources: time 00:00"),
+        ("key mysql", "give one after the target: +00:00 +02:00"),
+        ("key strftime %H", "give that of the first line before the sources: year 2024"),
+        ("key unknown", ""),
+        ("key Z - 0 rfc3339", ""),
+    ],
+)
+def test_hint(instants_lines: pathlib.Path, words: str, hint: str) -> None:
+    said = call(instants_lines, *words.split())[2].split("\n")
+    assert said[1:] == ([f"instants-lines: hint: {hint}", ""] if hint else [""])
 
 
 def test_a_folder_as_input(instants_lines: pathlib.Path) -> None:
@@ -79,7 +105,7 @@ def test_a_closed_pipe(instants_lines: pathlib.Path) -> None:
 
 
 def test_a_description_without_components(instants_lines: pathlib.Path) -> None:
-    said = 'instants-lines: warning: v3 "%F" names no component, as [year]\ninstants-lines: source 1 names no moment: it has no year\n'
+    said = 'instants-lines: warning: v3 "%F" names no component, as [year]\ninstants-lines: source 1 names no moment: it has no year\n' + NO_YEAR
     assert call(instants_lines, "key", "v3", "%F") == (2, "", said)
 
 
@@ -144,7 +170,7 @@ def test_nothing_to_count(instants_lines: pathlib.Path, words: str) -> None:
 
 
 def test_quiet_about_a_description(instants_lines: pathlib.Path) -> None:
-    assert call(instants_lines, "-q", "key", "v3", "%F") == (2, "", "instants-lines: source 1 names no moment: it has no year\n")
+    assert call(instants_lines, "-q", "key", "v3", "%F") == (2, "", "instants-lines: source 1 names no moment: it has no year\n" + NO_YEAR)
 
 
 @pytest.mark.parametrize("word", ["--help", "-h", "--version"])

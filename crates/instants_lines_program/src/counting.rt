@@ -9,9 +9,23 @@ use std::io::{self, Write};
 // The bytes of the longest key: a date-time with nine digits of its second's fraction, and `+HH:MM`.
 const KEY_BYTES: usize = 35;
 
+// Those of one at +00:00, which ends in `Z`.
+const UTC_BYTES: usize = 30;
+
 // A key, filled up by zeros. Those of dates have one length in a run, so they compare as their bytes do.
 #[derive(Clone, Copy, PartialEq, Eq, PartialOrd, Ord)]
 struct Key([u8; KEY_BYTES]);
+
+impl Key {
+    // Fills up a key at +00:00, which ends before its tab.
+    fn end_at_tab(&mut self) {
+        if self.0[UTC_BYTES] == b'\t' {
+            for place in UTC_BYTES..KEY_BYTES {
+                self.0[place] = 0;
+            }
+        }
+    }
+}
 
 impl Display for Key {
     fn fmt<F: fmt::Write>(&self, f: &mut Formatter<F>) -> fmt::Result {
@@ -57,13 +71,23 @@ impl Counts {
         }
     }
 
+    // Counts a line by its key.
     fn add(&mut self, key: &Key) {
-        match (key.0[0], key.0[2]) {
-            (b'!', b'n') => self.none = self.none.saturating_add(1),
-            (b'!', b'd') => self.doubt = self.doubt.saturating_add(1),
-            (b'!', _) => self.year = self.year.saturating_add(1),
-            _ => self.add_date(key),
+        if key.0[0] == b'!' {
+            self.add_other(key.0[2]);
+        } else {
+            self.add_date(key);
         }
+    }
+
+    // Counts a line whose key is `! none`, `! doubt` or `! year`, by its third byte.
+    fn add_other(&mut self, third: u8) {
+        let count = match third {
+            b'n' => &mut self.none,
+            b'd' => &mut self.doubt,
+            _ => &mut self.year,
+        };
+        *count = count.saturating_add(1);
     }
 
     fn add_date(&mut self, key: &Key) {
@@ -171,14 +195,50 @@ impl<W> Counting<W> {
         }
     }
 
+    // Takes the key of a date, of which all bytes are there, and returns what stands after its fraction.
+    fn take_date<'a>(&mut self, byte: u8, others: &'a [u8]) -> &'a [u8]
+        requires { 35 ≤ length others.now }
+        ensures { length result.now ≤ length others.now }
+    {
+        self.key.0[0] = byte;
+        for place in 1..KEY_BYTES {
+            self.key.0[place] = others[place - 1];
+        }
+        self.key.end_at_tab();
+        self.counts.add_date(&self.key);
+        self.place = None;
+        &others[UTC_BYTES - 1..]
+    }
+
+    // Takes the next byte; where it begins a key of which enough is there, the whole key. Returns what stands after that.
+    #[inline(always)]
+    fn take_front<'a>(&mut self, byte: u8, others: &'a [u8]) -> &'a [u8]
+        ensures { length result.now ≤ length others.now }
+    {
+        match (self.place, byte, others) {
+            (Some(0), b'!', [_, third, rest @ ..]) => {
+                self.counts.add_other(*third);
+                self.place = None;
+                rest
+            }
+            (Some(0), _, _) if byte != b'!' && others.len() >= KEY_BYTES => {
+                self.take_date(byte, others)
+            }
+            _ => {
+                self.take(byte);
+                others
+            }
+        }
+    }
+
     fn look_at(&mut self, bytes: &[u8]) {
         let mut rest = bytes;
         while let Some((byte, others)) = rest.split_first() {
             if self.is_done() {
                 return;
             }
-            self.take(*byte);
-            rest = self.next(others);
+            let after = self.take_front(*byte, others);
+            rest = self.next(after);
         }
     }
 }
