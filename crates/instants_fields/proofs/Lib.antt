@@ -1,0 +1,4 @@
+pub mod Turns
+pub mod StringLemmas
+pub mod ItemLemmas
+pub mod FoundLemmas

@@ -1,0 +1,6 @@
+pub mod Pieces
+pub mod Strings
+pub mod Compared
+pub mod Json
+pub mod Members
+pub mod Found
