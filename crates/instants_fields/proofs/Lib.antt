@@ -2,3 +2,4 @@ pub mod Turns
 pub mod StringLemmas
 pub mod ItemLemmas
 pub mod FoundLemmas
+pub mod ColumnLemmas

@@ -4,3 +4,4 @@ pub mod Compared
 pub mod Json
 pub mod Members
 pub mod Found
+pub mod Columns
