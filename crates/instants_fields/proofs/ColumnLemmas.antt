@@ -1,6 +1,6 @@
 -- Columns, one by one.
-use Rattle.std.proofs.Common.{◌≡◌, refl, sym, ◌∙◌, ℕ, zero, suc, ◌-◌, ◌<◌, List, length, Option, Some, None, ap, arith}
-use Rattle.instants_fields.specs.Pieces.{Piece, then_cut, rest_of, byte}
+use Rattle.std.proofs.Common.{◌≡◌, refl, sym, ◌∙◌, ℕ, zero, suc, ◌-◌, ◌<◌, List, Option, Some, None, ap, arith}
+use Rattle.instants_fields.specs.Pieces.{then_cut, rest_of, byte}
 use Rattle.instants_fields.specs.Columns.{Span, one_column, columns, column_after}
 
 abbrev pub after_byte_then : (List ℕ → Option (List ℕ)) → Option (List ℕ) → Option (List ℕ)

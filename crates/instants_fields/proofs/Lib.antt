@@ -3,3 +3,5 @@ pub mod StringLemmas
 pub mod ItemLemmas
 pub mod FoundLemmas
 pub mod ColumnLemmas
+pub mod PlainLemmas
+pub mod LawLemmas

@@ -1,6 +1,6 @@
 -- Columns: RFC 4180, section 2, with any byte between them, and the type text/tab-separated-values with a tab.
-use Rattle.std.specs.Prelude.{ℕ, zero, suc, ◌≢◌, ◌≤◌, ◌+◌, ◌-◌, ◌==◌, Bool, true, false, not, List, [], ◌∷◌, length, take, get_or, Option, Some, None, option_map, if◌then◌else◌}
-use Rattle.instants_fields.specs.Pieces.{Piece, ◌>>=◌, ◌>>◌, give, then_cut, byte, after_byte, without}
+use Rattle.std.specs.Prelude.{ℕ, zero, suc, ◌≢◌, ◌≤◌, ◌+◌, ◌-◌, ◌==◌, Bool, true, not, List, [], ◌∷◌, length, take, get_or, Option, Some, None, option_map, if◌then◌else◌}
+use Rattle.instants_fields.specs.Pieces.{Piece, ◌>>◌, give, byte, after_byte, without}
 use Rattle.instants_fields.specs.declared.columns.Part.{Part}
 use Rattle.instants_fields.specs.declared.columns.Cut.{Cut}
 

@@ -5,3 +5,4 @@ pub mod Json
 pub mod Members
 pub mod Found
 pub mod Columns
+pub mod Laws

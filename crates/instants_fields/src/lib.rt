@@ -3,6 +3,7 @@
 
 mod columns;
 mod json;
+pub mod laws;
 mod space;
 mod string;
 mod value;

@@ -1,4 +1,4 @@
-use Rattle.std.proofs.Common.{◌≡◌, ◌≤◌, length, ℕ}
+use Rattle.std.proofs.Common.{◌≡◌, ◌≤◌, length}
 use Rattle.instants_fields.specs.Columns.{columns}
 use Rattle.instants_fields.specs.Pieces.{rest_of}
 use Rattle.instants_fields.proofs.columns.after_columns.Given as goal
