@@ -1,0 +1,12 @@
+//! The part of a line that is one field: a member of an object in JSON, or a column.
+#![tactic(auto)]
+
+mod columns;
+mod json;
+pub mod laws;
+mod space;
+mod string;
+mod value;
+
+pub use columns::{Part, Separator, column, first_escape};
+pub use json::{Member, json_member};
