@@ -11,7 +11,7 @@ command with nothing after it prints nothing. Standard output and standard error
 
 Each section, from a heading to the next one of whatever level, has a folder of its own, in which its examples run in
 order, each in a shell `sh` of its own: files pass from one example to the next, and nothing else. At first the folder
-has links and no more: `instants` and `instants-lines`, to the built programs, and `crates`, `bindings`, `include` and `tools`, to
+has links and no more: `instants` and `instants-lines`, to the built programs, `instants-merge`, which calls the one beside it, and `crates`, `bindings`, `include` and `tools`, to
 those of the repository. Commands are looked for in it before all others.
 
 A fence that begins with ```rust or ```antt and a path below `crates/` is written to that file, and has to be as `rt fmt` lays it
@@ -20,7 +20,7 @@ out. A section with such a fence has a copy of the crates' sources and of crates
 
 A table of Markdown whose head has the columns `line` and `answer` is of examples too: a row's line is piped into the program
 with the row's `arguments`, or with `+00:00 +00:00 100` and the row's `example`, and what it prints is the row's answer. Where the
-head has `key` for `answer`, the program is `instants-lines` in that mode, and the line stands after its key. Rows without a
+head has `key` for `answer`, the program is `instants-lines -q` in that mode, and the line stands after its key. Rows without a
 line are passed over.
 
 A fence that begins with ```sh with NAME is run where that program is installed, and passed over elsewhere, with what it prints.
@@ -200,7 +200,7 @@ def examples_of_tables(lines: list[str]) -> list[Example]:
             cells = dict(zip(head, cells_of(row)))
             if cells["line"].strip() and not re.fullmatch(r"-+", cells["line"]):
                 words = cells.get("arguments") or f"+00:00 +00:00 100 {cells['example']}"
-                program, answer = ("instants-lines key", cells["key"] + "\t" + cells["line"].replace("\\t", "\t")) if "key" in head else ("instants", cells["answer"])
+                program, answer = ("instants-lines -q key", cells["key"] + "\t" + cells["line"].replace("\\t", "\t")) if "key" in head else ("instants", cells["answer"])
                 found.append(Example(at, [f"printf '%b\\n' {shlex.quote(cells['line'])} | {program} {words}"], [answer], section))
     return found
 
@@ -262,6 +262,8 @@ def test_section(examples: list[Example], folder: pathlib.Path, instants: pathli
     assert not lacking
     os.symlink(instants, folder / "instants")
     os.symlink(instants_lines, folder / "instants-lines")
+    # (it calls the program beside it)
+    shutil.copy(ROOT / "instants-merge", folder)
     has_files = any("<<'END_OF_FILE'" in command for command in commands)
     for linked in LINKED[has_files:]:
         os.symlink(ROOT / linked, folder / linked)
