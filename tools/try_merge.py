@@ -108,6 +108,8 @@ def test_names(merge: Merge, name: str) -> None:
         (["log"], b"", "log: no format is found, say one by -f before it: no known format dates any of 0 lines\n"),
         (["-a", "Z", "log"], b"01/02/2024 10:00:00 up\n", "log: day and month are not sure; say -f dmy before it, or another format\n"),
         (["-f", "strftime '%F", "log"], b"", "-f strftime '%F: a quotation mark is left open\n"),
+        (["-f", "mysql", "log"], b"", "log: source 1 names no moment: it has no offset; say -a +HH:MM before it\n"),
+        (["-a", "Z", "-f", "syslog", "log"], b"", "log: source 1 names no moment: it has no year; say -y YYYY before it\n"),
         (["-f"], b"", "-f needs a word after it\n"),
         (["--sinse", "x", "log"], b"", "--sinse: there is no such option; see instants-merge --help\n"),
         ([], b"", "no FILE is named; see instants-merge --help\n"),
@@ -117,7 +119,7 @@ def test_names(merge: Merge, name: str) -> None:
 def test_refused(merge: Merge, words: list[str], text: bytes, sentence: str) -> None:
     merge.write("log", text)
     status, written, said = merge.call(*words)
-    assert (status, written) == (2, b"") and sentence in said
+    assert (status, written) == (2, b"") and sentence in said and "hint" not in said
 
 
 @pytest.mark.parametrize("words, sentence", [(["none"], "none: there is no such file"), (["."], ".: it is a folder")])
