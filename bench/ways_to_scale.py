@@ -29,12 +29,15 @@ ROOT = pathlib.Path(__file__).resolve().parent.parent
 sys.dont_write_bytecode = True
 sys.path.insert(0, str(ROOT / "tools"))
 
+import build_library
 import try_dask
+from program import Program
 
 ROUNDS, WORKERS = 3, (1, 2, 4)
 # So many mixed lines are made, and repeated.
 MADE = 1_000_000
-COMMAND = shlex.join([str(try_dask.PROGRAM), *try_dask.WORDS])
+PROGRAM = Program("instants_program", "instants").file
+COMMAND = shlex.join([str(PROGRAM), *try_dask.WORDS])
 SIDE_BY_SIDE = "for k in $(seq {0}); do split -n l/$k/{0} lines | {1} > part.$k & done; wait"
 JOIN = "cat $(seq -f part.%.0f {0}) > output; rm part.*"
 PARALLEL = "parallel --will-cite -k -j {0} --pipepart -a lines --block -4 {1} > output"
@@ -65,7 +68,7 @@ def by_dask(room: pathlib.Path, workers: int) -> float:
     """Returns the seconds that workers of Dask take."""
     try_dask.WORKERS = workers
     with contextlib.ExitStack() as stack:
-        cluster = try_dask.Cluster(room, stack)
+        cluster = try_dask.Cluster(room, build_library.out(), stack)
         command: list[str | pathlib.Path] = [try_dask.PYTHON, "-c", DASK, room / "address", str(ROUNDS), room / "lines", room / "output", *shlex.split(COMMAND)]
         said = subprocess.run(command, cwd=room, env=cluster.places, stdout=subprocess.PIPE, text=True, check=True).stdout
     return min(map(float, said.split()))

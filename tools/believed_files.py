@@ -31,7 +31,7 @@ TABLE = re.compile(r"(<!-- tools/believed_files.py begins(?: [a-z ]+)? -->\n).*?
 CALLS = tuple((CRATES / crate / "src" / "program.rt", "run_words") for crate in ("instants_timeline", "instants_lines"))
 # The lines of what is reached, by its file and its name.
 Lines = dict[tuple[pathlib.Path, str], list[str]]
-LAYERS = {"instants": "lines and answers", "parsing": "reading", "description": "descriptions", "datetime": "date-times", "calendar": "calendar", "base": "bytes"}
+LAYERS = {"instants": "lines and answers", "zones": "zones", "parsing": "reading", "description": "descriptions", "datetime": "date-times", "calendar": "calendar", "base": "bytes"}
 # How many lines are read in a minute, and the sentence with how long all of them take.
 PACE = 15
 COUNTED = re.compile(r"\d+ lines of definitions in \d+ files(?: and \d+ lines of declarations in \d+ files)?, some \d+ hours? at \d+ lines a minute")

@@ -27,6 +27,7 @@ ALONE = (
     "instants_formats",
     "instants_lines_words",
     "instants_lines",
+    "instants_fields",
     "instants_guess",
     "instants_memory",
     "instants_c",
@@ -72,7 +73,9 @@ MODULES = {
     "instants_found::laws": ("instants_found/src/laws.rt",),
     "instants_lines_words::laws": ("instants_lines_words/src/laws.rt",),
     "instants_lines::laws": ("instants_lines/src/laws.rt",),
+    "instants_fields::laws": ("instants_fields/src/laws.rt",),
     "instants_memory::laws": ("instants_memory/src/laws.rt",),
+    "zones::laws": ("zones_clock/src/laws.rt",),
 }
 
 # The titles of a section with their calls, and the sections by their headings.

@@ -4,7 +4,8 @@
     tools/completions.py            writes them
     tools/completions.py --check    says which are not as the sources have them, with status 1
 
-The words are those of `--help`: modes and options of the programs' help, and the names of the table of formats.
+The words are those of `--help`: modes and options of the programs' help, and the names of the table of formats. In the place of an
+assumed offset the zones are offered that the machine's zone.tab lists, where the word begins with a capital letter.
 """
 
 import argparse
@@ -32,8 +33,9 @@ _instants()
     if declare -F _get_comp_words_by_ref > /dev/null; then
         _get_comp_words_by_ref -n : -c word -p before -i place
     fi
-    case ${COMP_WORDS[0]##*/}:$before:$place in
-        description_check:*:1) words='LANGUAGES' ;;
+    # (a zone begins with a capital letter)
+    case ${COMP_WORDS[0]##*/}:$before:$place:$word in
+        description_check:*:1:*) words='LANGUAGES' ;;
         description_check:*) ;;
         instants-merge:-f:*) words='guess SOURCES FORMATS' ;;
         instants-merge:-[aytl]:* | instants-merge:--since:* | instants-merge:--until:*) ;;
@@ -45,12 +47,13 @@ _instants()
             ;;
         # (a description stands here, or a year, a time or a label)
         *:v[123]:* | *:strftime:* | *:year:* | *:time:* | *:label:*) ;;
-        instants:*:1) words='+00:00' ;;
-        instants:*:2) words='- +00:00' ;;
-        instants:*:3) words='100 LIMIT' ;;
+        instants:*:1:*) words='+00:00' ;;
+        instants:*:2:*) words='- +00:00' ;;
+        instants:*:3:*) words='100 LIMIT' ;;
         instants:*) words='SOURCES' ;;
-        *:1 | *:-q:* | *:--count:*) words='MODES OPTIONS' ;;
-        *:[2345]) words='+00:00 - 64 LIMIT year time label SOURCES FORMATS' ;;
+        *:1:* | *:-q:* | *:--count:*) words='MODES OPTIONS' ;;
+        *:3:[[:upper:]]*) words=$(ZONES | cut -f3) ;;
+        *:[2345]:*) words='+00:00 - 64 LIMIT year time label SOURCES FORMATS' ;;
         *) words='year time label SOURCES FORMATS' ;;
     esac
     mapfile -t COMPREPLY < <(compgen -W "$words" -- "$word")
@@ -79,7 +82,15 @@ case $name:$before:$place in
     instants:*:3) found=(100 LIMIT) ;;
     instants:*) found=(SOURCES) ;;
     *:1 | *:-q:* | *:--count:*) found=(MODES OPTIONS) ;;
-    *:[2345]) found=(+00:00 - 64 LIMIT year time label SOURCES FORMATS) ;;
+    *:3)
+        # (a zone begins with a capital letter)
+        if [[ $PREFIX == [[:upper:]]* ]]; then
+            found=(${(f)"$(ZONES | cut -f3)"})
+        else
+            found=(+00:00 - 64 LIMIT year time label SOURCES FORMATS)
+        fi
+        ;;
+    *:[245]) found=(+00:00 - 64 LIMIT year time label SOURCES FORMATS) ;;
     *) found=(year time label SOURCES FORMATS) ;;
 esac
 compadd -- $found
@@ -112,6 +123,11 @@ function __instants_words
             set found MODES OPTIONS
         case '*:2' '*:3' '*:4' '*:5'
             set found +00:00 - 64 LIMIT year time label SOURCES FORMATS
+            # (a zone begins with a capital letter)
+            if test $place = 3; and string match -qr '^[A-Z]' -- (commandline -ct)
+                set -q TZDIR; or set -l TZDIR /usr/share/zoneinfo
+                set found (cat $TZDIR/zone.tab 2> /dev/null | string match -v '#*' | cut -f3)
+            end
         case '*'
             set found year time label SOURCES FORMATS
     end
@@ -137,6 +153,7 @@ def of_help() -> dict[str, str]:
         "FORMATS": " ".join(re.findall(r'^        name: "(.*)",$', FORMATS.read_text(), re.M)),
         "MODES": " ".join([*re.findall(r"^(?: {9,22}| {5})([a-z]+) {2,}", modes, re.M), "guess"]),
         "OPTIONS": " ".join([*options, "--help", "--version"]),
+        "ZONES": "grep -v '^#' \"${TZDIR:-/usr/share/zoneinfo}/zone.tab\" 2> /dev/null",
         "MERGES": " ".join(dict.fromkeys([*re.findall(r"(?:^    |, )(--?[a-z]+)\b", merges, re.M), "--help", "--version"])),
         "LIMIT": sure(re.search(r"^const GREATEST_LIMIT: u32 = (\d[\d_]*);", WORDS.read_text(), re.M))[1].replace("_", ""),
     }

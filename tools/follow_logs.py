@@ -1,10 +1,11 @@
 #!/usr/bin/env python3
 """Writes lines that come by several pipes as one, in the order of their keys, for instants-merge --follow.
 
-    tools/follow_logs.py SECONDS PIPE..
+    tools/follow_logs.py SECONDS SINCE UNTIL PIPE..
 
 A line is written when so many seconds have passed since it came, after all lines with lesser keys that came until then; of equal
-keys the line that came first is first. What is held is written at the end: when each pipe has ended, or after a signal.
+keys the line that came first is first. A line whose key is a date's is left out if the key is less than SINCE, or not less than
+UNTIL. What is held is written at the end: when each pipe has ended, or after a signal.
 """
 
 import collections
@@ -24,8 +25,8 @@ LAST = b"\xff"
 class Window:
     """Lines that are held until their time has come."""
 
-    def __init__(self, seconds: float) -> None:
-        self.seconds, self.count = seconds, 0
+    def __init__(self, seconds: float, since: bytes, until: bytes) -> None:
+        self.seconds, self.since, self.until, self.count = seconds, since, until, 0
         # Each line's key, its number and itself; when each key came; and the greatest key whose time has come.
         self.held: list[tuple[bytes, int, bytes]] = []
         self.came: collections.deque[tuple[float, bytes]] = collections.deque()
@@ -33,6 +34,8 @@ class Window:
 
     def add(self, line: bytes) -> None:
         key = line.partition(b"\t")[0]
+        if not key.startswith(b"!") and not self.since <= key < self.until:
+            return
         self.count += 1
         heapq.heappush(self.held, (key, self.count, line))
         self.came.append((time.monotonic(), key))
@@ -70,14 +73,16 @@ def follow(window: Window, pipes: list[str]) -> None:
             for line in lines:
                 window.add(line)
             if not block:
+                if rest[key.fd]:
+                    window.add(rest[key.fd])
                 found.unregister(key.fd)
                 del rest[key.fd]
         window.write()
 
 
-def main(seconds: str, *pipes: str) -> int:
+def main(seconds: str, since: str, until: str, *pipes: str) -> int:
     try:
-        window = Window(float(seconds))
+        window = Window(float(seconds), since.encode(), until.encode())
     except ValueError:
         print(f"instants-merge: --follow={seconds}: it takes a number of seconds", file=sys.stderr)
         return 2

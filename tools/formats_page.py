@@ -6,7 +6,7 @@
 
 Above each entry of crates/instants_formats/src/table.rt stand the programs that write the format, a line, and the key of that
 line. One table has for each format the arguments with its name; the other has the language and the description that the name
-stands for. `\\t` in a line is a tab.
+stands for, and says what the lines lack, and whether their programs write local time. `\\t` in a line is a tab.
 """
 
 import pathlib
@@ -26,6 +26,10 @@ ENTRY = re.compile(
     r"        lacks: Lacking::(\w+),\n"
     r"    \},\n"
 )
+NAMES = (
+    "A name is the same as the two words that it stands for. Where the lines are local time, a place whose clocks change in spring and autumn needs its "
+    "[zone](GUIDE.md#a-zone-in-place-of-an-offset) in place of an offset, as `+00:00 Europe/Berlin syslog`; machines and containers that are set to UTC need `+00:00`."
+)
 # The arguments before the name, where lines lack something.
 GIVEN = {
     "Nothing": "",
@@ -33,6 +37,15 @@ GIVEN = {
     "Offset": "+00:00 +00:00 ",
     "YearAndOffset": "+00:00 +00:00 year 2024 ",
     "TimeAndOffset": "+00:00 +00:00 time 00:00 ",
+}
+# Which time is written where lines lack the offset: local time, that of the clock where the program runs, but for these.
+CLOCKS = {
+    "cloudfront": "UTC",
+    "openssl": "UTC",
+    "mysql": "local time, but UTC by IIS and Laravel",
+    "php": "the time of a zone that is named after it",
+    "cisco-asa": "the time that the device is set to",
+    "logcat": "the time of the device's zone",
 }
 # What lines lack, in words.
 LACKING = {
@@ -57,6 +70,12 @@ def entries() -> Iterator[tuple[str, str, str, str, str, str, str]]:
         yield " ".join(lines).removesuffix("."), line, key, name, language, description, lacks
 
 
+def lacking(name: str, lacks: str) -> str:
+    """Returns what the lines of a format lack, and which time they write then."""
+    is_local = lacks not in ("Nothing", "Utc")
+    return f"{LACKING[lacks]}; {CLOCKS.get(name, 'local time')}" if is_local else LACKING[lacks]
+
+
 def cell(text: str) -> str:
     """Returns a text as code in a cell of a table."""
     return "`" + text.replace("|", "\\|") + "`"
@@ -69,8 +88,8 @@ def tables() -> str:
     for programs, line, key, name, language, description, lacks in entries():
         by_line.append(f"| {programs} | {cell(GIVEN[lacks] + name)} | {cell(line)} | {cell(key)} |")
         words = f"{language} '{description}'"
-        by_name.append(f"| {cell(name)} | {cell(words)} | {LACKING[lacks]} |")
-    return "\n".join(by_line) + "\n\nA name is the same as the two words that it stands for:\n\n" + "\n".join(by_name) + "\n"
+        by_name.append(f"| {cell(name)} | {cell(words)} | {lacking(name, lacks)} |")
+    return "\n".join(by_line) + "\n\n" + NAMES + "\n\n" + "\n".join(by_name) + "\n"
 
 
 def main(words: list[str]) -> int:

@@ -78,10 +78,14 @@ class Program:
         """Returns the crates that the program is made of, each after those that it uses."""
         return crates_for(self.crate)
 
-    def is_current(self, file: pathlib.Path | None = None) -> bool:
-        """Returns whether the program, or another file that is made of its sources, is there and none of the sources is newer."""
+    def is_current(self) -> bool:
+        """Returns whether the program is there and none of its sources is newer."""
+        return self.is_newest(self.file)
+
+    def is_newest(self, file: pathlib.Path) -> bool:
+        """Returns whether a file that is made of the program's sources is there and none of these is newer."""
         try:
-            made = (file or self.file).stat().st_mtime_ns
+            made = file.stat().st_mtime_ns
         except FileNotFoundError:
             return False
         files: list[str | pathlib.Path] = [ROOT / "crates.txt"]

@@ -2,8 +2,11 @@
 
 import random
 from collections.abc import Sequence
+from typing import NamedTuple
+
 from sample_dates import MONTHS, WAYS, Way, some_moment
 from sample_words import Words
+from sample_zones import Clock, clock_of
 
 FIRST = "the a order user request until since at from to by retry port size took GET POST error warning host session job".split()
 # What a message has beside words: numbers, clocks, addresses, other dates, quotation marks, colours.
@@ -48,15 +51,25 @@ def some_text(rng: random.Random) -> str:
     return " ".join(rng.choice(LAST if rng.random() < 0.3 else FIRST) for _ in range(rng.randint(0, 7)))
 
 
-def some_date(rng: random.Random, ways: Sequence[Way]) -> str:
-    """Returns a date in one of these ways, or now and then in another one."""
-    way = rng.choice(ways) if rng.random() < 0.85 else rng.choice(WAYS)
-    return way.write(rng, some_moment(rng))
+class Drawn(NamedTuple):
+    """What dates are drawn by: ways to write them, and the clock of a zone, or None."""
+
+    ways: Sequence[Way]
+    clock: Clock | None
 
 
-def plain_line(rng: random.Random, ways: Sequence[Way]) -> str:
+def some_date(rng: random.Random, drawn: Drawn) -> str:
+    """Returns a date in one of the ways, or now and then in another one; with a zone mostly near a change of its clock."""
+    way = rng.choice(drawn.ways) if rng.random() < 0.85 else rng.choice(WAYS)
+    if drawn.clock is None or rng.random() < 0.1:
+        return way.write(rng, some_moment(rng))
+    date = way.write(rng, drawn.clock.moment())
+    return date + drawn.clock.tail() if rng.random() < 0.5 else date
+
+
+def plain_line(rng: random.Random, drawn: Drawn) -> str:
     """Returns a line as a program writes it."""
-    date, text = some_date(rng, ways), some_text(rng)
+    date, text = some_date(rng, drawn), some_text(rng)
     number = rng.randrange(1, 5000)
     return rng.choice([
         f"{date} {text}", f"{date} {text}", f"[{date}] {text}", f"{date}", f"{date}: {text}", f"{text} {date} {text}", f"{date}\t{text}",
@@ -65,17 +78,17 @@ def plain_line(rng: random.Random, ways: Sequence[Way]) -> str:
         f"{number},{date},{number}.50,paid", f"{number};{date};12,50", f"\"{date}\",\"{text}\"", f"{date},{rng.choice(['25', '250', '123456', '1'])},{text}",
         f"{MONTHS[number % 12][:3]} {number % 28 + 1:2} 0{number % 10}:04:05 host app[{number}]: {date} {text}", f"<{number % 192}>1 {date} host app - - - {text}",
         f"\x1b[2m{date}\x1b[0m {text}", f"app.log:{number}:{date} {text}", f"Date: {date}", f"--{date}--  https://example.com/", f"backup-{date}.log",
-        f"type=SYSCALL msg=audit({number + 1714550000}.{number % 1000:03}:{number}): {text}", f"{date} - {some_date(rng, ways)}", f"{date} {some_date(rng, ways)} {text}",
+        f"type=SYSCALL msg=audit({number + 1714550000}.{number % 1000:03}:{number}): {text}", f"{date} - {some_date(rng, drawn)}", f"{date} {some_date(rng, drawn)} {text}",
         f"I0102 03:04:05.123456 {number} file.go:42] {text} {date}", f"{date} \"{text}\"", f"{date} [{number}] LOG:  {text}",
     ])
 
 
-def odd_line(rng: random.Random, ways: Sequence[Way]) -> str:
+def odd_line(rng: random.Random, drawn: Drawn) -> str:
     """Returns a line with something odd before the date and after it."""
-    line = f"{rng.choice(HEADS)}{some_date(rng, ways)}{rng.choice(TAILS)}"
+    line = f"{rng.choice(HEADS)}{some_date(rng, drawn)}{rng.choice(TAILS)}"
     for _ in range(rng.choice([0, 0, 1, 1, 2])):
         line = f"{rng.choice([some_text(rng), rng.choice(HEADS)])}{rng.choice(['', ' '])}{line}"
-    return line + rng.choice(["", f" {some_text(rng)}", f"{rng.choice(TAILS)}{some_date(rng, ways)}"])
+    return line + rng.choice(["", f" {some_text(rng)}", f"{rng.choice(TAILS)}{some_date(rng, drawn)}"])
 
 
 def changed(rng: random.Random, line: bytes) -> bytes:
@@ -110,19 +123,19 @@ def lengthened(rng: random.Random, line: bytes, limit: int) -> bytes:
     return line[:at] + fill * min(count, 4000) + line[at:]
 
 
-def some_line(rng: random.Random, ways: Sequence[Way], limit: int, is_whole: bool) -> bytes:
+def some_line(rng: random.Random, drawn: Drawn, limit: int, is_whole: bool) -> bytes:
     """Returns a line as bytes, without its line feed; mostly a date alone, where lines are read as a whole."""
     kind = rng.random()
     if is_whole and kind < 0.7:
-        line = some_date(rng, ways).encode()
+        line = some_date(rng, drawn).encode()
         return changed(rng, line) if rng.random() < 0.4 else line.replace(b"\n", b" ")
     if kind < 0.05:
         return some_text(rng).encode()
     if kind < 0.07:
         return b""
     if kind < 0.12:
-        return some_date(rng, ways).encode()
-    line = (plain_line if kind < 0.5 else odd_line)(rng, ways).encode()
+        return some_date(rng, drawn).encode()
+    line = (plain_line if kind < 0.5 else odd_line)(rng, drawn).encode()
     if rng.random() < 0.2:
         line = changed(rng, line)
     if rng.random() < (0.12 if limit < 3000 else 0.01):
@@ -132,7 +145,8 @@ def some_line(rng: random.Random, ways: Sequence[Way], limit: int, is_whole: boo
 
 def some_stream(rng: random.Random, asked: Words, count: int) -> bytes:
     """Returns so many lines for a run's words as one stream, of which the last now and then has no line feed."""
-    lines = [some_line(rng, asked.ways, asked.limit, asked.words[:1] == ("explain",)) for _ in range(count)]
+    drawn = Drawn(asked.ways, clock_of(rng, asked.zone, asked.year))
+    lines = [some_line(rng, drawn, asked.limit, asked.words[:1] == ("explain",)) for _ in range(count)]
     if rng.random() < 0.05:
         lines = [it + b"\r" for it in lines]
     return b"\n".join(lines) + (b"" if rng.random() < 0.3 else b"\n")

@@ -5,6 +5,8 @@ from typing import NamedTuple
 
 from model.words import SYNONYMS
 from sample_dates import WAYS, Way, of, some_letters, some_way
+from sample_zones import ODD as ODD_ZONES
+from sample_zones import WORDS as ZONES
 
 MODES = ["key", "key", "carry", "carry", "replace", "replace", "explain", "locate", "locate"]
 OFFSETS = ["+00:00", "+00:00", "Z", "UTC", "+02:00", "-03:30", "+05:45", "+14:00", "-12:00", "+23:59", "-23:59", "-00:30"]
@@ -60,15 +62,22 @@ PATTERNS = {
 
 
 class Words(NamedTuple):
-    """The words of a run, the ways of its sources, and its limit."""
+    """The words of a run, the ways of its sources, its limit, the word for its zone, and its year, where they are there."""
 
     words: tuple[str, ...]
     ways: tuple[Way, ...]
     limit: int
+    zone: str | None = None
+    year: int | None = None
 
 
 def offset_of(rng: random.Random, is_needed: bool) -> str:
     return rng.choice(OFFSETS) if is_needed or rng.random() < 0.35 else "-"
+
+
+def named(words: list[str], name: str) -> int | None:
+    """Returns the number after a name, or None."""
+    return int(words[words.index(name) + 1]) if name in words else None
 
 
 def named_formats() -> list[Way]:
@@ -104,11 +113,12 @@ def sources(rng: random.Random) -> list[Way]:
 NAMED = named_formats()
 
 
-def right_words(rng: random.Random, mode: str | None = None) -> Words:
-    """Returns words that are accepted, and mostly with all that their sources lack."""
-    ways, mode = sources(rng), mode or rng.choice(MODES)
+def right_words(rng: random.Random, zones: float) -> Words:
+    """Returns words that are accepted, and mostly with all that their sources lack; so many of them name a zone."""
+    ways, mode = sources(rng), rng.choice(MODES)
     lacks = {it for way in ways for it in way.lacks} if rng.random() < 0.97 else set()
-    settings = [rng.choice(OFFSETS), offset_of(rng, "offset" in lacks), rng.choice(LIMITS)]
+    zone = rng.choice(ZONES) if rng.random() < zones else None
+    settings = [rng.choice(OFFSETS), zone or offset_of(rng, "offset" in lacks), rng.choice(LIMITS)]
     if mode == "explain" and rng.random() < 0.7:
         settings[2] = rng.choice(["100", "300", "1000"])
     if rng.random() < 0.1 and "offset" not in lacks:
@@ -120,9 +130,10 @@ def right_words(rng: random.Random, mode: str | None = None) -> Words:
         words += ["time", rng.choice(TIMES)]
     if mode in ("key", "carry") and rng.random() < 0.15:
         words += ["label", rng.choice(LABELS)]
+    year = named(words, "year")
     words += [it for way in ways for it in way.words]
     limit = int(settings[2]) if len(settings) == 3 else 1_048_576
-    return Words(tuple(words), tuple(ways), limit)
+    return Words(tuple(words), tuple(ways), limit, zone if len(settings) > 1 else None, year)
 
 
 ODD = [
@@ -140,12 +151,13 @@ ODD = [
     "[year base:iso_week sign:mandatory range:extended]", "[ \tday\fpadding:none\r]", "[day padding:none ",
     "[year repr:last_two sign:mandatory]", "[weekday one_indexed:true]", "[first ]", "[first []]", "[optional []x]", "key", "carry",
     "explain", "guess", "locate", "label", "syslog", "access-log", "date", "web\tlog", "--help me", "\u00e9", "OFFSET", "YEAR", "24",
+    *ZONES, *ODD_ZONES,
 ]
 
 
 def wrong_words(rng: random.Random) -> Words:
     """Returns words of which most are wrong: right ones with some changed, left out, put in, or exchanged."""
-    words = list(right_words(rng).words)
+    words = list(right_words(rng, 0.25).words)
     for _ in range(rng.choice([1, 1, 1, 2, 3])):
         at, kind = rng.randrange(len(words) + 1), rng.randrange(4)
         if kind == 0:

@@ -63,6 +63,18 @@ def test_words(shell: str, line: str, some: str, none: str) -> None:
     assert set(some.split()) <= set(found) and not set(none.split()) & set(found)
 
 
+@pytest.mark.parametrize("shell", ["bash", "zsh", "fish"])
+def test_zones(shell: str, tmp_path: pathlib.Path, monkeypatch: pytest.MonkeyPatch) -> None:
+    if not shutil.which(shell):
+        pytest.skip(f"{shell} is not installed")
+    (tmp_path / "zone.tab").write_text("# zones\nDE\t+5230+01322\tEurope/Berlin\tmost of Germany\nFR\t+4852+00220\tEurope/Paris\n")
+    monkeypatch.setenv("TZDIR", str(tmp_path))
+    assert set(offered(shell, "instants-lines key +00:00 Eu")) == {"Europe/Berlin", "Europe/Paris"}
+    assert offered(shell, "instants-lines key Eu") == offered(shell, "instants-lines key +00:00 +02:00 Eu") == []
+    (tmp_path / "zone.tab").unlink()
+    assert offered(shell, "instants-lines key +00:00 Eu") == []
+
+
 def test_made_of_the_sources() -> None:
     ran = subprocess.run([sys.executable, "-B", pathlib.Path(ROOT, "tools", "completions.py"), "--check"], stdout=subprocess.PIPE, text=True, check=False)
     assert (ran.returncode, ran.stdout) == (0, "the completions are as the sources have them\n")

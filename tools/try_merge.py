@@ -170,6 +170,14 @@ def test_rotated_files(merge: Merge) -> None:
     )
 
 
+@pytest.mark.parametrize("pack", [bytes, gzip.compress])
+def test_a_file_whose_last_line_has_no_end(merge: Merge, pack: Callable[[bytes], bytes]) -> None:
+    merge.write("app.log.1", pack(b"2024-05-01T08:00:00Z a\n\n  at a"))
+    merge.write("app.log", b"2024-05-01T08:00:01Z b")
+    _, written, _ = merge.call("-f", "rfc3339", "-l", "x", "-j", "app.log.1", "app.log")
+    assert written == keyed("08:0000 x\t2024-05-01T08:00:00Z a", "08:0000 x\t", "08:0000 x\t  at a", "08:0001 x\t2024-05-01T08:00:01Z b")
+
+
 def test_equal_instants(merge: Merge) -> None:
     for name in "cab":
         merge.write(name, b"2024-05-01T08:00:00Z one\n  two\n")
@@ -283,6 +291,14 @@ def test_followed(merge: Merge) -> None:
     ran.terminate()
     written, said = ran.communicate(timeout=PATIENCE)
     assert (ran.returncode, written) == (1, b"") and said == b"instants-merge: ended by a signal\n"
+
+
+def test_followed_in_a_window(merge: Merge) -> None:
+    merge.write("a", b"begins\n2024-05-01T08:00:00Z a0\n2024-05-01T08:00:01Z a1\n2024-05-01T08:00:02Z a2\n")
+    ran = followed(merge, "--since", "2024-05-01T08:00:01Z", "--until", "2024-05-01T08:00:02Z", "a")
+    assert [line_in_time(ran) for _ in range(2)] == [b"! none\ta\tbegins\n", keyed("08:0001 a\t2024-05-01T08:00:01Z a1")]
+    ran.terminate()
+    assert ran.communicate(timeout=PATIENCE)[0] == b""
 
 
 def test_only_plain_files_are_followed(merge: Merge) -> None:

@@ -1,12 +1,13 @@
 #!/usr/bin/env python3
 """Compares the program `instants-lines` with a model of it (tools/model_lines.py) on lines that are made at random.
 
-    tools/try_model.py [--lines N] [--seed S] [--program PATH] [--block N] [--processes N]
+    tools/try_model.py [--lines N] [--seed S] [--program PATH] [--block N] [--processes N] [--zones 0.25]
     tools/try_model.py --only SEED [..]    the run of one seed, as a difference names it
     tools/try_model.py --rows              the model beside the stored rows of dated lines (crates/rows), without the program
 
 Each run has words of its own: a mode, offsets, a limit, a year, a time of day and sources, among them descriptions that are made at
-random, and a stream of lines with dates of all kinds, changed bytes and odd ends. One run in twenty has words that are wrong. Output,
+random, and a stream of lines with dates of all kinds, changed bytes and odd ends. One run in four names a zone (--zones), and most
+of its dates are near a change of that clock; model and program read the zones of this machine. One run in twenty has words that are wrong. Output,
 status and the sentence on standard error have to be the same, byte by byte. Of the first run that differs the words are printed, the
 first line that is answered differently, and both outputs; the status is 1 then.
 
@@ -25,6 +26,7 @@ import subprocess
 import sys
 import time
 from collections.abc import Sequence
+from typing import NamedTuple
 
 sys.dont_write_bytecode = True
 
@@ -35,10 +37,12 @@ from model.lines import answer
 ROOT = pathlib.Path(__file__).resolve().parent.parent
 BUILT = ROOT / "crates" / "instants_lines_program" / "out" / "instants_lines_program"
 ROWS, DATED = ROOT / "crates" / "rows" / "stdout", "\n## Dated lines\n"
-# What is said beside the sentence of a run: of a trial, of a description that is literal text alone, and of lines none of which is dated.
-NOTES = (b"instants-lines: the program is not built", b"instants-lines: the program that is built is older", b"instants-lines: what follows is of a trial")
+# What is said beside the sentence of a run: of a trial, what to do, of a description that is literal text alone, and of lines none of
+# which is dated.
+OF_TRIAL = b"instants-lines: what follows is of a trial"
+NOTES = (b"instants-lines: the program is not built", b"instants-lines: the program that is built is older", OF_TRIAL, b"instants-lines: hint: ")
 WARNING = re.compile(rb"instants-lines: warning: (?:.*? names no component, as|no line has a date that) [^\n]*\n", re.DOTALL)
-PROCESSES = 2
+PROCESSES, ZONES = 2, 0.25
 # A list of wrong words costs a run of its own, which takes as long as so many lines.
 LINES_OF_A_LIST, WRONG = 10, 2
 # After how many lines it is told that the trial goes on.
@@ -57,7 +61,7 @@ def said_by_program(program: str, words: Sequence[str], stream: bytes) -> Answer
     """Returns the output, the sentence and the status of the program."""
     ran = subprocess.run([program, *words], input=stream, capture_output=True)
     said = WARNING.sub(b"", ran.stderr).splitlines(keepends=True)
-    if NOTES[-1] in ran.stderr:
+    if OF_TRIAL in ran.stderr:
         # (a trial ends an output that has no line feed at its end by one among what is said)
         said = [it for it in said if it != b"\n"]
     said = [it for it in said if not it.startswith(NOTES)]
@@ -95,17 +99,35 @@ def compare(program: str, words: Sequence[str], stream: bytes) -> Answer:
     return expected
 
 
-def compare_block(program: str, seed: int, count: int) -> tuple[str, int, int]:
-    """Compares one run with lines, or now and then runs whose words are wrong. Returns the mode, and how many lines and lists of wrong
-    words were compared."""
-    rng = random.Random(seed)
+class Task(NamedTuple):
+    """A run to compare: how many lines it has, and of how many runs one names a zone."""
+
+    program: str
+    seed: int
+    lines: int
+    zones: float
+
+
+class Compared(NamedTuple):
+    """The mode of a run, how many lines were compared, of these with a zone, and how many lists of wrong words."""
+
+    mode: str
+    lines: int
+    in_zones: int
+    wrong: int
+
+
+def compare_block(task: Task) -> Compared:
+    """Compares one run with lines, or now and then runs whose words are wrong."""
+    rng = random.Random(task.seed)
     if rng.random() < 0.05:
-        lists = [sample_words.wrong_words(rng) for _ in range(count // LINES_OF_A_LIST + 1)]
-        return "", 0, sum(compare(program, it.words, b"")[2] == WRONG for it in lists)
-    asked = sample_words.right_words(rng)
-    stream = sample_lines.some_stream(rng, asked, count)
-    status = compare(program, asked.words, stream)[2]
-    return asked.words[0], count * (status == 0), int(status == WRONG)
+        lists = [sample_words.wrong_words(rng) for _ in range(task.lines // LINES_OF_A_LIST + 1)]
+        return Compared("", 0, 0, sum(compare(task.program, it.words, b"")[2] == WRONG for it in lists))
+    asked = sample_words.right_words(rng, task.zones)
+    stream = sample_lines.some_stream(rng, asked, task.lines)
+    status = compare(task.program, asked.words, stream)[2]
+    lines = task.lines if status == 0 else 0
+    return Compared(asked.words[0], lines, lines if asked.zone else 0, int(status == WRONG))
 
 
 # ---- the stored rows
@@ -146,12 +168,35 @@ def compare_rows() -> int:
 # ---- runs on several processes
 
 
-def compared(task: tuple[str, int, int]) -> tuple[str, int, int] | str:
+def compared(task: Task) -> Compared | str:
     """Returns what `compare_block` says, or the text of a difference."""
     try:
-        return compare_block(*task)
+        return compare_block(task)
     except Difference as difference:
-        return f"seed {task[1]}\n{difference}"
+        return f"seed {task.seed}\n{difference}"
+
+
+def compare_many(asked: argparse.Namespace) -> int:
+    """Compares runs until so many lines are compared, and returns the status."""
+    runs = (asked.lines + asked.block - 1) // asked.block
+    tasks = (Task(asked.program, asked.seed * 1_000_000 + it, asked.block, asked.zones) for it in range(runs * 2))
+    by_mode: dict[str, int] = {}
+    lines, in_zones, wrong, began = 0, 0, 0, time.monotonic()
+    with multiprocessing.Pool(asked.processes) as pool:
+        for said in pool.imap(compared, tasks):
+            if isinstance(said, str):
+                print(f"after {lines} lines without a difference:\n{said}")
+                return 1
+            if (lines + said.lines) // SIGN_OF_LIFE > lines // SIGN_OF_LIFE:
+                print(f"{lines + said.lines} lines so far", file=sys.stderr, flush=True)
+            lines, in_zones, wrong = lines + said.lines, in_zones + said.in_zones, wrong + said.wrong
+            by_mode[said.mode] = by_mode.get(said.mode, 0) + said.lines
+            if lines >= asked.lines:
+                break
+        pool.terminate()
+    told = ", ".join(f"{count} in mode {mode}" for mode, count in sorted(by_mode.items()) if count)
+    print(f"{lines} lines without a difference in {time.monotonic() - began:.0f} s: {told}; {in_zones} with a zone; and {wrong} lists of words that are wrong")
+    return 0
 
 
 def main() -> int:
@@ -161,35 +206,17 @@ def main() -> int:
     parser.add_argument("--program", default=str(BUILT if os.access(BUILT, os.X_OK) else ROOT / "instants-lines"))
     parser.add_argument("--block", type=int, default=200, help="lines of a run")
     parser.add_argument("--processes", type=int, default=PROCESSES)
+    parser.add_argument("--zones", type=float, default=ZONES, help="of how many runs one names a zone")
     parser.add_argument("--only", type=int, help="compare the run of this seed alone")
     parser.add_argument("--rows", action="store_true", help="compare the model with the stored rows")
     asked = parser.parse_args()
     if asked.rows:
         return 1 if compare_rows() else 0
     if asked.only is not None:
-        said = compared((asked.program, asked.only, asked.block))
+        said = compared(Task(asked.program, asked.only, asked.block, asked.zones))
         print(said if isinstance(said, str) else "no difference")
         return 1 if isinstance(said, str) else 0
-    runs = (asked.lines + asked.block - 1) // asked.block
-    tasks = ((asked.program, asked.seed * 1_000_000 + it, asked.block) for it in range(runs * 2))
-    by_mode: dict[str, int] = {}
-    lines, wrong, began = 0, 0, time.monotonic()
-    with multiprocessing.Pool(asked.processes) as pool:
-        for said in pool.imap(compared, tasks):
-            if isinstance(said, str):
-                print(f"after {lines} lines without a difference:\n{said}")
-                return 1
-            mode, count, refused = said
-            if (lines + count) // SIGN_OF_LIFE > lines // SIGN_OF_LIFE:
-                print(f"{lines + count} lines so far", file=sys.stderr, flush=True)
-            lines, wrong = lines + count, wrong + refused
-            by_mode[mode] = by_mode.get(mode, 0) + count
-            if lines >= asked.lines:
-                break
-        pool.terminate()
-    told = ", ".join(f"{count} in mode {mode}" for mode, count in sorted(by_mode.items()) if count)
-    print(f"{lines} lines without a difference in {time.monotonic() - began:.0f} s: {told}; and {wrong} lists of words that are wrong")
-    return 0
+    return compare_many(asked)
 
 
 if __name__ == "__main__":

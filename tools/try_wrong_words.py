@@ -32,7 +32,7 @@ ROWS = (
     ("keys rfc3339", '"keys": no such mode; there are key, carry, replace, explain, locate'),
     ("key", f"no source is named; there are {SOURCES}"),
     ("key +24:00 rfc3339", '"+24:00": no target offset; it must be +HH:MM, -HH:MM, Z or UTC'),
-    ("key Z 7 rfc3339", '"7": no assumed offset; it must be +HH:MM, -HH:MM, Z, UTC or -, as +02:00'),
+    ("key Z 7 rfc3339", '"7": no assumed offset; it must be +HH:MM, -HH:MM, Z, UTC or -, or a zone, as +02:00 or Europe/Berlin'),
     ("key Z - 0 rfc3339", '"0": no limit; it must be a number from 1 to 1048576'),
     ("key year 24x rfc3339", '"24x": no year; it must be four digits, as 2024'),
     ("key time 25:00 rfc3339", '"25:00": no time of day; it must be HH:MM'),

@@ -154,6 +154,13 @@ def offset_after(text: bytes) -> int | None:
     return first_said((said_by_hours(near(text)), said(HOURS_AND_MINUTES, apart(text)), said_by_name(apart(text))))
 
 
+def word_after(line: bytes, ends: int) -> bytes:
+    """Returns the word of letters after a date, directly or over a space."""
+    text = near(line[ends : ends + REACH])
+    text = text[begun((b" ",), text) :]
+    return text[: len(text) - len(text.lstrip(bytes(LETTER)))]
+
+
 def has_name_of_utc(line: bytes, start: int, ends: int) -> bool:
     return any(is_edge(line, it) and word((b"utc", b"gmt", b"z"), line[it:]) for it in range(start, ends))
 

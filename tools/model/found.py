@@ -4,27 +4,31 @@ from collections.abc import Sequence
 from typing import NamedTuple
 
 from . import edges
-from .calendar import Moment
+from .calendar import SECOND, Moment
 from .components import Record
 from .faults import Refused
 from .record import TIME_PARTS, YEAR_PARTS, moment_named, with_offset
 from .sources import Source
+from .zones import Zone
 
 LEAST_UNIX, GREATEST_UNIX = 10**17, 10**19
 
 
 class Given(NamedTuple):
-    """What is given for dates that lack it: an offset, a year or the moment of the date above, and a time of day in minutes."""
+    """What is given for dates that lack it: an offset, a year or the moment of the date above, a time of day in minutes, and the zone
+    on whose clock dates are that say no offset. With a zone they are read at the offset 0 first."""
 
     offset: int | None = None
     year: int | None = None
     above: Moment | None = None
     minutes: int | None = None
+    zone: Zone | None = None
 
     def below(self, moment: Moment) -> "Given":
-        """Returns what is given below a date: where a year is given, the date above decides it."""
+        """Returns what is given below a date: where a year is given, the date above decides it, with a zone by its own clock."""
         has_year = self.year is not None or self.above is not None
-        return self._replace(year=None, above=moment) if has_year else self
+        above = moment._replace(offset=0) if self.zone else moment
+        return self._replace(year=None, above=above) if has_year else self
 
 
 class Date(NamedTuple):
@@ -39,6 +43,14 @@ class Candidate(NamedTuple):
 
     date: Date
     reach: int
+    doubt: str | None
+
+
+class Settled(NamedTuple):
+    """The moment of a date, the offset that is assumed for it, and why its zone's clock names none, or None."""
+
+    moment: Moment
+    offset: int | None
     doubt: str | None
 
 
@@ -91,21 +103,53 @@ def is_likely(read: Record) -> bool:
     return "unix" not in read or LEAST_UNIX <= abs(read["unix"]) < GREATEST_UNIX
 
 
+# ---- a date on the clock of a zone
+
+
+def is_said(zone: Zone, line: bytes, ends: int, moment: int) -> bool:
+    """Whether the clock has at a moment what the line says after a date: an offset, and an abbreviation of the zone."""
+    offset = edges.offset_after(line[ends : ends + edges.REACH])
+    return has_name(zone, line, ends, moment) and offset in (None, zone.offset_at(moment))
+
+
+def has_name(zone: Zone, line: bytes, ends: int, moment: int) -> bool:
+    word = edges.word_after(line, ends)
+    return not zone.is_name(word) or word == zone.name_at(moment)
+
+
+def settled(given: Given, read: Record, line: bytes, ends: int, moment: Moment) -> Settled:
+    """Returns the moment at which the zone's clock shows a date that says no offset; of two the one of which the line says what the
+    clock has there."""
+    if given.zone is None or "offset_hour" in read or "unix" in read:
+        return Settled(moment, given.offset, None)
+    reading = moment.wall // SECOND
+    moments = given.zone.moments(reading)
+    said = [it for it in moments if is_said(given.zone, line, ends, it)]
+    if len(moments) == 1:
+        doubt = None if has_name(given.zone, line, ends, moments[0]) else "another offset"
+        return Settled(Moment(moment.wall, reading - moments[0]), reading - moments[0], doubt)
+    if len(moments) == 2 and len(said) == 1:
+        return Settled(Moment(moment.wall, reading - said[0]), reading - said[0], None)
+    if not moments:
+        return Settled(moment, None, "skipped by the clock")
+    return Settled(moment, None, "twice by the clock" if said or len(moments) > 2 else "another offset")
+
+
 # ---- a date at a place
 
 
-def otherwise(given: Given, read: Record, line: bytes, start: int, begins: int, ends: int, moment: Moment) -> str | None:
+def otherwise(given: Given, read: Record, line: bytes, start: int, begins: int, ends: int, date: Settled) -> str | None:
     """Returns what the line says otherwise beside the date than what was given to it, or None."""
     if "unix" in read:
         return None
-    needs_offset = given.offset is not None and "offset_hour" not in read
+    needs_offset = date.offset is not None and "offset_hour" not in read
     needs_time = given.minutes is not None and not any(it in read for it in TIME_PARTS)
     needs_year = (given.year is not None or given.above is not None) and not any(it in read for it in YEAR_PARTS)
-    if needs_offset and edges.has_another_offset(line, start, ends, given.offset or 0):
+    if needs_offset and edges.has_another_offset(line, start, ends, date.offset or 0):
         return "another offset"
     if (needs_offset and "is_pm" not in read and edges.has_half_after(line, ends)) or (needs_time and edges.has_clock_beside(line, begins, ends)):
         return "another time"
-    return "another year" if needs_year and edges.has_another_year(line, begins, ends, moment.year()) else None
+    return "another year" if needs_year and edges.has_another_year(line, begins, ends, date.moment.year()) else None
 
 
 def candidate(given: Given, line: bytes, place: int, number: int, source: Source) -> Candidate | None:
@@ -121,14 +165,15 @@ def candidate(given: Given, line: bytes, place: int, number: int, source: Source
     is_edge = edges.is_edge(line, place + edges.trimmed_length(text[:after]))
     if not edges.may_say(line, begins) or ("unix" in read and not is_edge):
         return None
+    date = settled(given, read, line, ends, moment)
     doubt: str | None
     if not is_edge:
         doubt = "goes on"
     elif not long.is_chosen and edges.has_clock_in_front(line, begins):
         doubt = "clock in front"
     else:
-        doubt = otherwise(given, read, line, place, begins, ends, moment)
-    return Candidate(Date(begins, zone, number, moment), edges.reach(line, begins, ends, zone), doubt)
+        doubt = date.doubt or otherwise(given, read, line, place, begins, ends, date)
+    return Candidate(Date(begins, zone, number, date.moment), edges.reach(line, begins, ends, zone), doubt)
 
 
 # ---- the date of a line

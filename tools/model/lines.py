@@ -14,7 +14,7 @@ class Run:
 
     def __init__(self, asked: Asked) -> None:
         self.asked = asked
-        self.given = Given(asked.assumed, asked.year, None, asked.minutes)
+        self.given = Given(asked.assumed, asked.year, None, asked.minutes, asked.zone)
         self.key = NONE
         self.indent: int | None = None
 

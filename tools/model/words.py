@@ -10,6 +10,7 @@ from .components import Items
 from .faults import Faulty, WrongWords
 from .pieces import number_said, offset_said, time_said, year_said
 from .sources import Source
+from .zones import Zone, zone_named
 
 ROOT = pathlib.Path(__file__).resolve().parent.parent.parent
 MODES = (b"key", b"carry", b"replace", b"explain", b"locate")
@@ -26,6 +27,8 @@ LANGUAGES: dict[bytes, Callable[[bytes], Items]] = {
 NAMED = (b"year", b"time", b"label")
 SOURCES = b", ".join((*FORMATS, *LANGUAGES)) + b", and the names of --help"
 USAGE = b"usage: instants-lines MODE [TARGET [ASSUMED [LIMIT]]] [year N] [time HH:MM] [label TEXT] SOURCE..."
+NO_ASSUMED = b"no assumed offset; it must be +HH:MM, -HH:MM, Z, UTC or -, or a zone, as +02:00 or Europe/Berlin"
+NO_ZONE = b"no zone; modes key, carry, replace and locate take one by its name, as Europe/Berlin or :CET"
 NO_FILES = b"no such source; files are read from standard input: instants-lines .. < FILE"
 
 
@@ -50,6 +53,7 @@ class Asked(NamedTuple):
     mode: str
     target: int
     assumed: int | None
+    zone: Zone | None
     limit: int
     year: int | None
     minutes: int | None  # of the day
@@ -82,16 +86,35 @@ def is_setting(word: bytes) -> bool:
     return word[:1] in (b"+", b"-") or word[:1].isdigit() or word in (b"Z", b"UTC", b"OFFSET")
 
 
+def is_file_name(word: bytes) -> bool:
+    return b"." in word or word[:1] == b"/"
+
+
+def is_zone(word: bytes) -> bool:
+    """Whether a word is a zone by its looks: a colon is in front, or a slash is in it and it is no file's name."""
+    return word[:1] == b":" or (b"/" in word and not is_file_name(word))
+
+
+def zone_said(mode: bytes, word: bytes) -> bytes | None:
+    return word if mode != b"explain" and re.fullmatch(rb"(?!/)[A-Za-z0-9_+/-]{1,64}", word) else None
+
+
 def as_offset(word: bytes) -> bytes:
     return b"+00:00" if word in (b"Z", b"UTC") else word
 
 
 def front_settings(words: list[bytes]) -> tuple[list[bytes], list[bytes]]:
-    """Returns the target, the assumed offset and the limit, as far as they are there, and the words after them."""
+    """Returns the target, the assumed offset or a zone, and the limit, as far as they are there, and the words after them."""
     count = 0
-    while count < min(3, len(words)) and is_setting(words[count]):
+    while count < min(3, len(words)) and (is_setting(words[count]) or (count == 1 and is_zone(words[count]))):
         count += 1
     return words[:count], words[count:]
+
+
+def zone_word(settings: list[bytes]) -> bytes | None:
+    """Returns the name of the zone in place of the assumed offset, without the colon in front, or None."""
+    is_there = len(settings) > 1 and not is_setting(settings[1])
+    return settings[1].removeprefix(b":") if is_there else None
 
 
 def named_word(name: bytes, words: list[bytes]) -> tuple[bytes | None, list[bytes]]:
@@ -102,7 +125,7 @@ def named_word(name: bytes, words: list[bytes]) -> tuple[bytes | None, list[byte
 
 
 def no_such_source(word: bytes, may_be_offset: bool) -> bytes:
-    if b"." in word or word[:1] == b"/":
+    if is_file_name(word):
         return NO_FILES
     offset = b"; an offset before the sources is +HH:MM, -HH:MM, Z or UTC" if may_be_offset else b""
     return b"no such source; there are " + SOURCES + offset
@@ -145,6 +168,17 @@ def refuse_lacking(asked: Asked) -> None:
             raise WrongWords(b"source %d names no moment: it has no %s" % (place, lack.encode()))
 
 
+def settings_said(mode: bytes, settings: list[bytes]) -> tuple[int, int | None, int, bytes | None]:
+    """Returns the target, the assumed offset, the limit, and the name of the zone in place of the offset, which is 0 then."""
+    target_word, assumed_word, limit_word = settings + [b"+00:00", b"-", b"1048576"][len(settings) :]
+    name = zone_word(settings)
+    assumed_word = b"+00:00" if name is not None else assumed_word
+    target = said(as_offset(target_word), offset_said, b"no target offset; it must be +HH:MM, -HH:MM, Z or UTC")
+    assumed = None if assumed_word == b"-" else said(as_offset(assumed_word), offset_said, NO_ASSUMED)
+    limit = said(limit_word, lambda it: number_said(1, 1_048_576, 7, it), b"no limit; it must be a number from 1 to 1048576")
+    return target, assumed, limit, maybe_said(name, lambda it: zone_said(mode, it), NO_ZONE)
+
+
 def asked_by(words: list[bytes]) -> Asked:
     """Returns what words ask for, or raises WrongWords."""
     if not words:
@@ -157,14 +191,13 @@ def asked_by(words: list[bytes]) -> Asked:
         named[name], rest = named_word(name, rest)
     if not rest:
         raise WrongWords(b"no source is named; there are " + SOURCES)
-    target_word, assumed_word, limit_word = settings + [b"+00:00", b"-", b"1048576"][len(settings) :]
-    target = said(as_offset(target_word), offset_said, b"no target offset; it must be +HH:MM, -HH:MM, Z or UTC")
-    assumed = None if assumed_word == b"-" else said(as_offset(assumed_word), offset_said, b"no assumed offset; it must be +HH:MM, -HH:MM, Z, UTC or -, as +02:00")
-    limit = said(limit_word, lambda it: number_said(1, 1_048_576, 7, it), b"no limit; it must be a number from 1 to 1048576")
+    target, assumed, limit, zone_name = settings_said(words[0], settings)
     year = maybe_said(named[b"year"], year_said, b"no year; it must be four digits, as 2024")
     minutes = maybe_said(named[b"time"], time_said, b"no time of day; it must be HH:MM")
     label = maybe_said(named[b"label"], lambda it: label_said(words[0], it), b"no label; modes key and carry take one, without tabs and line feeds")
-    sources = tuple(source_made(place, *it) for place, it in enumerate(sources_said(rest, len(settings) == 3), 1))
-    asked = Asked(words[0].decode(), target, assumed, limit, year, minutes, label, sources)
+    named_sources = sources_said(rest, len(settings) == 3)
+    zone = None if zone_name is None else zone_named(zone_name)
+    sources = tuple(source_made(place, *it) for place, it in enumerate(named_sources, 1))
+    asked = Asked(words[0].decode(), target, assumed, zone, limit, year, minutes, label, sources)
     refuse_lacking(asked)
     return asked

@@ -93,6 +93,13 @@ offset_after bytes =
     let apart = drop (gap (near bytes)) (near bytes) in
     option_or (said_directly (near bytes)) (option_or (said hours_and_minutes apart) (said_by_name apart))
 
+-- the word of letters that stands after a date, directly or over a space
+unfoldable pub word_after : List ℕ → ℕ → List ℕ
+word_after line ends =
+    let bytes = near (after line ends) in
+    let others = drop (if get_or bytes 0 0 == space then 1 else 0) bytes in
+    take (prefix_len is_ascii_alphabetic others) others
+
 -- here stand a sign and four digits after no word: an offset that was read as a year, or a year with a sign
 abbrev pub is_signed_year : List ℕ → ℕ → Bool
 is_signed_year line place =

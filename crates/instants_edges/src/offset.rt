@@ -124,6 +124,25 @@ fn offset_after(bytes: &[u8]) -> Option<i32>
     said_directly(near).or_else(|| said(&HOURS_AND_MINUTES, apart).or_else(|| said_by_name(apart)))
 }
 
+/// The offset that a line says after a date, in seconds.
+pub fn offset_said(line: &[u8], ends: usize) -> Option<i32>
+    requires ends { ends ≤ length line.now }
+    ensures { result ≡ Beside.offset_after (Beside.after line.now ends) }
+{
+    offset_after(after(line, ends))
+}
+
+/// The word of letters that stands after a date, directly or over a space: it may be empty.
+#[tactic(auto, unfolding(crate::specs::Beside::word_after))]
+pub fn word_after(line: &[u8], ends: usize) -> &[u8]
+    requires ends { ends ≤ length line.now }
+    ensures { result.now ≡ Beside.word_after line.now ends }
+{
+    let bytes = near(after(line, ends));
+    let others = rest_from(bytes, usize::from(byte_at(bytes, 0) == b' '));
+    first_bytes(others, letters_length(others))
+}
+
 // Whether a sign and four digits stand at a place after no word.
 #[inline(always)]
 fn is_signed_year(line: &[u8], place: usize) -> bool

@@ -1,4 +1,5 @@
 pub mod Needless
+pub mod ZonedLemmas
 pub mod ReadAt
 pub mod Longest
 pub mod LaneLemmas

@@ -1,5 +1,5 @@
 -- The date that is made of what a source reads at a place.
-use Rattle.std.proofs.Common.{◌≡◌, ◌<◌, ◌≤◌, ◌+◌, ℕ, Bool, true, false, List, ◌-◌, length, drop, get_or, map, Option, Some, None, refl, sym, ap, subst, ◌∙◌, inl, inr, arith, length-drop}
+use Rattle.std.proofs.Common.{◌≡◌, ◌<◌, ◌≤◌, ◌+◌, ℕ, ℤ, Bool, true, false, List, ◌-◌, length, drop, get_or, map, Option, Some, None, refl, sym, ap, subst, ◌∙◌, inl, inr, arith, length-drop}
 use Rattle.std.specs.Prelude.{IfSome, option_and_then, option_map, if◌then◌else◌}
 use Rattle.std.proofs.lemmas.List.{length-take}
 use Rattle.std.proofs.lemmas.Option.{slice_get-map, slice_get_read, slice_get_cases}
@@ -14,7 +14,13 @@ use Rattle.instants_prefixes.specs.Reading.{text_for, prefix_named}
 use Rattle.instants_prefixes.specs.declared.date_source.DateSource.{DateSource}
 use Rattle.instants_prefixes.specs.declared.given.Given.{Given}
 use Rattle.instants_prefixes.specs.declared.prefix.Prefix.{Prefix}
-use Rattle.instants_found.specs.Beside.{is_read, why}
+use Rattle.instants_prefixes.specs.Reading.{record_at}
+use Rattle.std.specs.Borrow.{Bor}
+use Rattle.zones_clock.specs.declared.zone.Zone.{Zone}
+use Rattle.instants_found.specs.Zoned.{settled_by, takes_offset, unmoved}
+use Rattle.instants_found.specs.declared.zoned.Settled.{Settled}
+use Rattle.instants_found.proofs.ZonedLemmas.{settled_within}
+use Rattle.instants_found.specs.Beside.{is_read, settled_at, why}
 use Rattle.instants_found.specs.Candidate.{as_candidate, candidate_with, of_prefix, candidate, read_by}
 use Rattle.instants_found.specs.declared.candidate.Candidate.{Candidate}
 use Rattle.instants_found.specs.declared.doubt.Doubt.{Doubt}
@@ -29,13 +35,25 @@ module _ (given : Given) (line : List ℕ) (start number : ℕ) (grammar : Gramm
   unread e = ap (of_prefix given line start number grammar) e
 
   pub by_read : (prefix : Prefix) (b : Bool) → Some prefix ≡ prefix_at given grammar (drop start line) → b ≡ is_read grammar line start prefix
-      → (if b then Some (as_candidate given line start number grammar prefix) else None) ≡ candidate given line start number grammar
+      → (if b then Some (as_candidate given line start number grammar (settled_at given grammar line start prefix)) else None) ≡ candidate given line start number grammar
   unfolding candidate
-  by_read prefix b e read = ap (λ (t : Bool). if t then Some (as_candidate given line start number grammar prefix) else None) read ∙ ap (of_prefix given line start number grammar) e
+  by_read prefix b e read =
+      ap (λ (t : Bool). if t then Some (as_candidate given line start number grammar (settled_at given grammar line start prefix)) else None) read ∙ ap (of_prefix given line start number grammar) e
 
-  pub made : (prefix : Prefix) (doubt : Option Doubt) → Some prefix ≡ prefix_at given grammar (drop start line) → true ≡ is_read grammar line start prefix → doubt ≡ why given grammar line start prefix
-      → Some (candidate_with line start number prefix doubt) ≡ candidate given line start number grammar
-  made prefix doubt e read is = ap (λ (o : Option Doubt). Some (candidate_with line start number prefix o)) is ∙ by_read prefix true e read
+  pub made : (prefix : Prefix) (date : Settled) (doubt : Option Doubt) → Some prefix ≡ prefix_at given grammar (drop start line) → true ≡ is_read grammar line start prefix → date ≡ settled_at given grammar line start prefix
+      → doubt ≡ why given grammar line start date → Some (candidate_with line start number date.prefix doubt) ≡ candidate given line start number grammar
+  made prefix date doubt e read settles is =
+      ap (λ (o : Option Doubt). Some (candidate_with line start number date.prefix o)) is ∙ ap (λ (d : Settled). Some (as_candidate given line start number grammar d)) settles ∙ by_read prefix true e read
+
+-- no zone moves a date that takes no offset
+stays : (zone : Option (Bor Zone)) (offset : Option ℤ) (takes : Bool) (line : List ℕ) (start : ℕ) (prefix : Prefix) → takes ≡ false → settled_by zone offset takes line start prefix ≡ unmoved offset prefix
+stays None offset takes line start prefix e = refl
+stays (Some zone) offset false line start prefix e = refl
+stays (Some zone) offset true line start prefix e = absurd cc
+
+pub unmoved_candidate : (given : Given) (line : List ℕ) (start number : ℕ) (grammar : Grammar) (prefix : Prefix) → takes_offset (record_at grammar (drop start line)) ≡ false
+    → as_candidate given line start number grammar (settled_at given grammar line start prefix) ≡ as_candidate given line start number grammar (unmoved given.offset prefix)
+unmoved_candidate given line start number grammar prefix e = ap (λ (date : Settled). as_candidate given line start number grammar date) (stays given.zone given.offset _ line start prefix e)
 
 -- what the source of a number reads
 pub by_source : (given : Given) (line : List ℕ) (start : ℕ) (sources : List DateSource) (number : ℕ) (source : DateSource) → number < length sources → source ≡ get_or sources number source
@@ -58,8 +76,11 @@ prefix_in_within grammar text (Some (moment, rest)) = prefix_within grammar text
 lies_of : (given : Given) (line : List ℕ) (start number many : ℕ) (grammar : Grammar) (text : List ℕ) (o : Option Prefix) → length text ≤ many → IfSome o (IsWithin text) → IfSome (of_prefix given line start number grammar o) (LiesBy start number many)
 lies_of given line start number many grammar text None le within = tt
 lies_of given line start number many grammar text (Some prefix) le within =
-    elim (is_read grammar line start prefix) as (λ b. IfSome (if b then Some (as_candidate given line start number grammar prefix) else None) (LiesBy start number many)) [
-      | true ↦ record { start_near = omega (arith, within.begins, le); end_near = omega (arith, within.zone, le); source = refl }
+    elim (is_read grammar line start prefix) as (λ b. IfSome (if b then Some (as_candidate given line start number grammar (settled_at given grammar line start prefix)) else None) (LiesBy start number many)) [
+      | true ↦
+          let date = settled_at given grammar line start prefix in
+          let same : date.prefix.begins ≤ length text × date.prefix.zone ≤ length text = let w = settled_within text given.zone given.offset (takes_offset (record_at grammar (drop start line))) line start prefix within in (w.begins, w.zone) in
+          record { start_near = omega (arith, same.0, le); end_near = omega (arith, same.1, le); source = refl }
       | false ↦ tt
     ]
 

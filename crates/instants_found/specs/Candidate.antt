@@ -6,7 +6,8 @@ use Rattle.instants_edges.specs.Pieces.{reach}
 use Rattle.instants_prefixes.specs.declared.given.Given.{Given}
 use Rattle.instants_prefixes.specs.Prefix.{prefix_at}
 use Rattle.instants_prefixes.specs.declared.prefix.Prefix.{Prefix}
-use Rattle.instants_found.specs.Beside.{is_read, why}
+use Rattle.instants_found.specs.Beside.{is_read, settled_at, why}
+use Rattle.instants_found.specs.declared.zoned.Settled.{Settled}
 use Rattle.instants_found.specs.declared.candidate.Candidate.{Candidate}
 use Rattle.instants_found.specs.declared.doubt.Doubt.{Doubt}
 use Rattle.instants_found.specs.declared.found.Found.{Found}
@@ -20,8 +21,8 @@ abbrev pub candidate_with : List ℕ → ℕ → ℕ → Prefix → Option Doubt
 candidate_with line start number prefix doubt =
     record { date = found_at start number prefix; reach = reach line (start + prefix.begins) (start + prefix.ends) (start + prefix.zone); doubt = doubt }
 
-abbrev pub as_candidate : Given → List ℕ → ℕ → ℕ → Grammar → Prefix → Candidate
-as_candidate given line start number grammar prefix = candidate_with line start number prefix (why given grammar line start prefix)
+abbrev pub as_candidate : Given → List ℕ → ℕ → ℕ → Grammar → Settled → Candidate
+as_candidate given line start number grammar date = candidate_with line start number date.prefix (why given grammar line start date)
 
 -- a date stands whole where it has no doubt
 abbrev pub is_whole : Candidate → Bool
@@ -30,7 +31,7 @@ is_whole one = is_none one.doubt
 abbrev pub of_prefix : Given → List ℕ → ℕ → ℕ → Grammar → Option Prefix → Option Candidate
 of_prefix given line start number grammar None = None
 of_prefix given line start number grammar (Some prefix) =
-    if is_read grammar line start prefix then Some (as_candidate given line start number grammar prefix) else None
+    if is_read grammar line start prefix then Some (as_candidate given line start number grammar (settled_at given grammar line start prefix)) else None
 
 -- the date that the source of this number reads at this place
 unfoldable pub candidate : Given → List ℕ → ℕ → ℕ → Grammar → Option Candidate

@@ -1,3 +1,4 @@
+pub mod Zoned
 pub mod Beside
 pub mod Candidate
 pub mod Found

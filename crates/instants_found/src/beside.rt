@@ -1,11 +1,12 @@
 //! Whether a date stands whole in its line, and nothing beside it says otherwise.
-ghost use Rattle.std.specs.Prelude.{◌≡◌, ◌<◌, ◌≤◌, ◌+◌, ◌||◌, not, true, false, drop, length, is_some};
+ghost use Rattle.std.specs.Prelude.{◌≡◌, ◌<◌, ◌≤◌, ◌+◌, ◌||◌, not, true, false, drop, length, is_some, None};
 ghost use Rattle.instants_prefixes.specs.DateSource.{grammar_in};
 ghost use Rattle.instants_prefixes.specs.Reading.{record_at};
 ghost use Rattle.instants_prefixes.specs.declared.given.Years.TheVariants.{Unknown};
 ghost use Rattle.instants_found.specs.Beside as Beside;
 
 use crate::doubt::Doubt;
+use crate::zoned::Settled;
 use calendar::UtcOffset;
 use datetime_types::WallClock;
 use instants_edges::{
@@ -88,14 +89,20 @@ fn says_year(given: &Given, line: &[u8], start: usize, prefix: &Prefix) -> bool
 
 impl Said {
     // What a line says beside a date that is read at a place.
-    fn beside(given: &Given, line: &[u8], start: usize, prefix: &Prefix) -> Said
+    fn beside(
+        given: &Given,
+        offset: Option<UtcOffset>,
+        line: &[u8],
+        start: usize,
+        prefix: &Prefix,
+    ) -> Said
         requires begins { start + prefix.now.begins ≤ length line.now }
         requires ends { start + prefix.now.ends ≤ length line.now }
-        ensures { result ≡ Beside.said given.now line.now start prefix.now }
+        ensures { result ≡ Beside.said given.now offset line.now start prefix.now }
     {
         let (begins, ends) = (start + prefix.begins, start + prefix.ends);
-        let offset = given.offset.unwrap_or(UtcOffset::UTC);
-        let has_offset = given.offset.is_some();
+        let has_offset = offset.is_some();
+        let offset = offset.unwrap_or(UtcOffset::UTC);
         Said {
             offset: has_offset && has_another_offset(line, start, ends, offset),
             half: has_offset && has_half_after(line, ends),
@@ -134,14 +141,25 @@ impl Said {
     }
 }
 
+// Whether neither an offset is assumed nor anything else is given.
+#[inline(always)]
+fn assumes_nothing(offset: Option<UtcOffset>, given: &Given) -> bool
+    ensures offset { result ≡ true → is_some offset ≡ false }
+    ensures years { result ≡ true → given.now.years ≡ Unknown }
+    ensures time { result ≡ true → is_some given.now.time ≡ false }
+{
+    offset.is_none() && given.time.is_none() && matches!(given.years, Years::Unknown)
+}
+
 /// Whether nothing is given.
 #[inline(always)]
 pub(crate) fn gives_nothing(given: &Given) -> bool
     ensures offset { result ≡ true → is_some given.now.offset ≡ false }
+    ensures zone { result ≡ true → given.now.zone ≡ None }
     ensures years { result ≡ true → given.now.years ≡ Unknown }
     ensures time { result ≡ true → is_some given.now.time ≡ false }
 {
-    given.offset.is_none() && given.time.is_none() && matches!(given.years, Years::Unknown)
+    assumes_nothing(given.offset, given) && given.zone.is_none()
 }
 
 // What the line says otherwise beside a date than what was given for it. What was read is asked only where it says something.
@@ -149,6 +167,7 @@ pub(crate) fn gives_nothing(given: &Given) -> bool
 fn otherwise(
     source: &DateSource<'_>,
     given: &Given,
+    offset: Option<UtcOffset>,
     line: &[u8],
     start: usize,
     prefix: &Prefix,
@@ -156,9 +175,9 @@ fn otherwise(
     requires within { start < length line.now }
     requires begins { start + prefix.now.begins ≤ length line.now }
     requires ends { start + prefix.now.ends ≤ length line.now }
-    ensures { result ≡ Beside.otherwise given.now (record_at (grammar_in source.now) (drop start line.now)) line.now start prefix.now }
+    ensures { result ≡ Beside.otherwise given.now offset (record_at (grammar_in source.now) (drop start line.now)) line.now start prefix.now }
 {
-    let said = Said::beside(given, line, start, prefix);
+    let said = Said::beside(given, offset, line, start, prefix);
     if said.is_nothing() {
         return None;
     }
@@ -182,7 +201,7 @@ pub(crate) fn joined(line: &[u8], start: usize, prefix: &Prefix) -> Option<Doubt
 }
 
 /// Why the date that a source reads at a place does not stand whole there, if it does not. The line can say nothing otherwise
-/// where nothing is given.
+/// where nothing is assumed.
 #[inline(always)]
 #[tactic(auto, unfolding(crate::specs::Beside::why))]
 pub(crate) fn why(
@@ -190,19 +209,22 @@ pub(crate) fn why(
     given: &Given,
     line: &[u8],
     start: usize,
-    prefix: &Prefix,
+    date: &Settled,
 ) -> Option<Doubt>
     requires within { start < length line.now }
-    requires begins { start + prefix.now.begins ≤ length line.now }
-    requires ends { start + prefix.now.ends ≤ length line.now }
-    requires all { start + prefix.now.all ≤ length line.now }
-    ensures { result ≡ Beside.why given.now (grammar_in source.now) line.now start prefix.now }
+    requires begins { start + date.now.prefix.begins ≤ length line.now }
+    requires ends { start + date.now.prefix.ends ≤ length line.now }
+    requires all { start + date.now.prefix.all ≤ length line.now }
+    ensures { result ≡ Beside.why given.now (grammar_in source.now) line.now start date.now }
 {
-    if let Some(doubt) = joined(line, start, prefix) {
+    if let Some(doubt) = joined(line, start, &date.prefix) {
         return Some(doubt);
     }
-    if gives_nothing(given) {
+    if let Some(doubt) = date.doubt {
+        return Some(doubt);
+    }
+    if assumes_nothing(date.offset, given) {
         return None;
     }
-    otherwise(source, given, line, start, prefix)
+    otherwise(source, given, date.offset, line, start, &date.prefix)
 }

@@ -7,6 +7,7 @@ ghost use Rattle.instants_found.specs.Doubts.{doubted};
 use crate::beside::{after, is_read, why};
 use crate::doubt::{Doubt, Doubted};
 use crate::found::Found;
+use crate::zoned::Settled;
 use instants_edges::reach;
 use instants_prefixes::{DateSource, Given, Prefix, lacks_byte};
 
@@ -85,8 +86,9 @@ pub(crate) fn read_candidate(
     if !is_read(source, line, start, &prefix) {
         return None;
     }
-    let doubt = why(source, given, line, start, &prefix);
-    Some(candidate_with(line, start, number, prefix, doubt))
+    let date = Settled::of(source, given, line, start, prefix);
+    let doubt = why(source, given, line, start, &date);
+    Some(candidate_with(line, start, number, date.prefix, doubt))
 }
 
 /// The longer of two dates: of equals the first.

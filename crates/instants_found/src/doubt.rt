@@ -7,6 +7,10 @@ pub enum Doubt {
     After,
     /// A clock with seconds stands before it, and no text of its description chose its place.
     ClockBefore,
+    /// The clock of the zone that was given for it was put forward over it.
+    Skipped,
+    /// The clock of the zone was put back over it, and it shows it more than once.
+    Repeated,
     /// The line says another offset after it than the one that was given for it, or inside of it.
     AnotherOffset,
     /// The line says a half of the day after it, and it has none; or a clock beside it, and its time of day was given for it.

@@ -9,6 +9,7 @@ ghost use Rattle.instants_found.specs.declared.found.Finding.TheVariants.{There}
 use crate::beside::{after, gives_nothing, is_read, joined, why};
 use crate::candidate::{Candidate, candidate_with, found_at, longer, read_candidate};
 use crate::found::{Finding, Found};
+use crate::zoned::Settled;
 use instants_edges::is_edge;
 use instants_prefixes::{DateSource, Given, lacks_byte, rules_out};
 
@@ -103,15 +104,16 @@ fn by_sources(
         if !is_read(source, line, start, &prefix) {
             continue;
         }
-        let doubt = why(source, given, line, start, &prefix);
+        let date = Settled::of(source, given, line, start, prefix);
+        let doubt = why(source, given, line, start, &date);
         if others_may_read(sources, number + 1, bytes) {
-            let one = candidate_with(line, start, number, prefix, doubt);
+            let one = candidate_with(line, start, number, date.prefix, doubt);
             return Some(with_others(sources, given, line, start, number, one));
         }
         if doubt.is_some() {
             return Some(Finding::Doubtful(start));
         }
-        return Some(Finding::There(found_at(start, number, prefix)));
+        return Some(Finding::There(found_at(start, number, date.prefix)));
     }
     None
 }

@@ -7,6 +7,7 @@ ghost use Rattle.instants_found.specs.Doubts.{HasDoubt};
 ghost use Rattle.instants_found.specs.Found.{found, looked_at};
 ghost use Rattle.instants_found.specs.IsFound.{IsFound};
 ghost use Rattle.instants_found.specs.Tried.{nodes_of, tried_from};
+ghost use Rattle.instants_found.specs.Zoned.{EachIsAtTheMoment};
 ghost use Rattle.instants_found.specs.declared.found.Found.{Found};
 ghost use Rattle.instants_found.specs.declared.found.Finding.{Finding};
 ghost use Rattle.instants_found.specs.declared.found.Finding.TheVariants.{Doubtful, There};
@@ -54,4 +55,11 @@ pub fn cost()
     ensures bounded { (sources : List Grammar) (line : List ℕ) (limit : ℕ)
         → tried_from sources line limit ≤ length (take limit line) * nodes_of sources }
     ensures near { (grammar : Grammar) (bytes : List ℕ) → length (text_for grammar bytes) ≤ window }
+{}
+
+/// A date on a zone's clock that is not in doubt is at a moment at which the clock shows it; of each other such moment the line does
+/// not say what the clock has there.
+#[tactic(auto, using(crate::proofs::ZonedLemmas::each_at_the_moment))]
+pub fn on_clock()
+    ensures { EachIsAtTheMoment }
 {}

@@ -17,6 +17,7 @@ mod range;
 mod source_key;
 mod spread;
 mod starts;
+mod zoned;
 
 pub use doubt::{Doubt, Doubted};
 pub use finder::Finder;

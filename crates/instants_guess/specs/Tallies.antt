@@ -15,11 +15,11 @@ most = 1_048_576
 
 -- what is given to the dates of a format that lacks it: the offset +00:00, the year 2024, midnight
 abbrev pub given_for : Lacking → Given
-given_for Nothing = record { offset = None; years = Unknown; time = None }
-given_for Utc = record { offset = Some (pos 0); years = Unknown; time = None }
-given_for Offset = record { offset = Some (pos 0); years = Unknown; time = None }
-given_for YearAndOffset = record { offset = Some (pos 0); years = In (pos 2024); time = None }
-given_for TimeAndOffset = record { offset = Some (pos 0); years = Unknown; time = Some 0 }
+given_for Nothing = record { offset = None; zone = None; years = Unknown; time = None }
+given_for Utc = record { offset = Some (pos 0); zone = None; years = Unknown; time = None }
+given_for Offset = record { offset = Some (pos 0); zone = None; years = Unknown; time = None }
+given_for YearAndOffset = record { offset = Some (pos 0); zone = None; years = In (pos 2024); time = None }
+given_for TimeAndOffset = record { offset = Some (pos 0); zone = None; years = Unknown; time = Some 0 }
 
 -- the date's year at the target +00:00 is written, and not `! year`
 abbrev pub is_written : Found → Bool

@@ -24,7 +24,7 @@ pub(crate) const MOST: usize = 1_048_576;
 pub(crate) struct Candidate {
     pub(crate) name: &'static str,
     pub(crate) lacks: Lacking,
-    given: Given,
+    given: Given<'static>,
     finder: Finder<'static>,
     /// What it found.
     pub(crate) found: Tally,
@@ -54,7 +54,7 @@ fn finder(alloc: Global, source: Source<'static>) -> Result<Finder<'static>, All
 }
 
 // What is given to dates that lack it.
-fn given_for(lacks: Lacking) -> Given
+fn given_for(lacks: Lacking) -> Given<'static>
     ensures { result ≡ given_for lacks }
 {
     let (offset, years, time) = match lacks {
@@ -65,6 +65,7 @@ fn given_for(lacks: Lacking) -> Given
     };
     Given {
         offset,
+        zone: None,
         years,
         time,
     }

@@ -30,6 +30,8 @@ fn reason(doubt: Doubt) -> &'static str {
     match doubt {
         Doubt::After => "a word or a clock goes on after the date",
         Doubt::ClockBefore => "a clock stands before the date",
+        Doubt::Skipped => "the clock was put forward over the date",
+        Doubt::Repeated => "the clock was put back over the date",
         Doubt::AnotherOffset => "the line says another offset after the date",
         Doubt::AnotherTime => "the line says another time beside the date",
         Doubt::AnotherYear => "the line says another year beside the date",

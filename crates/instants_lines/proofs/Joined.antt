@@ -9,7 +9,7 @@ use Rattle.instants_found.specs.declared.found.Finding.TheVariants.{Doubtful, Th
 use Rattle.instants_stream.specs.Lines.{whole_lines, last_part}
 use Rattle.instants_stream.specs.Steps.{after, output}
 use Rattle.instants_stream.proofs.Written.{output-append}
-use Rattle.instants_lines.specs.Going.{Going, below, finding_in, given_below, is_carry, is_explain, years_below, next_in, lines_steps}
+use Rattle.instants_lines.specs.Going.{Going, below, finding_in, given_below, is_carry, is_explain, on_clock, years_below, next_in, lines_steps}
 use Rattle.instants_lines.specs.Joining.{AreJoined}
 use Rattle.instants_lines_words.specs.declared.mode.Mode.{Mode}
 use Rattle.instants_lines_words.specs.declared.mode.Mode.TheVariants.{Carry, Explain}
@@ -25,7 +25,7 @@ pub given_stays : (given : Given) (o : Option Finding) → given.years ≡ Unkno
 given_stays given None e = refl
 given_stays given (Some (Doubtful place)) e = refl
 given_stays given (Some (There date)) e =
-    let same : years_below given.years date.moment ≡ given.years = rw e refl in
+    let same : years_below given.years (on_clock given.zone date.moment) ≡ given.years = rw e refl in
     ap (λ (years : Years). record given { years = years }) same
 
 -- no line changes what is kept

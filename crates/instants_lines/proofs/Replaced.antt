@@ -1,5 +1,5 @@
 -- Where dates are replaced lines stay lines.
-use Rattle.std.proofs.Common.{◌≡◌, ◌<◌, ◌+◌, ◌==◌, ℕ, suc, true, false, List, [], ◌∷◌, ◌++◌, length, take, drop, Option, None, Some, Result, Ok, Err, refl, sym, ap, ◌∙◌, inl, inr, arith, append-nil, length-append}
+use Rattle.std.proofs.Common.{◌≡◌, ◌<◌, ◌+◌, ◌==◌, ℕ, suc, true, false, List, [], ◌∷◌, ◌++◌, length, take, drop, Option, None, Some, Result, Ok, Err, refl, ap, ◌∙◌, inl, inr, arith, append-nil, length-append}
 use Rattle.std.specs.Prelude.{◌↔◌, if◌then◌else◌}
 use Rattle.std.proofs.lemmas.Bool.{cases_lt}
 use Rattle.std.proofs.lemmas.List.Elements.{All-append, All-take, All-drop}
@@ -16,7 +16,7 @@ use Rattle.instants_stream.proofs.Lines.{whole_lines-line, last_part-line, last_
 use Rattle.instants_stream.proofs.Written.{is_longer, is_no_longer}
 use Rattle.instants_timeline.specs.Place.{Setting}
 use Rattle.instants_lines.specs.Dates.{Search, date_in, place_of_date, with_date_time, with_date, replaced}
-use Rattle.instants_lines.specs.Going.{Going, below, is_explain, near, next_in, text_in, lines_steps}
+use Rattle.instants_lines.specs.Going.{Going, below, is_explain, near, text_in, lines_steps}
 use Rattle.instants_lines_words.specs.declared.mode.Mode.{Mode}
 use Rattle.instants_lines_words.specs.declared.mode.Mode.TheVariants.{Replace}
 use Rattle.instants_lines.proofs.Fields.{field_free, moment_field}

@@ -1,6 +1,8 @@
 -- What words ask for that are accepted, by those of `instants` that stand for them.
 use Rattle.std.proofs.Common.{◌≡◌, ℕ, List, Result, Ok, Err, sym, subst, ap, ◌∙◌}
-use Rattle.std.specs.Prelude.{IfSome}
+use Rattle.std.specs.Prelude.{IfSome, None, Option}
+use Rattle.std.specs.Borrow.{Bor}
+use Rattle.zones_clock.specs.declared.zone.Zone.{Zone}
 use Rattle.instants_prefixes.specs.declared.given.Given.{Given}
 use Rattle.instants_stream.specs.Steps.{by_steps}
 use Rattle.instants_stream.specs.Writing.{Writing}
@@ -15,7 +17,7 @@ use Rattle.instants_faults.specs.declared.runs_fault.RunsFault.{RunsFault}
 use Rattle.instants_faults.specs.declared.runs_fault.RunsFault.TheVariants.{Memory, Run}
 use Rattle.instants_lines_words.specs.Asked.{Asking}
 use Rattle.instants_lines_words.specs.Words.{mode_words_said}
-use Rattle.instants_lines.specs.Asked.{begins_by, given_by}
+use Rattle.instants_lines.specs.Asked.{begins_by, given_by, zone_lacking}
 use Rattle.instants_lines.specs.Dates.{Search}
 use Rattle.instants_lines.specs.Going.{beginning, lines_steps, near}
 use Rattle.instants_lines.specs.Program.{AsksFor, run_of, writing}
@@ -25,8 +27,8 @@ use Rattle.instants_lines.specs.declared.lines_fault.LinesFault.TheVariants as l
 
 -- what they ask for
 pub asks_so : (said others : List (List ℕ)) (asked : Asking) (right : Words) → words_said others ≡ Ok right → mode_words_said said ≡ Ok (asked, right)
-    → (setting : Setting) (limit : ℕ) → instants.AsksFor others setting limit → AsksFor said (begins_by asked setting limit)
-asks_so said others asked right theirs own setting limit a =
+    → (zone : Option (Bor Zone)) → zone_lacking asked.zone zone ≡ None → (setting : Setting) (limit : ℕ) → instants.AsksFor others setting limit → AsksFor said zone (begins_by asked zone setting limit)
+asks_so said others asked right theirs own zone has setting limit a =
     let same : Ok right ≡ Ok a.said = sym theirs ∙ a.is_said in
     let words : right ≡ a.said = cc in
     record {
@@ -35,19 +37,20 @@ asks_so said others asked right theirs own setting limit a =
       is_said = own ∙ ap (λ words. Ok (asked, words)) words;
       setting = setting;
       asks = a.asks;
-      begins = ap (begins_by asked setting) a.limit_is;
+      has_zone = has;
+      begins = ap (begins_by asked zone setting) a.limit_is;
     }
 
-module _ (asked : Asking) (setting : Setting) (limit : ℕ) where
+module _ (asked : Asking) (zone : Option (Bor Zone)) (setting : Setting) (limit : ℕ) where
   -- what dates are looked for by
-  pub same_search : (dates : DateSources) (given : Given) → setting_in dates ≡ setting → limit_in dates ≡ limit → given ≡ given_by asked setting → search_in dates given ≡ (begins_by asked setting limit).search
+  pub same_search : (dates : DateSources) (given : Given) → setting_in dates ≡ setting → limit_in dates ≡ limit → given ≡ given_by asked zone setting → search_in dates given ≡ (begins_by asked zone setting limit).search
   same_search dates given s l g =
       ap (λ (one : Setting). record { setting = one; limit = limit_in dates; given = given }) s
       ∙ ap (λ (one : ℕ). record { setting = setting; limit = one; given = given }) l
       ∙ ap (λ (one : Given). record { setting = setting; limit = limit; given = one }) g
 
   -- what holds of what is written by that holds of what they ask for
-  pub written_so : (P : Writing → Type 0) (search : Search) → search ≡ (begins_by asked setting limit).search → P (by_steps lines_steps (beginning asked.mode asked.label search) (near asked.mode limit)) → P (writing (begins_by asked setting limit))
+  pub written_so : (P : Writing → Type 0) (search : Search) → search ≡ (begins_by asked zone setting limit).search → P (by_steps lines_steps (beginning asked.mode asked.label search) (near asked.mode limit)) → P (writing (begins_by asked zone setting limit))
   written_so P search e h =
       let F : Search → Type 0 = λ one. P (by_steps lines_steps (beginning asked.mode asked.label one) (near asked.mode limit)) in
       subst F e h

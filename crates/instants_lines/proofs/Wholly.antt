@@ -1,5 +1,5 @@
 -- A line for which its one source names a moment is found as a date.
-use Rattle.std.proofs.Common.{◌≡◌, ◌<◌, ◌≤◌, ◌-◌, ◌+◌, ◌==◌, ℕ, zero, suc, Bool, true, false, List, [], ◌∷◌, length, get_or, take, drop, Option, Some, None, Result, Ok, Err, refl, sym, ◌∙◌, ap, subst, inl, inr, arith}
+use Rattle.std.proofs.Common.{◌≡◌, ◌<◌, ◌≤◌, ◌-◌, ◌+◌, ◌==◌, ℕ, Bool, true, false, List, [], ◌∷◌, length, get_or, take, drop, Some, None, Result, Ok, Err, refl, sym, ◌∙◌, ap, subst, inl, inr, arith}
 use Rattle.std.specs.Prelude.{min, reverse, not, if◌then◌else◌}
 use Rattle.std.specs.Char.{is_ascii_alphanumeric, is_ascii_whitespace}
 use Rattle.std.specs.List.{suffix_len}
@@ -34,7 +34,9 @@ use Rattle.instants_prefixes.specs.declared.prefix.Prefix.{Prefix}
 use Rattle.instants_prefixes.specs.declared.given.Given.{Given}
 use Rattle.instants_prefixes.proofs.NamedAlone.{named_given, has_parts}
 use Rattle.instants_prefixes.proofs.Windows.{text_within}
-use Rattle.instants_found.specs.Beside.{is_read, otherwise, why}
+use Rattle.instants_found.specs.Beside.{is_read, otherwise, settled_at, why}
+use Rattle.instants_found.specs.Zoned.{takes_offset, unmoved}
+use Rattle.instants_found.proofs.ReadAt.{unmoved_candidate}
 use Rattle.instants_found.specs.Candidate.{as_candidate, of_prefix, candidate, longest}
 use Rattle.instants_found.specs.Found.{at_place, first_found, found_in, looked_at, found}
 use Rattle.instants_found.specs.declared.found.Found.{Found}
@@ -166,28 +168,39 @@ module _ (given : Given) (grammar : Grammar) (line : List ℕ) (moment : Shown) 
   unfolding record_at
   record_is = ap (λ (bytes : List ℕ). record_of (reading_of grammar empty bytes)) text
 
-  unsaid : None ≡ otherwise given its_record line 0 prefix
+  -- so no zone moves it
+  takes : takes_offset its_record ≡ false
+  takes =
+      elim its_record.unix_timestamp_nanos as (λ o. its_record.unix_timestamp_nanos ≡ o → takes_offset its_record ≡ false) [
+        | Some n ↦ λ e. rw e (simp and-false refl)
+        | None ↦ λ e. rw (has_parts its_record moment e (ap moment_named record_is ∙ whole_is.names_it)).offset refl
+      ] refl
+
+  unsaid : None ≡ otherwise given given.offset its_record line 0 prefix
   unfolding otherwise
   unsaid =
-      elim its_record.unix_timestamp_nanos as (λ o. its_record.unix_timestamp_nanos ≡ o → None ≡ otherwise given its_record line 0 prefix) [
+      elim its_record.unix_timestamp_nanos as (λ o. its_record.unix_timestamp_nanos ≡ o → None ≡ otherwise given given.offset its_record line 0 prefix) [
         | Some n ↦ λ e. rw e refl
         | None ↦ λ e.
             let has = has_parts its_record moment e (ap moment_named record_is ∙ whole_is.names_it) in
             rw (e, has.offset, has.time, has.date) refl
       ] refl
 
-  stands : why given grammar line 0 prefix ≡ None
+  stands : why given grammar line 0 (unmoved given.offset prefix) ≡ None
   unfolding why
   stands = rw (edge, no_clock, sym unsaid) (simp and-false)
 
   read : is_read grammar line 0 prefix ≡ true
   read = rw (says, edge) refl
 
-  candidate_is : candidate given line 0 0 grammar ≡ Some (as_candidate given line 0 0 grammar prefix)
+  candidate_is : candidate given line 0 0 grammar ≡ Some (as_candidate given line 0 0 grammar (unmoved given.offset prefix))
   unfolding candidate
-  candidate_is = ap (of_prefix given line 0 0 grammar) prefix_is ∙ chosen (is_read grammar line 0 prefix) (as_candidate given line 0 0 grammar prefix) read
+  candidate_is =
+      ap (of_prefix given line 0 0 grammar) prefix_is
+      ∙ chosen (is_read grammar line 0 prefix) (as_candidate given line 0 0 grammar (settled_at given grammar line 0 prefix)) read
+      ∙ ap Some (unmoved_candidate given line 0 0 grammar prefix takes)
 
-  at_first : at_place given (grammar ∷ []) line 0 ≡ Some (There (as_candidate given line 0 0 grammar prefix).date)
+  at_first : at_place given (grammar ∷ []) line 0 ≡ Some (There (as_candidate given line 0 0 grammar (unmoved given.offset prefix)).date)
   unfolding at_place longest
   at_first = rw (candidate_is, stands) refl
 

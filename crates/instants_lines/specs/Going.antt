@@ -1,5 +1,7 @@
 -- What is written for lines one after another.
-use Rattle.std.specs.Prelude.{◌≡◌, ◌⊎◌, ℕ, ◌+◌, ◌*◌, ◌/◌, ◌==◌, ◌&&◌, ◌||◌, not, nat_lt, Bool, true, false, List, [], ◌∷◌, ◌++◌, length, take, position, count_by, Option, None, Some, option_map, codes, if◌then◌else◌}
+use Rattle.std.specs.Prelude.{◌≡◌, ◌⊎◌, ℕ, ◌+◌, ◌*◌, ◌/◌, ◌==◌, ◌&&◌, ◌||◌, not, nat_lt, Bool, true, false, List, [], ◌∷◌, ◌++◌, length, take, position, count_by, Option, None, Some, option_map, codes, if◌then◌else◌, pos}
+use Rattle.std.specs.Borrow.{Bor}
+use Rattle.zones_clock.specs.declared.zone.Zone.{Zone}
 use Rattle.std.specs.Option.{option_map_or, option_or}
 use Rattle.base.specs.Bytes.{space, tab, line_feed}
 use Rattle.datetime_wall.specs.Wall.{Shown}
@@ -87,10 +89,15 @@ years_below Unknown above = Unknown
 years_below (In year) above = Near above
 years_below (Near other) above = Near above
 
+-- a date's own clock, where dates are on that of a zone
+abbrev pub on_clock : Option (Bor Zone) → Shown → Shown
+on_clock None date = date
+on_clock (Some zone) date = record date { offset = pos 0 }
+
 abbrev pub given_below : Given → Option Finding → Given
 given_below given None = given
 given_below given (Some (Doubtful place)) = given
-given_below given (Some (There date)) = record given { years = years_below given.years date.moment }
+given_below given (Some (There date)) = record given { years = years_below given.years (on_clock given.zone date.moment) }
 
 -- below a line that begins so deep, by its date: in mode `carry` its key is taken, and how deep the last line with a date begins
 abbrev pub below_by : Going → ℕ → Option Finding → Going

@@ -5,7 +5,7 @@ use Rattle.base.specs.Bytes.{tab, hyphen}
 use Rattle.instants_sources.specs.Grammar.{Grammar}
 use Rattle.instants_found.specs.Doubts.{doubt_of}
 use Rattle.instants_found.specs.declared.doubt.Doubt.{Doubt}
-use Rattle.instants_found.specs.declared.doubt.Doubt.TheVariants.{After, ClockBefore, AnotherOffset, AnotherTime, AnotherYear}
+use Rattle.instants_found.specs.declared.doubt.Doubt.TheVariants.{After, ClockBefore, Skipped, Repeated, AnotherOffset, AnotherTime, AnotherYear}
 use Rattle.instants_found.specs.declared.doubt.Doubted.{Doubted}
 use Rattle.instants_found.specs.declared.found.Finding.{Finding}
 use Rattle.instants_found.specs.declared.found.Finding.TheVariants.{Doubtful, There}
@@ -23,6 +23,8 @@ read_text number start end = tab ∷ ((decimal (number + 1) ++ tab ∷ []) ++ ra
 abbrev pub reason : Doubt → List ℕ
 reason After = codes "goes on"
 reason ClockBefore = codes "clock in front"
+reason Skipped = codes "skipped by the clock"
+reason Repeated = codes "twice by the clock"
 reason AnotherOffset = codes "another offset"
 reason AnotherTime = codes "another time"
 reason AnotherYear = codes "another year"

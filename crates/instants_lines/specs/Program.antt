@@ -1,5 +1,7 @@
 -- What the program does between its words and its end.
 use Rattle.std.specs.Prelude.{◌≡◌, ℕ, List, Option, None, Some, Result, Ok, Err, IsOk, ⊤}
+use Rattle.std.specs.Borrow.{Bor}
+use Rattle.zones_clock.specs.declared.zone.Zone.{Zone}
 use Rattle.instants_stream.specs.Steps.{by_steps}
 use Rattle.instants_stream.specs.Writing.{Writing}
 use Rattle.instants_stream.specs.declared.run.RunFault.{RunFault}
@@ -10,7 +12,7 @@ use Rattle.instants_timeline.specs.Program.{Asks}
 use Rattle.instants_timeline.specs.Program as instants
 use Rattle.instants_faults.specs.declared.program_fault.ProgramFault.TheVariants as program
 use Rattle.instants_lines.specs.Going.{Going, lines_steps, near}
-use Rattle.instants_lines.specs.Asked.{begins_by}
+use Rattle.instants_lines.specs.Asked.{begins_by, zone_lacking}
 use Rattle.instants_lines_words.specs.Words.{mode_words_said}
 use Rattle.instants_lines_words.specs.Wrong.{Wrong, wrong_of}
 use Rattle.instants_lines_words.specs.Asked.{Asking}
@@ -19,14 +21,15 @@ use Rattle.instants_lines_words.specs.declared.words_fault.ModeWordsFault.TheVar
 use Rattle.instants_lines.specs.declared.lines_fault.LinesFault.{LinesFault}
 use Rattle.instants_lines.specs.declared.lines_fault.LinesFault.TheVariants as lines
 
--- the words ask for this beginning
-pub record AsksFor (words : List (List ℕ)) (going : Going) : Type 0 where
+-- the words ask for this beginning, with the zone that they name, if they name one
+pub record AsksFor (words : List (List ℕ)) (zone : Option (Bor Zone)) (going : Going) : Type 0 where
   pub asked : Asking
   pub said : Words
   pub is_said : mode_words_said words ≡ Ok (asked, said)
   pub setting : Setting
   pub asks : Asks said setting
-  pub begins : going ≡ begins_by asked setting said.limit
+  pub has_zone : zone_lacking asked.zone zone ≡ None
+  pub begins : going ≡ begins_by asked zone setting said.limit
 
 -- the same fault of the words as one of the program
 abbrev pub of_words : ModeWordsFault → LinesFault
@@ -37,12 +40,14 @@ of_words fault.Memory = lines.Program program.Memory
 abbrev pub run_of : Result (Unit {0}) LinesFault → Option (Result (Unit {0}) RunFault)
 run_of (Ok done) = Some (Ok done)
 run_of (Err (lines.Words wrong)) = None
+run_of (Err (lines.Zone name)) = None
 run_of (Err (lines.Lacks lacking)) = None
 run_of (Err (lines.Program fault)) = instants.run_of (Err fault)
 
 -- a fault that comes before anything is read or written
 abbrev pub IsBeforeRun : LinesFault → Type 0
 IsBeforeRun (lines.Words wrong) = ⊤
+IsBeforeRun (lines.Zone name) = ⊤
 IsBeforeRun (lines.Lacks lacking) = ⊤
 IsBeforeRun (lines.Program fault) = instants.IsBeforeRun fault
 
@@ -50,12 +55,14 @@ IsBeforeRun (lines.Program fault) = instants.IsBeforeRun fault
 abbrev pub wrong_in : Result (Unit {0}) LinesFault → Option Wrong
 wrong_in (Ok done) = None
 wrong_in (Err (lines.Words wrong)) = Some (wrong_of wrong)
+wrong_in (Err (lines.Zone name)) = None
 wrong_in (Err (lines.Lacks lacking)) = None
 wrong_in (Err (lines.Program fault)) = None
 
 -- the words are wrong
 abbrev pub IsOfWords : LinesFault → Type 0
 IsOfWords (lines.Words wrong) = ⊤
+IsOfWords (lines.Zone name) = ⊥
 IsOfWords (lines.Lacks lacking) = ⊥
 IsOfWords (lines.Program (program.Words words.Memory)) = ⊥
 IsOfWords (lines.Program (program.Words _)) = ⊤
@@ -64,12 +71,14 @@ IsOfWords (lines.Program _) = ⊥
 -- memory ran out
 abbrev pub IsMemory : LinesFault → Type 0
 IsMemory (lines.Words wrong) = ⊥
+IsMemory (lines.Zone name) = ⊥
 IsMemory (lines.Lacks lacking) = ⊥
 IsMemory (lines.Program fault) = instants.IsMemory fault
 
 -- the words are refused so: they are wrong, or there is no memory for a list of words that are accepted
 abbrev pub IsReportedAs : List (List ℕ) → LinesFault → Type 0
 IsReportedAs words (lines.Words wrong) = mode_words_said words ≡ Err (wrong_of wrong)
+IsReportedAs words (lines.Zone name) = ⊥
 IsReportedAs words (lines.Lacks lacking) = ⊥
 IsReportedAs words (lines.Program program.Memory) = IsOk (mode_words_said words)
 IsReportedAs words (lines.Program _) = ⊥

@@ -25,11 +25,13 @@ lacking_text lacking = codes "source " ++ (decimal lacking.place ++ (codes " nam
 -- the sentence for a fault, without a line feed
 abbrev pub sentence : LinesFault → List ℕ
 sentence (lines.Words wrong) = codes "instants-lines: " ++ wrong_text (wrong_of wrong)
+sentence (lines.Zone name) = codes "instants-lines: \"" ++ (name.now ++ codes "\": there is no such zone")
 sentence (lines.Lacks lacking) = codes "instants-lines: " ++ lacking_text lacking
 sentence (lines.Program fault) = codes "instants-lines" ++ text_of (codes "instants-lines MODE [TARGET [ASSUMED [LIMIT]]] [year N] [time HH:MM] [label TEXT] SOURCE...") fault
 
--- 2 where the words or a description among them are wrong or a source names no moment, 1 where memory, reading or writing failed
+-- 2 where the words or a description among them are wrong, the zone is not there or a source names no moment, 1 where memory, reading or writing failed
 abbrev pub status_of : LinesFault → ℕ
 status_of (lines.Words wrong) = 2
+status_of (lines.Zone name) = 2
 status_of (lines.Lacks lacking) = 2
 status_of (lines.Program fault) = instants.status_of fault

@@ -1,10 +1,13 @@
 -- What dates are found by, and where they are shown.
-use Rattle.std.specs.Prelude.{ℕ}
+use Rattle.std.specs.Prelude.{ℕ, Option}
+use Rattle.std.specs.Borrow.{Bor}
+use Rattle.zones_clock.specs.declared.zone.Zone.{Zone}
 use Rattle.instants_prefixes.specs.declared.given.Given.{Given}
 use Rattle.instants_found.specs.Finder.{sources_of, limit_of}
 use Rattle.instants_timeline.specs.Place.{Setting}
 use Rattle.instants_lines.specs.Dates.{Search}
 use Rattle.instants_lines.specs.declared.date_sources.DateSources.{DateSources}
+use Rattle.instants_lines.specs.declared.known.Known.{Known}
 
 abbrev pub setting_in : DateSources → Setting
 setting_in dates = record { sources = sources_of dates.finder; target = dates.target; assumed = dates.assumed }
@@ -12,6 +15,10 @@ setting_in dates = record { sources = sources_of dates.finder; target = dates.ta
 -- the number of places of a line at which a date may begin
 abbrev pub limit_in : DateSources → ℕ
 limit_in dates = limit_of dates.finder
+
+-- what is given, with a zone
+abbrev pub given_of : Known → Option (Bor Zone) → Given
+given_of known zone = record { offset = known.offset; zone = zone; years = known.years; time = known.time }
 
 -- what dates are looked for by, with what is given
 abbrev pub search_in : DateSources → Given → Search

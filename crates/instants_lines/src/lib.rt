@@ -16,6 +16,7 @@ mod date_sources;
 mod decimals;
 mod depth;
 mod explained;
+mod known;
 mod lacking;
 pub mod laws;
 mod line_writer;
@@ -24,7 +25,7 @@ mod located;
 mod parts;
 mod program;
 
-pub use instants_lines_words::{Mode, WrongWords};
+pub use instants_lines_words::{Mode, WrongWords, zone_named};
 pub use instants_timeline::{
     BlockWriter, ByteReader, ByteWriter, NewFault, ProgramFault, RunFault, StdReader, StdWriter,
     WordsFault,

@@ -6,9 +6,10 @@ mod calls;
 mod writes;
 
 use crate::date_sources::DateSources;
+use crate::known::Known;
 use instants_answers::Answer;
 use instants_lines_words::Mode;
-use instants_prefixes::Given;
+use zones_clock::Zone;
 
 /// Writes lines in a mode, by their dates. It keeps the key that a line without a date takes,
 /// the year of the last date where one is given, and how deep the last line with a date begins.
@@ -16,7 +17,8 @@ use instants_prefixes::Given;
 pub(crate) struct LineWriter<'a, 'b> {
     mode: Mode,
     dates: &'a DateSources<'b>,
-    given: Given,
+    known: Known,
+    zone: Option<&'a Zone>,
     label: Option<&'a str>,
     key: Answer,
     // The same and a tab, which are written at once.

@@ -16,6 +16,8 @@ const USAGE: &str =
 pub enum LinesFault<'a> {
     /// The words are wrong.
     Words(WrongWords<'a>),
+    /// The zone that the words name is not there.
+    Zone(&'a str),
     /// A source can name no moment.
     Lacks(Lacking),
     /// What can end `instants` too: a description that is none, a device, or memory.
@@ -25,12 +27,13 @@ pub enum LinesFault<'a> {
 impl LinesFault<'_> {
     ghost use Rattle.instants_lines.specs.ProgramText.{status_of};
 
-    /// The status to end with: 2 where the words or a description among them are wrong or a source names no moment, else 1.
+    /// The status to end with: 2 where the words or a description among them are wrong, the zone is not there or a source names
+    /// no moment, else 1.
     pub fn status(&self) -> u8
         ensures { result ≡ status_of self.now }
     {
         match self {
-            LinesFault::Words(_) | LinesFault::Lacks(_) => 2,
+            LinesFault::Words(_) | LinesFault::Zone(_) | LinesFault::Lacks(_) => 2,
             LinesFault::Program(fault) => fault.status(),
         }
     }
@@ -45,6 +48,9 @@ impl fmt::Display for LinesFault<'_> {
     fn fmt<W: fmt::Write>(&self, f: &mut fmt::Formatter<W>) -> fmt::Result {
         match self {
             LinesFault::Words(wrong) => write!(f, "instants-lines: {wrong}"),
+            LinesFault::Zone(name) => {
+                write!(f, "instants-lines: \"{name}\": there is no such zone")
+            }
             LinesFault::Lacks(lacking) => write!(f, "instants-lines: {lacking}"),
             LinesFault::Program(fault) => {
                 let text = FaultText {

@@ -41,6 +41,8 @@ fn reason(doubt: Doubt) -> &'static [u8]
     match doubt {
         Doubt::After => b"goes on",
         Doubt::ClockBefore => b"clock in front",
+        Doubt::Skipped => b"skipped by the clock",
+        Doubt::Repeated => b"twice by the clock",
         Doubt::AnotherOffset => b"another offset",
         Doubt::AnotherTime => b"another time",
         Doubt::AnotherYear => b"another year",

@@ -1,6 +1,8 @@
 //! The program between its words and its end.
-ghost use Rattle.std.specs.Prelude.{◌≡◌, ◌<◌, ◌≤◌, ◌+◌, ◌^◌, ℕ, false, length, map, option_map, None, Some, Ok, Err, IsOk, IfSome, IfErr};
+ghost use Rattle.std.specs.Prelude.{◌≡◌, ◌<◌, ◌≤◌, ◌+◌, ◌^◌, ℕ, false, length, map, option_map, None, Some, Ok, Err, Option, IsOk, IfOk, IfSome, IfErr};
+ghost use Rattle.std.specs.Borrow.{Bor};
 ghost use Rattle.std.specs.Io.KnownBytes.{Keeps};
+ghost use Rattle.zones_clock.specs.declared.zone.Zone.{Zone};
 ghost use Rattle.instants_stream.specs.Ran.{RanAndFlushed};
 ghost use Rattle.instants_words.specs.declared.words.Words.{Words};
 ghost use Rattle.instants_timeline.specs.Place.{Setting};
@@ -10,31 +12,53 @@ ghost use Rattle.instants_faults.specs.declared.program_fault.ProgramFault.{Prog
 ghost use Rattle.instants_lines_words.specs.Asked.{Asking, asking_of};
 ghost use Rattle.instants_lines_words.specs.Words.{mode_words_said};
 ghost use Rattle.instants_lines_words.specs.Wrong.{Wrong};
-ghost use Rattle.instants_lines.specs.Asked.{given_by};
+ghost use Rattle.instants_lines.specs.Asked.{given_by, zone_asked, zone_lacking};
 ghost use Rattle.instants_lines.specs.Going.{Going, near};
 ghost use Rattle.instants_lines.specs.Lacking.{lacking_in};
+ghost use Rattle.instants_lines.specs.Showing.{given_of, search_in};
 ghost use Rattle.instants_lines.specs.Program.{AsksFor, IsBeforeRun, IsMemory, IsOfWords, IsReportedAs, run_of, writing, wrong_in};
 ghost use Rattle.instants_lines.specs.declared.lacking.Lacking.{Lacking};
 
 use crate::date_sources::{DateSources, first_lacking};
+use crate::known::Known;
+use crate::lacking::Lacking;
 use crate::line_writer::LineWriter;
 use crate::lines_fault::LinesFault;
 use calendar::UtcOffset;
 use instants_lines_words::{Asked, Mode, read_mode_words};
-use instants_prefixes::{Given, Years};
+use instants_prefixes::Years;
 use instants_stream::write_lines;
 use instants_timeline::{ByteReader, ByteWriter, RunFault, RunsLines, asked_timeline, run_program};
 use std::alloc::Global;
+use zones_clock::Zone;
 
 // What writes for the lines of a stream as words ask.
 #[derive(Drop)]
-struct LinesAsked<'a, 'b> {
+struct LinesAsked<'a, 'b, 'z> {
     asked: Asked<'a>,
-    given: Given,
+    known: Known,
+    zone: Option<&'z Zone>,
     dates: DateSources<'b>,
 }
 
-impl RunsLines for LinesAsked<'_, '_> {
+impl LinesAsked<'_, '_, '_> {
+    // The first source that can name no moment.
+    fn lacking(&self) -> Option<Lacking>
+        ensures { result ≡ lacking_in (search_in self.now.dates (given_of self.now.known self.now.zone)) }
+    {
+        lacking_by(&self.dates, self.known, self.zone)
+    }
+}
+
+// The first source that can name no moment.
+fn lacking_by(dates: &DateSources<'_>, known: Known, zone: Option<&Zone>) -> Option<Lacking>
+    ensures { result ≡ lacking_in (search_in dates.now (given_of known zone.entry)) }
+{
+    let given = known.on(zone);
+    first_lacking(dates.finder.sources(), 1, &given)
+}
+
+impl RunsLines for LinesAsked<'_, '_, '_> {
     ghost use Rattle.instants_lines.specs.Writing.{writing_for};
 
     ghost writing = { λ lines limit. writing_for lines limit };
@@ -49,21 +73,40 @@ impl RunsLines for LinesAsked<'_, '_> {
         writer: &mut W,
     ) -> Result<(), RunFault> {
         let mode = self.asked.mode;
-        let mut lines = LineWriter::new(mode, self.asked.label, &self.dates, self.given);
+        let mut lines = LineWriter::new(mode, self.asked.label, &self.dates, self.known, self.zone);
         write_lines(&mut lines, near(mode, limit), buffer, reader, writer)
     }
 }
 
-// What is given for dates that lack it.
-fn given_by(asked: &Asked<'_>, assumed: Option<UtcOffset>) -> Given
-    ensures { (setting : Setting) → setting.assumed ≡ assumed
-        → result ≡ given_by (asking_of asked.now) setting }
+// The zone on whose clock dates are, where one is asked for, or the name of it where it is not there.
+fn zone_asked<'z, 'a>(
+    name: Option<&'a str>,
+    zone: Option<&'z Zone>,
+) -> Result<Option<&'z Zone>, &'a str>
+    ensures there { IfOk result (λ there.
+        (there ≡ zone_asked (option_map (λ text. text.now) name.entry) zone.entry)
+        × (zone_lacking (option_map (λ text. text.now) name.entry) zone.entry ≡ None)) }
+    ensures lacking { IfErr result (λ lacking.
+        zone_lacking (option_map (λ text. text.now) name.entry) zone.entry ≡ Some lacking.now) }
+{
+    match (name, zone) {
+        (None, _) => Ok(None),
+        (Some(_), Some(zone)) => Ok(Some(zone)),
+        (Some(name), None) => Err(name),
+    }
+}
+
+// What is given for dates that lack it, beside a zone.
+fn known_by(asked: &Asked<'_>, assumed: Option<UtcOffset>) -> Known
+    ensures { (setting : Setting) (there : Option (Bor Zone)) → setting.assumed ≡ assumed
+        → given_of result (zone_asked (asking_of asked.now).zone there)
+        ≡ given_by (asking_of asked.now) there setting }
 {
     let years = match asked.year {
         Some(year) => Years::In(year),
         None => Years::Unknown,
     };
-    Given {
+    Known {
         offset: assumed,
         years,
         time: asked.time,
@@ -89,11 +132,13 @@ fn near(mode: Mode, limit: usize) -> usize
 /// digit, or are `Z` or `UTC`, which say `+00:00`; those that are left out are `+00:00`, `-` and `1048576`. `year` gives the year, 0
 /// to 9999, of the first date of lines that say none, and `time` the time of day, 00:00 to 23:59, of dates without one. `label`
 /// gives a text that stands between the key of a line and the line, in modes `key` and `carry`. The name of a format is a source
-/// too, and says its language and its description. All words are looked at, and all memory is taken, before anything is read.
+/// too, and says its language and its description. `ASSUMED` may also name a zone, as `Europe/Berlin` or `:CET`: then `zone` is its
+/// clock, on which each date is that says no offset. All words are looked at, and all memory is taken, before anything is read.
 /// The first device that fails ends the run; after a failed read what was written is flushed.
 pub fn run_words<'a, R: ByteReader, W: ByteWriter>(
     alloc: Global,
     words: &[&'a str],
+    zone: Option<&Zone>,
     reader: &mut R,
     writer: &mut W,
 ) -> Result<(), LinesFault<'a>>
@@ -101,16 +146,21 @@ pub fn run_words<'a, R: ByteReader, W: ByteWriter>(
     requires writer { W.failed writer.old ≡ false }
     // What the words ask for was written, as far as the run came.
     ensures ran { IfSome (run_of result) (λ ended. (going : Going)
-        × AsksFor (map (λ word. word.now) words.now) going
+        × AsksFor (map (λ word. word.now) words.now) zone.entry going
         × RanAndFlushed (writing going)
         R.ByteReader reader.old reader.new W.ByteWriter writer.old writer.new ended) }
     // Where a run is begun each source can name a moment.
     ensures names { IfSome (run_of result) (λ ended. (going : Going)
-        × AsksFor (map (λ word. word.now) words.now) going × (lacking_in going.search ≡ None)) }
+        × AsksFor (map (λ word. word.now) words.now) zone.entry going × (lacking_in going.search ≡ None)) }
     // The first source that can name none is refused with what it lacks.
     ensures lacks { (lacking : Lacking) → result ≡ Err (LinesFault.Lacks lacking)
-        → (going : Going) × AsksFor (map (λ word. word.now) words.now) going
+        → (going : Going) × AsksFor (map (λ word. word.now) words.now) zone.entry going
         × (lacking_in going.search ≡ Some lacking) }
+    // A zone that the words name is wanted.
+    ensures zone { (name : _) → result ≡ Err (LinesFault.Zone name)
+        → (asked : Asking) × (said : Words)
+        × (mode_words_said (map (λ word. word.now) words.now) ≡ Ok (asked, said))
+        × (zone_lacking asked.zone zone.entry ≡ Some name.now) }
     // Words that are wrong are refused, whatever the devices have.
     ensures refused { (wrong : Wrong)
         → mode_words_said (map (λ word. word.now) words.now) ≡ Err wrong
@@ -132,17 +182,22 @@ pub fn run_words<'a, R: ByteReader, W: ByteWriter>(
         → W.failed writer.new ≡ false → Keeps (W.held writer.new) (W.handed_on writer.new)) }
 {
     let (asked, filled) = read_mode_words(alloc, words)?;
+    let zone = match zone_asked(asked.zone, zone) {
+        Ok(zone) => zone,
+        Err(name) => return Err(LinesFault::Zone(name)),
+    };
     let (timeline, limit) = asked_timeline(alloc, filled.as_slice())?;
-    let given = given_by(&asked, timeline.assumed());
+    let known = known_by(&asked, timeline.assumed());
     let dates = DateSources::of_timeline(alloc, timeline, limit)?;
-    if let Some(lacking) = first_lacking(dates.finder.sources(), 1, &given) {
-        return Err(LinesFault::Lacks(lacking));
-    }
     let lines = LinesAsked {
         asked,
-        given,
+        known,
+        zone,
         dates,
     };
+    if let Some(lacking) = lines.lacking() {
+        return Err(LinesFault::Lacks(lacking));
+    }
     run_program(&lines, alloc, limit, reader, writer)?;
     Ok(())
 }

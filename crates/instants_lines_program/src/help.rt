@@ -19,7 +19,8 @@ instants-lines guess
     -q       no warnings: of a description that names no component, of packed
              input, and of lines none of which has a date
     --count  says on standard error at the end how many lines have which key in
-             the modes key, carry and locate, and the least and the greatest
+             the modes key, carry and locate, the least and the greatest, and
+             which zone was read
     MODE     key      the line after the date-time and a tab; `! none` where it
                       has no date-time, `! doubt` where that is in doubt, `! year`
                       where the year is not written
@@ -32,8 +33,8 @@ instants-lines guess
                       its answer, or each source's number and fault
     TARGET   the offset at which moments are written: +HH:MM, -HH:MM, Z or UTC;
              +00:00 where it is left out
-    ASSUMED  the offset of lines that have none, or - for none; none where it is
-             left out
+    ASSUMED  the offset of lines that have none, or a zone, as Europe/Berlin or
+             :CET, or - for none; none where it is left out
     LIMIT    how many bytes of a line are places at which its date-time may
              begin, 1 to 1048576; the greatest where it is left out
     year N   the year of the first date of lines that say none, in four digits,

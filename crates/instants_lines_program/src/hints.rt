@@ -29,7 +29,7 @@ pub fn hint_on(fault: &LinesFault<'_>) -> Option<Hint> {
     match fault {
         LinesFault::Words(wrong) => hint_on_words(wrong),
         LinesFault::Lacks(lacking) => hint_on_lack(lacking.lack),
-        LinesFault::Program(_) => None,
+        LinesFault::Program(_) | LinesFault::Zone(_) => None,
     }
 }
 
@@ -69,7 +69,18 @@ fn hint_on_source(word: &str) -> Option<Hint> {
             let order = "year N, time HH:MM and label TEXT stand in this order before the sources";
             Some(Hint::Do(order))
         }
+        _ if is_zone(word) => Some(Hint::Do(
+            "a zone stands after the target: +00:00 Europe/Berlin",
+        )),
         _ => Some(Hint::Name(near(word)?)),
+    }
+}
+
+// Whether a word looks like the name of a zone, and not of a file.
+fn is_zone(word: &str) -> bool {
+    match word.as_bytes() {
+        [b'/', ..] => false,
+        bytes => bytes.contains(&b'/') && !bytes.contains(&b'.'),
     }
 }
 

@@ -10,6 +10,8 @@ mod hints;
 mod noting;
 mod options;
 mod packed;
+mod zone_files;
+mod zone_names;
 
 use crate::bare::warn_of_bare;
 use crate::counting::{Counting, Counts};
@@ -18,15 +20,17 @@ use crate::hints::hint_on;
 use crate::noting::Noting;
 use crate::options::Options;
 use crate::packed::Looking;
+use crate::zone_files::{NamedZone, NoZone, read_named};
 use instants_formats::formats;
 use instants_guess::guess;
 use instants_lines::{
-    BlockWriter, LinesFault, ProgramFault, RunFault, StdReader, StdWriter, run_words,
+    BlockWriter, LinesFault, ProgramFault, RunFault, StdReader, StdWriter, run_words, zone_named,
 };
 use std::alloc::Global;
 use std::env;
 use std::io::{self, ErrorKind};
 use std::process::ExitCode;
+use zones::Zone;
 
 // Bytes that are written at once.
 const BLOCK: usize = 65_536;
@@ -111,6 +115,7 @@ fn write_by(rt: &HostRuntime, words: &[&str], options: Options) -> ExitCode {
     let Ok(own_rt) = rt.clone() else {
         return ended(rt, Err(LinesFault::Program(ProgramFault::Memory)), None);
     };
+    let zone = zone_named(words).map(|name| read_named(rt, name));
     let mut input = Noting::new(Looking::new(own_rt, rt.stdin(), options.is_quiet));
     let mut output = Noting::new(Counting::new(rt.stdout(), options.asked(asks_keys(words))));
     let mut reader = StdReader::new(&mut input);
@@ -121,21 +126,44 @@ fn write_by(rt: &HostRuntime, words: &[&str], options: Options) -> ExitCode {
             Err(fault) => Err(LinesFault::Program(ProgramFault::from(fault))),
         }
     } else {
-        run_words(rt.alloc(), words, &mut reader, &mut writer)
+        run_words(rt.alloc(), words, there(&zone), &mut reader, &mut writer)
     };
     drop(writer);
     drop(reader);
     if end.is_ok() {
-        tell(rt, output.inner().counts(), options);
+        tell(rt, output.inner().counts(), &zone, options);
+    }
+    if let (Err(LinesFault::Zone(_)), Some(Err(fault))) = (end, &zone) {
+        return without_zone(rt, fault);
     }
     ended(rt, end, output.failure().or(input.failure()))
 }
 
-// Says how many lines have which key, where that is asked, and that none is dated. Where this can't be printed the run has
-// ended well all the same.
-fn tell(rt: &HostRuntime, counts: &Counts, options: Options) {
+// The zone that the words name, where it was read.
+fn there<'z>(found: &'z FoundZone<'_>) -> Option<&'z Zone> {
+    match found {
+        Some(Ok(found)) => Some(&found.zone),
+        _ => None,
+    }
+}
+
+// Says why a zone is not there, and ends the program.
+fn without_zone(rt: &HostRuntime, fault: &NoZone<'_>) -> ExitCode {
+    let _ = eprintln!(rt; "instants-lines: {fault}");
+    ExitCode::from(fault.status())
+}
+
+// A zone that was looked for.
+type FoundZone<'a> = Option<Result<NamedZone<'a>, NoZone<'a>>>;
+
+// Says how many lines have which key, by which zone, where that is asked, and that none is dated. Where this can't be printed the
+// run has ended well all the same.
+fn tell(rt: &HostRuntime, counts: &Counts, zone: &FoundZone<'_>, options: Options) {
     if options.counts {
         let _ = eprintln!(rt; "instants-lines: {counts}");
+        if let Some(Ok(zone)) = zone {
+            let _ = eprintln!(rt; "instants-lines: {zone}");
+        }
     }
     if !options.is_quiet && counts.is_undated() {
         let _ = eprintln!(rt;

@@ -10,8 +10,9 @@ use std::test::Fail;
 // The place of a date's first byte and that after its last one, and its Unix time.
 type Told = Option<(usize, usize, i64)>;
 
-const NOTHING: Given = Given {
+const NOTHING: Given<'static> = Given {
     offset: None,
+    zone: None,
     years: Years::Unknown,
     time: None,
 };

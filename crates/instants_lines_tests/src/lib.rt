@@ -14,3 +14,5 @@ mod prefixes;
 mod runs;
 #[cfg(test)]
 mod wrong_words;
+#[cfg(test)]
+mod zoned;

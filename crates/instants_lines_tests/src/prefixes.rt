@@ -67,16 +67,22 @@ static LACKS: [(&str, Option<Lack>); 9] = [
     ("%G-W%V-%u %I:%M %p %z", None),
 ];
 
-fn given(offset: Option<UtcOffset>) -> Given {
-    Given {
-        offset,
-        years: Years::Unknown,
-        time: None,
-    }
-}
+const NOTHING: Given<'static> = Given {
+    offset: None,
+    zone: None,
+    years: Years::Unknown,
+    time: None,
+};
+
+const AT_UTC: Given<'static> = Given {
+    offset: Some(UtcOffset::UTC),
+    zone: None,
+    years: Years::Unknown,
+    time: None,
+};
 
 fn told(source: &DateSource, bytes: &[u8]) -> Told {
-    as_told(source.read(bytes, &given(Some(UtcOffset::UTC))))
+    as_told(source.read(bytes, &AT_UTC))
 }
 
 fn as_told(prefix: Option<Prefix>) -> Told {
@@ -89,7 +95,6 @@ fn as_told(prefix: Option<Prefix>) -> Told {
 }
 
 fn known(source: &DateSource, bytes: &[u8]) -> Known {
-    let nothing = given(None);
     let record = source.record(bytes);
     let said = [
         source.may_read_unix_time(),
@@ -99,7 +104,7 @@ fn known(source: &DateSource, bytes: &[u8]) -> Known {
         lacks_byte(source.source(), bytes),
         rules_out(source.source(), bytes),
     ];
-    (source.lack(&nothing), said)
+    (source.lack(&NOTHING), said)
 }
 
 fn tell(alloc: Global, text: SourceText, bytes: &[u8]) -> Option<(Told, Known)> {
@@ -127,7 +132,7 @@ fn lacks(rt: HostRuntime) {
         let source = Source::new(rt.alloc(), SourceText::Strftime(text));
         assert!(rt; source.is_ok());
         if let Ok(source) = source {
-            assert!(rt; DateSource::new(source).lack(&given(None)) == lack);
+            assert!(rt; DateSource::new(source).lack(&NOTHING) == lack);
         }
     }
 }
@@ -142,10 +147,9 @@ fn planned(rt: HostRuntime) {
     if let Ok(source) = source {
         let source = DateSource::new(source);
         assert!(rt;
-            as_told(source.read_planned(bytes, &given(None)))
-                == Some((1_609_556_645, [0, 24, 24, 24]))
+            as_told(source.read_planned(bytes, &NOTHING)) == Some((1_609_556_645, [0, 24, 24, 24]))
         );
-        assert!(rt; as_told(source.read_planned(b"up", &given(None))) == None);
+        assert!(rt; as_told(source.read_planned(b"up", &NOTHING)) == None);
     }
 }
 
@@ -154,6 +158,7 @@ fn planned(rt: HostRuntime) {
 fn near_years(rt: HostRuntime) {
     let given = Given {
         offset: Some(UtcOffset::UTC),
+        zone: None,
         years: Years::In(2024),
         time: None,
     };

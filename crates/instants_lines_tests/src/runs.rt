@@ -43,7 +43,7 @@ fn run_words_on<'a, R: ByteReader, W: ByteWriter>(
     requires reader { R.failed reader.old ≡ false }
     requires writer { W.failed writer.old ≡ false }
 {
-    run_words(alloc, words, reader, writer)
+    run_words(alloc, words, None, reader, writer)
 }
 
 /// What a run of words answers, which are parted by bars. Its reads fail after so many bytes.

@@ -1,4 +1,5 @@
 mod AskedWords
+mod ZoneNames
 pub mod Spelling
 pub mod Sources
 mod Reading

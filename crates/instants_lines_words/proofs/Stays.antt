@@ -11,7 +11,7 @@ use Rattle.instants_words.specs.declared.fault.WordsFault.{WordsFault}
 use Rattle.instants_words.specs.declared.fault.WordsFault.TheVariants as words
 use Rattle.instants_lines_words.specs.Spelled.{spelled_out}
 use Rattle.instants_lines_words.proofs.Spelling.{format_alone}
-use Rattle.instants_lines_words.specs.Filled.{has_sign_or_digit, is_utc, is_setting, as_offset, target_in, assumed_in, limit_in, year_first, time_first, label_first, filled}
+use Rattle.instants_lines_words.specs.Filled.{has_sign_or_digit, is_utc, is_setting, as_offset, target_in, assumed_first, assumed_in, limit_in, year_first, time_first, label_first, filled}
 
 -- an offset begins with a sign, and is no name of UTC
 sign_first : (word : List ℕ) (offset : ℤ) → offset_said word ≡ Some offset → (has_sign_or_digit word ≡ true) × (is_utc word ≡ false)
@@ -26,14 +26,14 @@ digit_first [] limit e = absurd cc
 digit_first (first ∷ rest) limit e = grind arith
 
 -- what is assumed begins with a sign, and is no name of UTC
-assumed_by : (word : List ℕ) (said : Option ℤ) (assumed : Option ℤ) → offset_said word ≡ said → (if bytes_eq word (codes "-") then Some None else option_map Some said) ≡ Some assumed → (has_sign_or_digit word ≡ true) × (is_utc word ≡ false)
+assumed_begins_by : (word : List ℕ) (said : Option ℤ) (assumed : Option ℤ) → offset_said word ≡ said → (if bytes_eq word (codes "-") then Some None else option_map Some said) ≡ Some assumed → (has_sign_or_digit word ≡ true) × (is_utc word ≡ false)
 unfolding has_sign_or_digit is_utc
-assumed_by word (Some offset) assumed is e = sign_first word offset is
-assumed_by [] None assumed is e = absurd cc
-assumed_by (first ∷ rest) None assumed is e = (grind arith, grind arith)
+assumed_begins_by word (Some offset) assumed is e = sign_first word offset is
+assumed_begins_by [] None assumed is e = absurd cc
+assumed_begins_by (first ∷ rest) None assumed is e = (grind arith, grind arith)
 
-assumed_first : (word : List ℕ) (assumed : Option ℤ) → assumed_said word ≡ Some assumed → (has_sign_or_digit word ≡ true) × (is_utc word ≡ false)
-assumed_first word assumed e = assumed_by word (offset_said word) assumed refl e
+assumed_begins : (word : List ℕ) (assumed : Option ℤ) → assumed_said word ≡ Some assumed → (has_sign_or_digit word ≡ true) × (is_utc word ≡ false)
+assumed_begins word assumed e = assumed_begins_by word (offset_said word) assumed refl e
 
 setting : (word : List ℕ) → has_sign_or_digit word ≡ true → is_setting word ≡ true
 unfolding is_setting
@@ -88,8 +88,8 @@ spelled place (word ∷ next ∷ words) all e =
 stays : (target assumed limit source : List ℕ) (others : List (List ℕ)) → is_setting target ≡ true → is_setting assumed ≡ true → is_setting limit ≡ true → as_offset target ≡ target → as_offset assumed ≡ assumed
     → bytes_eq source (codes "year") ≡ false → bytes_eq source (codes "time") ≡ false → bytes_eq source (codes "label") ≡ false → spelled_out false (source ∷ others) ≡ source ∷ others
     → filled (target ∷ assumed ∷ limit ∷ source ∷ others) ≡ target ∷ assumed ∷ limit ∷ source ∷ others
-unfolding filled target_in assumed_in limit_in year_first time_first label_first
-stays target assumed limit source others t a l et ea y n b s = rw (t, a, l, et, ea, y, n, b, s) refl
+unfolding filled target_in assumed_first assumed_in limit_in year_first time_first label_first
+stays target assumed limit source others t a l et ea y n b s = rw (t, a, a, l, et, ea, y, n, b, s) refl
 
 known : (t : Option ℤ) (a : Option (Option ℤ)) (l : Option ℕ) (sources : Result (List SourceSaid) WordsFault) (said : Words)
     → ((t or words.Target) >>= (λ x. (a or words.Assumed) >>= (λ y. (l or words.Limit) >>= (λ z. sources >>= (λ s. Ok (record { target = x; assumed = y; limit = z; sources = s })))))) ≡ Ok said
@@ -109,7 +109,7 @@ pub in_full : (words : List (List ℕ)) (said : Words) → words_said words ≡ 
 in_full (t ∷ a ∷ l ∷ source ∷ others) said e =
     let is = known (offset_said t) (assumed_said a) (limit_said l) (sources_said 1 (source ∷ others)) said (sym (said_four (t ∷ a ∷ l ∷ source ∷ others) (source ∷ others) t a l refl (omega arith)) ∙ e) in
     let target = sign_first t said.target is.0 in
-    let assumed = assumed_first a said.assumed is.1 in
+    let assumed = assumed_begins a said.assumed is.1 in
     stays t a l source others (setting t target.0) (setting a assumed.0) (setting l (digit_first l said.limit is.2))
     (as_is t target.1) (as_is a assumed.1)
     (other_name source (codes "year") others said.sources (bytes_eq source (codes "year")) refl refl is.3 refl)

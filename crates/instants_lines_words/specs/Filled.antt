@@ -1,8 +1,10 @@
--- The words after the mode, with what is taken where some are left out: a target, an assumed offset and a limit, then a year, a time and a label, each after its name, and then the sources.
-use Rattle.std.specs.Prelude.{ℕ, Bool, false, ◌||◌, ◌==◌, if◌then◌else◌, Option, None, Some, is_some, unwrap_or, List, [], ◌∷◌, codes}
+-- The words after the mode, with what is taken where some are left out: a target, an assumed offset or a zone in its place, and a limit, then a year, a time and a label, each after its name, and then the sources.
+use Rattle.std.specs.Prelude.{ℕ, Bool, false, not, ◌||◌, ◌&&◌, ◌==◌, if◌then◌else◌, Option, None, Some, is_some, unwrap_or, List, [], ◌∷◌, codes}
 use Rattle.std.specs.Char.{is_ascii_digit}
+use Rattle.std.specs.List.{list_any}
 use Rattle.std.specs.Str.{bytes_eq}
-use Rattle.base.specs.Bytes.{plus, hyphen}
+use Rattle.base.specs.Bytes.{plus, hyphen, colon}
+use Rattle.instants_lines_words.specs.FileName.{is_file_name}
 use Rattle.instants_lines_words.specs.Spelled.{spelled_out}
 
 -- UTC by its names
@@ -31,13 +33,55 @@ as_offset word = if is_utc word then codes "+00:00" else word
 unfoldable pub target_in : List (List ℕ) → List ℕ
 target_in words = as_offset (unwrap_or (setting_first words).0 (codes "+00:00"))
 
--- the assumed offset: the second word, or none
+-- a word begins with a colon
+abbrev pub has_colon_before : List ℕ → Bool
+has_colon_before [] = false
+has_colon_before (first ∷ rest) = first == colon
+
+-- a word is a zone by its looks: it begins with a colon, or it has a slash and is no name of a file
+unfoldable pub is_zone : List ℕ → Bool
+is_zone word = has_colon_before word || (list_any (λ b. b == 47) word && not (is_file_name word))
+
+-- after a target the first word where it is an offset or a zone, and the words after it; where no target is there none
+abbrev pub assumed_after : Bool → List (List ℕ) → Option (List ℕ) × List (List ℕ)
+assumed_after has_target [] = (None, [])
+assumed_after has_target (word ∷ words) = if has_target && (is_setting word || is_zone word) then (Some word, words) else (None, word ∷ words)
+
+-- the word for what is assumed: the second word, and the words after the target and it
+unfoldable pub assumed_first : List (List ℕ) → Option (List ℕ) × List (List ℕ)
+assumed_first words = assumed_after (is_some (setting_first words).0) (setting_first words).1
+
+-- the assumed offset that a word says: UTC for a zone, and none where there is no word
+abbrev pub assumed_by : Option (List ℕ) → List ℕ
+assumed_by None = codes "-"
+assumed_by (Some word) = if is_setting word then as_offset word else codes "+00:00"
+
+-- the assumed offset
 unfoldable pub assumed_in : List (List ℕ) → List ℕ
-assumed_in words = as_offset (unwrap_or (setting_first (setting_first words).1).0 (codes "-"))
+assumed_in words = assumed_by (assumed_first words).0
+
+-- a word without the colon that it may begin with
+abbrev pub without_colon : List ℕ → List ℕ
+without_colon [] = []
+without_colon (first ∷ rest) = if first == colon then rest else first ∷ rest
+
+-- the name of the zone that a word says, where it is no offset
+abbrev pub zone_by : Option (List ℕ) → Option (List ℕ)
+zone_by None = None
+zone_by (Some word) = if is_setting word then None else Some (without_colon word)
+
+-- the name of the zone that stands in place of the assumed offset
+unfoldable pub zone_in : List (List ℕ) → Option (List ℕ)
+zone_in words = zone_by (assumed_first words).0
+
+-- the same, of words with a mode in front
+unfoldable pub zone_named : List (List ℕ) → Option (List ℕ)
+zone_named [] = None
+zone_named (mode ∷ words) = zone_in words
 
 -- the third word, where all three are there, and the words after those that are
 abbrev pub limit_first : List (List ℕ) → Option (List ℕ) × List (List ℕ)
-limit_first words = setting_first (setting_first (setting_first words).1).1
+limit_first words = setting_first (assumed_first words).1
 
 -- the limit: the third word, or the greatest
 unfoldable pub limit_in : List (List ℕ) → List ℕ

@@ -1,5 +1,6 @@
 pub mod Modes
 pub mod Wrong
+pub mod FileName
 pub mod WrongText
 pub mod Asked
 pub mod Spelled

@@ -1,5 +1,5 @@
--- What the words of the program say: a mode, and after it what the words of `instants` say, of which some may be left out, and before the sources a year, a time and a label.
-use Rattle.std.specs.Prelude.{ℕ, ◌+◌, ◌*◌, ◌==◌, ◌||◌, ◌&&◌, not, Bool, true, false, List, [], ◌∷◌, length, Option, None, Some, is_some, option_map, option_and_then, Result, Ok, Err, if◌then◌else◌, ℤ, pos}
+-- What the words of the program say: a mode, and after it what the words of `instants` say, of which some may be left out, where a zone may stand in place of the assumed offset, and before the sources a year, a time and a label.
+use Rattle.std.specs.Prelude.{ℕ, ◌+◌, ◌*◌, ◌==◌, ◌||◌, ◌&&◌, not, Bool, true, false, nat_lt, nat_le, List, [], ◌∷◌, length, slice_index, Option, None, Some, is_some, option_map, option_and_then, Result, Ok, Err, if◌then◌else◌, ℤ, pos}
 use Rattle.std.specs.List.{list_all}
 use Rattle.std.specs.Option.{option_or, ok_or}
 use Rattle.std.specs.Result.{result_map_both}
@@ -8,12 +8,13 @@ use Rattle.instants_formats.specs.Named.{named_format}
 use Rattle.instants_words.specs.Pieces.{number_said, offset_said, assumed_said, limit_said}
 use Rattle.instants_words.specs.Sources.{SourceSaid, format_named, language_named}
 use Rattle.instants_words.specs.declared.words.Words.{Words}
-use Rattle.instants_lines_words.specs.Filled.{target_in, assumed_in, limit_in, year_first, time_first, label_first, is_whole}
+use Rattle.zones.specs.Name.{is_name_byte}
+use Rattle.instants_lines_words.specs.Filled.{target_in, assumed_in, limit_in, zone_in, year_first, time_first, label_first, is_whole}
 use Rattle.instants_lines_words.specs.Modes.{mode_said}
-use Rattle.instants_lines_words.specs.Wrong.{Wrong, NoMode, UnknownMode, NoSource, Target, Assumed, Limit, Year, Time, Label, Source, FirstSource, NoDescription}
+use Rattle.instants_lines_words.specs.Wrong.{Wrong, NoMode, UnknownMode, NoSource, Target, Assumed, Limit, Zone, Year, Time, Label, Source, FirstSource, NoDescription}
 use Rattle.instants_lines_words.specs.Asked.{Asking}
 use Rattle.instants_lines_words.specs.declared.mode.Mode.{Mode}
-use Rattle.instants_lines_words.specs.declared.mode.Mode.TheVariants.{Key, Carry}
+use Rattle.instants_lines_words.specs.declared.mode.Mode.TheVariants.{Key, Carry, Explain}
 
 -- what a word says, or else this is wrong
 infixl 12 ◌or◌
@@ -61,7 +62,20 @@ abbrev pub first_wrong : Bool → Wrong → Wrong
 first_wrong false (Source place word) = if place == 1 then FirstSource word else Source place word
 first_wrong whole wrong = wrong
 
--- ---- a year, a time and a label
+-- ---- a zone, a year, a time and a label
+
+-- a zone's name has 1 to 64 letters, digits, `_`, `+`, `-` and `/`, and no slash first
+unfoldable pub is_zone_name : List ℕ → Bool
+is_zone_name word = nat_lt 0 (length word) && nat_le (length word) 64 && not (slice_index word 0 == 47) && list_all is_name_byte word
+
+-- in these modes dates are found in lines; where lines are explained each is read as a whole, at an offset
+abbrev pub takes_zone : Mode → Bool
+takes_zone Explain = false
+takes_zone _ = true
+
+-- the name of a zone, in a mode that takes one
+abbrev pub zone_said : Mode → List ℕ → Option (List ℕ)
+zone_said mode word = if takes_zone mode && is_zone_name word then Some word else None
 
 -- the hours and minutes of a clock, in minutes
 abbrev pub clock_minutes : Option ℕ → Option ℕ → Option ℕ
@@ -96,13 +110,14 @@ abbrev pub read_by : {A : Type 0} → (List ℕ → Option A) → (List ℕ → 
 read_by said wrong None = Ok None
 read_by said wrong (Some word) = option_map Some (said word) or wrong word
 
--- what is asked by the words for a year, a time and a label, or the first of these that is wrong
-abbrev pub asked_by : Mode → Option (List ℕ) → Option (List ℕ) → Option (List ℕ) → Result Asking Wrong
-asked_by mode year_word time_word label_word = do
+-- what is asked by the words for a zone, a year, a time and a label, or the first of these that is wrong
+abbrev pub asked_by : Mode → Option (List ℕ) → Option (List ℕ) → Option (List ℕ) → Option (List ℕ) → Result Asking Wrong
+asked_by mode zone_word year_word time_word label_word = do
+  zone ← read_by (zone_said mode) Zone zone_word
   year ← read_by year_said Year year_word
   time ← read_by time_said Time time_word
   label ← read_by (label_said mode) Label label_word
-  Ok (record { mode = mode; year = year; time = time; label = label })
+  Ok (record { mode = mode; zone = zone; year = year; time = time; label = label })
 
 -- ---- all words
 
@@ -124,7 +139,7 @@ joined some settings asked sources = do
 unfoldable pub others_said : Mode → List (List ℕ) → Result (Asking × Words) Wrong
 others_said mode words =
     joined (some_of (label_first words).1) (settings_said (target_in words) (assumed_in words) (limit_in words))
-    (asked_by mode (year_first words).0 (time_first words).0 (label_first words).0) (result_map_both (λ all. all) (first_wrong (is_whole words)) (sources_read None 1 (label_first words).1))
+    (asked_by mode (zone_in words) (year_first words).0 (time_first words).0 (label_first words).0) (result_map_both (λ all. all) (first_wrong (is_whole words)) (sources_read None 1 (label_first words).1))
 
 -- the mode and the words after it, or the first thing wrong with them
 unfoldable pub mode_words_said : List (List ℕ) → Result (Asking × Words) Wrong

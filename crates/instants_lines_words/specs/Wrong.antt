@@ -11,6 +11,7 @@ pub data Wrong : Type 0 where
   Target : List ℕ → Wrong
   Assumed : List ℕ → Wrong
   Limit : List ℕ → Wrong
+  Zone : List ℕ → Wrong
   Year : List ℕ → Wrong
   Time : List ℕ → Wrong
   Label : List ℕ → Wrong
@@ -26,6 +27,7 @@ wrong_of words.NoSource = NoSource
 wrong_of (words.Target word) = Target word.now
 wrong_of (words.Assumed word) = Assumed word.now
 wrong_of (words.Limit word) = Limit word.now
+wrong_of (words.Zone word) = Zone word.now
 wrong_of (words.Year word) = Year word.now
 wrong_of (words.Time word) = Time word.now
 wrong_of (words.Label word) = Label word.now

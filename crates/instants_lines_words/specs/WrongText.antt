@@ -1,18 +1,8 @@
 -- The sentence for what is wrong with words, after the name of the program.
-use Rattle.std.specs.Prelude.{ℕ, Bool, false, ◌||◌, ◌==◌, if◌then◌else◌, List, [], ◌∷◌, ◌++◌, codes}
+use Rattle.std.specs.Prelude.{ℕ, if◌then◌else◌, List, ◌++◌, codes}
 use Rattle.std.specs.Fmt.{decimal}
-use Rattle.std.specs.List.{list_any}
-use Rattle.base.specs.Bytes.{dot}
-use Rattle.instants_lines_words.specs.Wrong.{Wrong, NoMode, UnknownMode, NoSource, Target, Assumed, Limit, Year, Time, Label, Source, FirstSource, NoDescription}
-
--- a word begins with a slash
-abbrev pub has_slash_before : List ℕ → Bool
-has_slash_before [] = false
-has_slash_before (first ∷ rest) = first == 47
-
--- a word looks like the name of a file: it has a dot, or a slash before
-unfoldable pub is_file_name : List ℕ → Bool
-is_file_name word = list_any (λ b. b == dot) word || has_slash_before word
+use Rattle.instants_lines_words.specs.FileName.{is_file_name}
+use Rattle.instants_lines_words.specs.Wrong.{Wrong, NoMode, UnknownMode, NoSource, Target, Assumed, Limit, Zone, Year, Time, Label, Source, FirstSource, NoDescription}
 
 -- what is said of a word that is no source
 abbrev pub no_such_source : List ℕ → List ℕ
@@ -32,8 +22,9 @@ said_of NoMode = codes "usage: instants-lines MODE [TARGET [ASSUMED [LIMIT]]] [y
 said_of (UnknownMode word) = codes "no such mode; there are key, carry, replace, explain, locate"
 said_of NoSource = codes "no source is named; there are rfc3339, rfc2822, iso8601, v1, v2, v3, strftime, and the names of --help"
 said_of (Target word) = codes "no target offset; it must be +HH:MM, -HH:MM, Z or UTC"
-said_of (Assumed word) = codes "no assumed offset; it must be +HH:MM, -HH:MM, Z, UTC or -, as +02:00"
+said_of (Assumed word) = codes "no assumed offset; it must be +HH:MM, -HH:MM, Z, UTC or -, or a zone, as +02:00 or Europe/Berlin"
 said_of (Limit word) = codes "no limit; it must be a number from 1 to 1048576"
+said_of (Zone word) = codes "no zone; modes key, carry, replace and locate take one by its name, as Europe/Berlin or :CET"
 said_of (Year word) = codes "no year; it must be four digits, as 2024"
 said_of (Time word) = codes "no time of day; it must be HH:MM"
 said_of (Label word) = codes "no label; modes key and carry take one, without tabs and line feeds"
@@ -49,6 +40,7 @@ wrong_text NoSource = said_of NoSource
 wrong_text (Target word) = codes "\"" ++ (word ++ (codes "\": " ++ said_of (Target word)))
 wrong_text (Assumed word) = codes "\"" ++ (word ++ (codes "\": " ++ said_of (Assumed word)))
 wrong_text (Limit word) = codes "\"" ++ (word ++ (codes "\": " ++ said_of (Limit word)))
+wrong_text (Zone word) = codes "\"" ++ (word ++ (codes "\": " ++ said_of (Zone word)))
 wrong_text (Year word) = codes "\"" ++ (word ++ (codes "\": " ++ said_of (Year word)))
 wrong_text (Time word) = codes "\"" ++ (word ++ (codes "\": " ++ said_of (Time word)))
 wrong_text (Label word) = codes "\"" ++ (word ++ (codes "\": " ++ said_of (Label word)))

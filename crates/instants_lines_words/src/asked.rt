@@ -6,6 +6,8 @@ use crate::mode::Mode;
 #[derive(Clone, Copy, Debug, PartialEq, Eq)]
 pub struct Asked<'a> {
     pub mode: Mode,
+    /// The name of the zone on whose clock dates are that say no offset.
+    pub zone: Option<&'a str>,
     /// The year of the first date, 0 to 9999.
     pub year: Option<i32>,
     /// The time of day of dates without one, in minutes, 0 to 1439.

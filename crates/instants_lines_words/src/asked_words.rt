@@ -1,10 +1,10 @@
-//! The words that say a year, a time of day and a label.
+//! The words that say a zone, a year, a time of day and a label.
 ghost use Rattle.std.specs.Prelude.{◌≡◌, ◌∷◌, ◌==◌, ◌||◌, not, [], option_map, true};
 ghost use Rattle.std.specs.Result.{result_map_both};
 ghost use Rattle.instants_words.specs.Pieces.{number_said};
 ghost use Rattle.instants_lines_words.specs.Asked.{asking_of};
-ghost use Rattle.instants_lines_words.specs.Words.{asked_by, clock_minutes, has_label, is_field, label_said, read_by, time_said, year_said};
-ghost use Rattle.instants_lines_words.specs.Wrong.{Label, Time, Year, wrong_of};
+ghost use Rattle.instants_lines_words.specs.Words.{asked_by, clock_minutes, has_label, is_field, is_zone_name, label_said, read_by, takes_zone, time_said, year_said, zone_said};
+ghost use Rattle.instants_lines_words.specs.Wrong.{Label, Time, Year, Zone, wrong_of};
 
 use crate::asked::Asked;
 use crate::filled::Parted;
@@ -76,6 +76,34 @@ fn read_time(word: Option<&str>) -> Result<Option<u16>, WrongWords<'_>>
     }
 }
 
+// Whether a word can be the name of a zone.
+fn is_zone_name(word: &str) -> bool
+    ensures { result ≡ is_zone_name word.now }
+{
+    zones::is_zone_name(word.as_bytes())
+}
+
+// Whether dates are found in lines in a mode, and not each line read as a whole.
+fn takes_zone(mode: Mode) -> bool
+    ensures { result ≡ takes_zone mode }
+{
+    match mode {
+        Mode::Explain => false,
+        Mode::Key | Mode::Carry | Mode::Replace | Mode::Locate => true,
+    }
+}
+
+// The zone that a name says, where there is one.
+fn read_zone<'a>(mode: Mode, name: Option<&'a str>) -> Result<Option<&'a str>, WrongWords<'a>>
+    ensures { result_map_both (option_map (λ name. name.now)) wrong_of result
+        ≡ read_by (zone_said mode) Zone (option_map (λ name. name.now) name.entry) }
+{
+    match name {
+        Some(name) if !takes_zone(mode) || !is_zone_name(name) => Err(WrongWords::Zone(name)),
+        other => Ok(other),
+    }
+}
+
 // Whether a label stands after the keys of a mode.
 fn has_label(mode: Mode) -> bool
     ensures { result ≡ has_label mode }
@@ -106,18 +134,24 @@ fn read_label<'a>(mode: Mode, word: Option<&'a str>) -> Result<Option<&'a str>, 
     }
 }
 
-/// What is asked in a mode, with the year, the time and the label that words say.
+/// What is asked in a mode, with the zone, the year, the time and the label that words say.
 pub fn read_asked<'a>(mode: Mode, parted: &Parted<'a, '_>) -> Result<Asked<'a>, WrongWords<'a>>
     ensures { result_map_both asking_of wrong_of result ≡ asked_by mode
+        (option_map (λ word. word.now) parted.now.zone)
         (option_map (λ word. word.now) parted.now.year)
         (option_map (λ word. word.now) parted.now.time)
         (option_map (λ word. word.now) parted.now.label) }
 {
+    let zone = match read_zone(mode, parted.zone) {
+        Ok(zone) => zone,
+        Err(wrong) => return Err(wrong),
+    };
     let year = read_year(parted.year)?;
     let time = read_time(parted.time)?;
     match read_label(mode, parted.label) {
         Ok(label) => Ok(Asked {
             mode,
+            zone,
             year,
             time,
             label,

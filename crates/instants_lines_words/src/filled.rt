@@ -1,9 +1,10 @@
 //! The words after the mode, of which some may be left out.
 ghost use Rattle.std.specs.Prelude.{◌≡◌, ◌∷◌, false, map, option_map, IfOk};
-ghost use Rattle.instants_lines_words.specs.Filled.{assumed_in, as_offset, has_sign_or_digit, is_setting, is_utc, is_whole, label_first, limit_in, named_first, setting_first, target_in, time_first, year_first};
+ghost use Rattle.instants_lines_words.specs.Filled.{assumed_after, assumed_by, assumed_in, as_offset, has_sign_or_digit, is_setting, is_utc, is_whole, label_first, limit_in, named_first, setting_first, target_in, time_first, year_first, zone_by, zone_in, zone_named};
 ghost use Rattle.instants_lines_words.specs.Spelled.{spelled_out};
 
 use crate::spelled::spell_out;
+use crate::zone::{is_zone, without_colon};
 use std::alloc::{AllocError, Global};
 
 // What is taken where a word is left out.
@@ -21,6 +22,8 @@ pub struct Parted<'a, 'b> {
     pub limit: &'a str,
     /// Whether none of these is left out.
     pub is_whole: bool,
+    /// The name of the zone that stands in place of the assumed offset.
+    pub zone: Option<&'a str>,
     /// The word after `year`, that after `time` and that after `label`.
     pub year: Option<&'a str>,
     pub time: Option<&'a str>,
@@ -81,6 +84,45 @@ fn as_offset(word: &str) -> &str
     if is_utc(word) { TARGET } else { word }
 }
 
+// After a target the first word, where it is an offset or a zone, and those after it.
+fn assumed_after<'a, 'b>(has_target: bool, words: &'b [&'a str]) -> (Option<&'a str>, &'b [&'a str])
+    ensures prefix { option_map (λ word. word.now) result.0
+        ≡ (assumed_after has_target (map (λ word. word.now) words.now)).0 }
+    ensures after { map (λ word. word.now) result.1.now
+        ≡ (assumed_after has_target (map (λ word. word.now) words.now)).1 }
+{
+    let Some((word, rest)) = words.split_first() else {
+        return (None, words);
+    };
+    if has_target && (is_setting(word) || is_zone(word)) {
+        (Some(word), rest)
+    } else {
+        (None, words)
+    }
+}
+
+// The assumed offset that a word says: UTC for a zone, and none where there is no word.
+fn assumed_by(word: Option<&str>) -> &str
+    ensures { result.now ≡ assumed_by (option_map (λ word. word.now) word.entry) }
+{
+    match word {
+        Some(word) if is_setting(word) => as_offset(word),
+        Some(_) => TARGET,
+        None => ASSUMED,
+    }
+}
+
+// The name of the zone that a word says, where it is no offset.
+fn zone_by(word: Option<&str>) -> Option<&str>
+    ensures { option_map (λ word. word.now) result
+        ≡ zone_by (option_map (λ word. word.now) word.entry) }
+{
+    match word {
+        Some(word) if !is_setting(word) => Some(without_colon(word)),
+        _ => None,
+    }
+}
+
 // The word after a name that the words begin with, and those after it.
 fn named_first<'a, 'b>(name: &str, words: &'b [&'a str]) -> (Option<&'a str>, &'b [&'a str])
     ensures prefix { option_map (λ word. word.now) result.0
@@ -101,12 +143,14 @@ fn named_first<'a, 'b>(name: &str, words: &'b [&'a str]) -> (Option<&'a str>, &'
 }
 
 /// Parts the words after the mode.
-#[tactic(auto, unfolding(crate::specs::Filled::target_in, crate::specs::Filled::assumed_in, crate::specs::Filled::limit_in, crate::specs::Filled::is_whole, crate::specs::Filled::year_first, crate::specs::Filled::time_first, crate::specs::Filled::label_first))]
+#[tactic(auto, unfolding(crate::specs::Filled::target_in, crate::specs::Filled::assumed_first, crate::specs::Filled::assumed_in, crate::specs::Filled::zone_in, crate::specs::Filled::limit_in, crate::specs::Filled::is_whole, crate::specs::Filled::year_first, crate::specs::Filled::time_first, crate::specs::Filled::label_first))]
 pub fn part<'a, 'b>(words: &'b [&'a str]) -> Parted<'a, 'b>
     ensures target { result.target.now ≡ target_in (map (λ word. word.now) words.now) }
     ensures assumed { result.assumed.now ≡ assumed_in (map (λ word. word.now) words.now) }
     ensures limit { result.limit.now ≡ limit_in (map (λ word. word.now) words.now) }
     ensures whole { result.is_whole ≡ is_whole (map (λ word. word.now) words.now) }
+    ensures zone { option_map (λ word. word.now) result.zone
+        ≡ zone_in (map (λ word. word.now) words.now) }
     ensures year { option_map (λ word. word.now) result.year
         ≡ (year_first (map (λ word. word.now) words.now)).0 }
     ensures time { option_map (λ word. word.now) result.time
@@ -117,21 +161,33 @@ pub fn part<'a, 'b>(words: &'b [&'a str]) -> Parted<'a, 'b>
         ≡ (label_first (map (λ word. word.now) words.now)).1 }
 {
     let (target, after_target) = setting_first(words);
-    let (assumed, after_assumed) = setting_first(after_target);
+    let (assumed, after_assumed) = assumed_after(target.is_some(), after_target);
     let (limit, after_limit) = setting_first(after_assumed);
     let (year, after_year) = named_first("year", after_limit);
     let (time, after_time) = named_first("time", after_year);
     let (label, sources) = named_first("label", after_time);
     Parted {
         target: as_offset(target.unwrap_or(TARGET)),
-        assumed: as_offset(assumed.unwrap_or(ASSUMED)),
+        assumed: assumed_by(assumed),
         limit: limit.unwrap_or(LIMIT),
         is_whole: limit.is_some(),
+        zone: zone_by(assumed),
         year,
         time,
         label,
         sources,
     }
+}
+
+/// The name of the zone that stands in place of the assumed offset, where one does, whatever else is wrong with the words. The
+/// mode stands in front of these.
+#[tactic(auto, unfolding(crate::specs::Filled::zone_named))]
+pub fn zone_named<'a>(words: &[&'a str]) -> Option<&'a str>
+    ensures { option_map (λ word. word.now) result
+        ≡ zone_named (map (λ word. word.now) words.now) }
+{
+    let (_, others) = words.split_first()?;
+    part(others).zone
 }
 
 /// The words that `instants` has in place of these.

@@ -8,11 +8,13 @@
 //! - `Asked` is the mode, what is given for dates that lack it, and the label.
 //! - `read_mode_words` gives it with the words of `instants` after it: those that are left out are filled in, and names of
 //!   formats are spelled out.
+//! - `zone_named` gives the name of the zone that stands in place of the assumed offset, whatever else is wrong.
 //! - `WrongWords` says what is wrong.
 #![tactic(auto)]
 
 mod asked;
 mod asked_words;
+mod file_name;
 mod filled;
 pub mod laws;
 mod mode;
@@ -21,8 +23,10 @@ mod words;
 mod words_fault;
 mod wrong_source;
 mod wrong_words;
+mod zone;
 
 pub use asked::Asked;
+pub use filled::zone_named;
 pub use mode::Mode;
 pub use words::read_mode_words;
 pub use words_fault::ModeWordsFault;

@@ -1,8 +1,9 @@
 //! What can be wrong with the words.
 ghost use Rattle.std.specs.Prelude.{◌≡◌};
 ghost use Rattle.instants_lines_words.specs.Wrong.{wrong_of};
-ghost use Rattle.instants_lines_words.specs.WrongText.{is_file_name, no_such_first_source, no_such_source, said_of};
+ghost use Rattle.instants_lines_words.specs.WrongText.{no_such_first_source, no_such_source, said_of};
 
+use crate::file_name::is_file_name;
 use std::fmt;
 
 /// The first thing that is wrong with the words. `Display` gives the sentence after the program's name, without a line feed.
@@ -16,10 +17,12 @@ pub enum WrongWords<'a> {
     NoSource,
     /// The target is no offset.
     Target(&'a str),
-    /// What is to be assumed is no offset, and not `-`.
+    /// What is to be assumed is no offset, not `-`, and no zone.
     Assumed(&'a str),
     /// The limit is not a number from 1 to 1048576, in one to seven digits.
     Limit(&'a str),
+    /// The zone has a name that no zone can have.
+    Zone(&'a str),
     /// The word after `year` is not four digits.
     Year(&'a str),
     /// The word after `time` is not a time of day from 00:00 to 23:59.
@@ -48,6 +51,7 @@ impl fmt::Display for WrongWords<'_> {
             | WrongWords::Target(word)
             | WrongWords::Assumed(word)
             | WrongWords::Limit(word)
+            | WrongWords::Zone(word)
             | WrongWords::Year(word)
             | WrongWords::Time(word)
             | WrongWords::Label(word) => write!(f, "\"{word}\": {said}"),
@@ -77,9 +81,12 @@ fn said(wrong: &WrongWords<'_>) -> &'static str
         }
         WrongWords::Target(_) => "no target offset; it must be +HH:MM, -HH:MM, Z or UTC",
         WrongWords::Assumed(_) => {
-            "no assumed offset; it must be +HH:MM, -HH:MM, Z, UTC or -, as +02:00"
+            "no assumed offset; it must be +HH:MM, -HH:MM, Z, UTC or -, or a zone, as +02:00 or Europe/Berlin"
         }
         WrongWords::Limit(_) => "no limit; it must be a number from 1 to 1048576",
+        WrongWords::Zone(_) => {
+            "no zone; modes key, carry, replace and locate take one by its name, as Europe/Berlin or :CET"
+        }
         WrongWords::Year(_) => "no year; it must be four digits, as 2024",
         WrongWords::Time(_) => "no time of day; it must be HH:MM",
         WrongWords::Label(_) => {
@@ -88,17 +95,6 @@ fn said(wrong: &WrongWords<'_>) -> &'static str
         WrongWords::Source { word, .. } => no_such_source(word),
         WrongWords::FirstSource(word) => no_such_first_source(word),
         WrongWords::NoDescription { .. } => "needs a description in the next argument",
-    }
-}
-
-// Whether a word looks like the name of a file.
-#[tactic(auto, unfolding(crate::specs::WrongText::is_file_name))]
-fn is_file_name(word: &str) -> bool
-    ensures { result ≡ is_file_name word.now }
-{
-    match word.as_bytes() {
-        [b'/', ..] => true,
-        bytes => bytes.contains(&b'.'),
     }
 }
 

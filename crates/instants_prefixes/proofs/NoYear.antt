@@ -1,6 +1,6 @@
 -- A text of ISO 8601 in which no year is read names no moment: it says no day, and none is given.
-use Rattle.std.proofs.Common.{◌≡◌, ◌||◌, ℕ, ℤ, Bool, true, false, eqb, List, [], ◌∷◌, get_or, Option, None, Some, Ok, Err, refl, ap, arith}
-use Rattle.std.specs.Prelude.{nat_le, option_map}
+use Rattle.std.proofs.Common.{◌≡◌, ◌||◌, ℕ, ℤ, true, false, eqb, List, [], ◌∷◌, get_or, Option, None, Some, Ok, Err, refl, ap, arith}
+use Rattle.std.specs.Prelude.{option_map}
 use Rattle.std.specs.Char.{is_ascii_digit}
 use Rattle.std.proofs.lemmas.Bool.Decides.{nat_tests}
 use Rattle.base.specs.Bytes.{hyphen, plus}

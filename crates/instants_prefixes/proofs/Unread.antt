@@ -1,6 +1,7 @@
 -- What a description reads holds the kinds of parts that always stand in it, and no others than may stand there.
-use Rattle.std.proofs.Common.{◌≡◌, ◌||◌, ℕ, ℤ, Bool, true, false, List, Option, Some, None, Result, Ok, Err, refl, sym, ap, ◌∙◌, arith}
+use Rattle.std.proofs.Common.{◌≡◌, ◌||◌, not, ℕ, ℤ, Bool, true, false, List, Option, Some, None, Result, Ok, Err, refl, sym, ap, ◌∙◌, arith}
 use Rattle.std.specs.Prelude.{is_some}
+use Rattle.std.specs.Option.{is_none}
 use Rattle.std.proofs.Math.Bool.{or-false}
 use Rattle.std.proofs.lemmas.Bool.{or_parts, or_right}
 use Rattle.description_items.specs.Modern.{modern}
@@ -22,7 +23,8 @@ use Rattle.instants_sources.specs.Grammar.{Grammar, Described, Rfc2822, Rfc3339,
 use Rattle.instants_sources.specs.Reading.{reading_of}
 use Rattle.instants_sources.specs.Written.{reads_written}
 use Rattle.instants_prefixes.specs.Kinds.{is_newer}
-use Rattle.instants_prefixes.specs.Reading.{written_has, stands_in, record_of, record_at, text_for}
+use Rattle.instants_prefixes.specs.Given.{lacks_offset}
+use Rattle.instants_prefixes.specs.Reading.{is_local, written_has, stands_in, record_of, record_at, text_for}
 use Rattle.instants_prefixes.specs.declared.kind.Kind.{Kind}
 use Rattle.instants_prefixes.specs.declared.kind.Kind.TheVariants as kind
 use Rattle.instants_prefixes.proofs.Le.{Le, le_false}
@@ -130,3 +132,32 @@ timeless Iso8601 free text = put_timeless put_iso8601 (iso8601.iso8601 text) iso
 pub timeless_at : (grammar : Grammar) → stands_in (λ c. is_newer (modern c) kind.UnixTime) grammar ≡ false → (bytes : List ℕ) → (record_at grammar bytes).unix_timestamp_nanos ≡ None
 unfolding record_at
 timeless_at grammar free bytes = timeless grammar free (text_for grammar bytes)
+
+-- ---- no offset
+
+none_said : {A B C : Type 0} (hour : Option A) (minute : Option B) (second : Option C) → (is_some hour || is_some minute || is_some second) ≡ false → is_none hour ≡ true
+none_said None minute second e = refl
+none_said (Some h) minute second e = absurd cc
+
+described_local : (written : Written) (text : List ℕ) (a : Answer) → written_has true (λ c. is_newer (modern c) kind.OffsetPart) written ≡ false → reads_written written empty text ≡ a → lacks_offset (record_of a) ≡ true
+described_local written text (Ok read) free e = none_said read.0.offset_hour read.0.offset_minute read.0.offset_second (le_false ((read_holds written text read e).may kind.OffsetPart) free)
+described_local written text (Err f) free e = refl
+
+neither : (a b : Bool) → not (a || b) ≡ true → (a ≡ false) × (b ≡ false)
+neither false false e = (refl, refl)
+neither false true e = absurd cc
+neither true b e = absurd cc
+
+-- a description without a part of an offset reads no hour of one
+pub local_at : (grammar : Grammar) → is_local grammar ≡ true → (bytes : List ℕ) → lacks_offset (record_at grammar bytes) ≡ true
+unfolding record_at
+local_at (Described written) local bytes = described_local written (text_for (Described written) bytes) _ (neither _ _ local).0 refl
+local_at Rfc2822 local bytes = absurd cc
+local_at Rfc3339 local bytes = absurd cc
+local_at Iso8601 local bytes = absurd cc
+
+pub local_timeless_at : (grammar : Grammar) → is_local grammar ≡ true → (bytes : List ℕ) → (record_at grammar bytes).unix_timestamp_nanos ≡ None
+local_timeless_at (Described written) local bytes = timeless_at (Described written) (neither _ _ local).1 bytes
+local_timeless_at Rfc2822 local bytes = absurd cc
+local_timeless_at Rfc3339 local bytes = absurd cc
+local_timeless_at Iso8601 local bytes = absurd cc

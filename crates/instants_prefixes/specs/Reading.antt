@@ -1,5 +1,5 @@
 -- What a source reads at the start of bytes, and the moment that it names.
-use Rattle.std.specs.Prelude.{ℕ, ℤ, ◌^◌, ◌&&◌, nat_le, nat_lt, Bool, true, false, List, take, get_or, Option, None, Some, option_map, Ok, Err, unsigned_abs, if◌then◌else◌}
+use Rattle.std.specs.Prelude.{ℕ, ℤ, ◌^◌, ◌&&◌, ◌||◌, not, nat_le, nat_lt, Bool, true, false, List, take, get_or, Option, None, Some, option_map, Ok, Err, unsigned_abs, if◌then◌else◌}
 use Rattle.std.specs.Char.{is_ascii_alphanumeric}
 use Rattle.datetime_wall.specs.Wall.{Shown}
 use Rattle.description_items.specs.declared.component.Component.{Component}
@@ -11,6 +11,8 @@ use Rattle.instants_sources.specs.Grammar.{Grammar, Described, Rfc2822, Iso8601,
 use Rattle.instants_sources.specs.Reading.{reading_of}
 use Rattle.instants_edges.specs.Text.{iso_text, mail_text}
 use Rattle.instants_prefixes.specs.Given.{Given, moment_of}
+use Rattle.instants_prefixes.specs.Kinds.{is_of}
+use Rattle.instants_prefixes.specs.declared.kind.Kind.TheVariants as kind
 pub use Rattle.instants_prefixes.specs.Has.{has, any_has}
 
 -- a date lies within so many bytes
@@ -39,6 +41,11 @@ written_has in_choices kind (V3 tree) = has in_choices kind tree
 abbrev pub stands_in : (Component → Bool) → Grammar → Bool
 stands_in kind (Described written) = written_has true kind written
 stands_in kind _ = false
+
+-- neither a part of an offset nor Unix time may stand in a description: each date takes the offset that is given
+abbrev pub is_local : Grammar → Bool
+is_local (Described written) = not (written_has true (is_of kind.OffsetPart) written || written_has true (is_of kind.UnixTime) written)
+is_local _ = false
 
 -- ---- the record
 

@@ -40,12 +40,13 @@ fn described<'s, 'a>(source: &'s Source<'a>) -> Option<&'s Described<'a>>
 }
 
 impl<'a> DateSource<'a> {
-    ghost use Rattle.std.specs.Prelude.{◌≡◌, ◌≤◌, ℕ, List, None, Some, false, length, IfSome};
+    ghost use Rattle.std.specs.Prelude.{◌≡◌, ◌≤◌, ℕ, List, None, Some, false, true, length, IfSome};
     ghost use Rattle.instants_prefixes.specs.DateSource.{grammar_in, IsWithin};
     ghost use Rattle.instants_prefixes.specs.Prefix.{prefix_at};
     ghost use Rattle.instants_prefixes.specs.Lacks.{lack};
     ghost use Rattle.instants_prefixes.specs.Kinds.{is_of};
-    ghost use Rattle.instants_prefixes.specs.Reading.{record_at, stands_in};
+    ghost use Rattle.instants_prefixes.specs.Given.{lacks_offset};
+    ghost use Rattle.instants_prefixes.specs.Reading.{is_local, record_at, stands_in};
     ghost use Rattle.instants_prefixes.specs.declared.kind.Kind.TheVariants as kind;
 
     /// The source, with what is found of it.
@@ -76,6 +77,20 @@ impl<'a> DateSource<'a> {
             → (record_at (grammar_in self.now) bytes).unix_timestamp_nanos ≡ None }
     {
         self.contents.has_unix_time
+    }
+
+    /// Whether each date that it reads takes the offset that is given: neither a part of an offset nor Unix time may stand in it.
+    #[inline(always)]
+    #[tactic(auto, using(crate::proofs::Unread::local_at, crate::proofs::Unread::local_timeless_at))]
+    pub fn is_local(&self) -> bool
+        ensures value { result ≡ is_local (grammar_in self.now) }
+        ensures no_offset { result ≡ true → (bytes : List ℕ)
+            → lacks_offset (record_at (grammar_in self.now) bytes) ≡ true }
+        ensures no_unix_time { result ≡ true → (bytes : List ℕ)
+            → (record_at (grammar_in self.now) bytes).unix_timestamp_nanos ≡ None }
+    {
+        let has_neither = !(self.contents.has_offset_part || self.contents.has_unix_time);
+        matches!(self.source, Source::Items(_) | Source::V3(_)) && has_neither
     }
 
     /// The record that the source reads at the start of bytes: an empty one where it reads none.

@@ -2,6 +2,7 @@
 
 use calendar::UtcOffset;
 use datetime_types::OffsetDateTime;
+use zones_clock::Zone;
 
 /// What is known of the year of dates that name none.
 #[derive(Clone, Copy)]
@@ -16,9 +17,12 @@ pub enum Years {
 
 /// What is given once for dates that lack it: each part takes the place of what a date doesn't say.
 #[derive(Clone, Copy)]
-pub struct Given {
+pub struct Given<'z> {
     /// The offset from UTC, of which hours and minutes count.
     pub offset: Option<UtcOffset>,
+    /// The zone on whose clock dates are that say no offset, where one is given: they are read at the offset that is given, which
+    /// is +00:00 then.
+    pub zone: Option<&'z Zone>,
     /// The year.
     pub years: Years,
     /// The time of day in minutes.

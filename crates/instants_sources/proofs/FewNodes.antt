@@ -3,7 +3,7 @@ use Rattle.std.proofs.Common.{ℕ, ◌≤◌, List, Option, ℤ, arith}
 use Rattle.description_items.specs.Tree.{listed}
 use Rattle.parsing_components.specs.Component.{reads_component, reads_component_v3}
 use Rattle.parsing_parsable.proofs.Tried.{tree_tried, in_turn_tried}
-use Rattle.instants_sources.specs.Grammar.{Grammar, Described, Rfc2822, Rfc3339, Iso8601, Items, V3}
+use Rattle.instants_sources.specs.Grammar.{Grammar, Described, Items, V3}
 use Rattle.parsing_record.specs.Whole.{starting}
 use Rattle.instants_sources.specs.Named.{defaults_of}
 use Rattle.instants_sources.specs.Tried.{nodes_in, tried_by}

@@ -1,6 +1,6 @@
 -- Lines that a format can't have written.
-use Rattle.std.proofs.Common.{◌≡◌, ℕ, ◌+◌, ◌<◌, ◌≤◌, zero, suc, ◌-◌, ◌*◌, ◌&&◌, Bool, true, false, cond, eqb, leb, List, [], ◌∷◌, length, get_or, take, drop, Option, Some, None, Ok, Err, nat_le, refl, ◌∙◌, arith}
-use Rattle.std.specs.Prelude.{codes, option_map, not}
+use Rattle.std.proofs.Common.{◌≡◌, ℕ, ◌+◌, ◌<◌, ◌≤◌, zero, suc, ◌-◌, ◌*◌, Bool, true, false, cond, eqb, leb, List, [], ◌∷◌, length, get_or, take, drop, Option, Some, None, Ok, Err, nat_le, refl, ◌∙◌, arith}
+use Rattle.std.specs.Prelude.{codes, option_map}
 use Rattle.std.specs.Result.{result_ok}
 use Rattle.std.specs.Char.{is_ascii_digit, to_ascii_lowercase}
 use Rattle.std.proofs.lemmas.Bool.{le-leb}

@@ -3,7 +3,7 @@ use Rattle.std.proofs.Common.{◌≡◌, ℕ, ◌+◌, ◌≤◌, List, length, 
 use Rattle.description_items.specs.Tree.{trees}
 use Rattle.description_lexer.specs.Version.{is_three}
 use Rattle.description_lexer.specs.declared.version.DescriptionVersion.{DescriptionVersion}
-use Rattle.description_lexer.specs.declared.version.DescriptionVersion.TheVariants.{One, Two, Three}
+use Rattle.description_lexer.specs.declared.version.DescriptionVersion.TheVariants.{Three}
 use Rattle.description_grammar.specs.Spelling.{SpellsTree}
 use Rattle.description_tree.specs.Description.{v3_tree}
 use Rattle.description.specs.Described.{described, has_tree}

@@ -167,7 +167,7 @@ fn run_lines_on<'a, R: ByteReader, W: ByteWriter>(
     requires reader { R.failed reader.old ≡ false }
     requires writer { W.failed writer.old ≡ false }
 {
-    instants_lines::run_words(alloc, words, reader, writer)
+    instants_lines::run_words(alloc, words, None, reader, writer)
 }
 
 // An output: its bytes, but for a line feed at their end, or `\c` where there is none.

@@ -3,7 +3,7 @@ use Rattle.std.proofs.Common.{◌≡◌, ℕ, zero, suc, ◌+◌, ◌<◌, ◌�
 use Rattle.std.proofs.lemmas.Int.{ints}
 use Rattle.zones_clock.specs.declared.zone.Step.{Step}
 use Rattle.zones_clock.specs.declared.zone.Moments.{Moments}
-use Rattle.zones_clock.specs.declared.zone.Moments.TheVariants.{Skipped, One, Repeated}
+use Rattle.zones_clock.specs.declared.zone.Moments.TheVariants.{Skipped, One, Repeated, Several}
 use Rattle.zones_clock.specs.Steps.{InOrder, AreOffsets, IsOffset, IsReading, offset_at, offset_after, name_place_at, name_place_after, step_at}
 use Rattle.zones_clock.specs.Clock.{AllBegun, HasLastBegun, HasNextBegun, IsIn, Shows, Has, AreShown, IsAfter, AreBefore, AllFound, IsFound, with_moment, IsTaken, lies_there, lies_elsewhere, AreTheMoments, AreSure, IsFarFromSteps, IsSureFrom, IsSureUntil}
 
@@ -69,23 +69,28 @@ all_begun steps (suc n) t order lt h =
 
 has-itself : (found : Moments) (t : ℤ) → IsAfter found t → Has (with_moment found t) t
 has-itself Skipped t a = refl
-has-itself (One m) t a = inr (omega (arith, ints))
-has-itself (Repeated m n) t a = inr (omega (arith, ints))
+has-itself (One m) t a = inr refl
+has-itself (Repeated m n) t a = inr (inr (omega (arith, ints)))
+has-itself (Several m n o) t a = inr (inr (omega (arith, ints)))
 
 still-has : (found : Moments) (m t : ℤ) → Has found t → Has (with_moment found m) t
 still-has Skipped m t h = absurd h
 still-has (One n) m t h = inl h
-still-has (Repeated a b) m t h = h
+still-has (Repeated a b) m t (inl h) = inl h
+still-has (Repeated a b) m t (inr h) = inr (inl h)
+still-has (Several a b c) m t h = h
 
 shown-with : (first : ℤ) (steps : List Step) (reading : ℤ) (found : Moments) (m : ℤ) → AreShown first steps reading found → Shows first steps reading m → IsAfter found m → AreShown first steps reading (with_moment found m)
 shown-with first steps reading Skipped m h s a = s
 shown-with first steps reading (One n) m h s a = (h, s, a)
-shown-with first steps reading (Repeated x y) m h s a = h
+shown-with first steps reading (Repeated x y) m h s a = (h.0, h.1, s, h.2, a)
+shown-with first steps reading (Several x y z) m h s a = h
 
 after-with : (found : Moments) (m t : ℤ) → IsAfter found m → m <ℤ t → IsAfter (with_moment found m) t
 after-with Skipped m t a h = h
 after-with (One n) m t a h = h
-after-with (Repeated x y) m t a h = omega (arith, ints)
+after-with (Repeated x y) m t a h = h
+after-with (Several x y z) m t a h = omega (arith, ints)
 
 pub difference : (t o r : ℤ) → t +ℤ o ≡ r → t ≡ r -ℤ o
 difference t o r h = omega (arith, ints)
@@ -182,7 +187,8 @@ IsAnswer first steps reading found = AreShown first steps reading found × ((t :
 pub the_moments : (first : ℤ) (steps : List Step) (reading : ℤ) (found : Moments) → IsAnswer first steps reading found → AreTheMoments first steps reading found
 the_moments first steps reading Skipped h = h.1
 the_moments first steps reading (One m) h = h
-the_moments first steps reading (Repeated m n) h = h.0
+the_moments first steps reading (Repeated m n) h = h
+the_moments first steps reading (Several m n o) h = h.0
 
 -- at the end: after the last part that a moment can lie in
 pub found_last : (first : ℤ) (steps : List Step) (reading latest : ℤ) (count : ℕ) (found result : Moments) → IsOffset first → AreOffsets steps → latest ≡ reading +ℤ pos 93_600 → count ≤ length steps → (count < length steps → latest <ℤ (step_at steps count).from) → IsFound first steps reading count found → IsTaken first steps reading count found result → IsAnswer first steps reading result

@@ -1,2 +1,3 @@
 pub mod ClockLemmas
 pub mod MomentLemmas
+pub mod NameLemmas

@@ -4,7 +4,7 @@ use Rattle.std.specs.List.{filter}
 use Rattle.std.proofs.lemmas.Int.{ints}
 use Rattle.zones_clock.specs.declared.zone.Step.{Step}
 use Rattle.zones_clock.specs.declared.zone.Moments.{Moments}
-use Rattle.zones_clock.specs.declared.zone.Moments.TheVariants.{Skipped, One, Repeated}
+use Rattle.zones_clock.specs.declared.zone.Moments.TheVariants.{Skipped, One, Repeated, Several}
 use Rattle.zones_clock.specs.Steps.{offset_at}
 use Rattle.zones_clock.specs.Clock.{Shows, AreSure}
 use Rattle.zones_clock.specs.AllMoments.{all_moments, answer_of, moments_of, ListsInOrder, HaveOneEach}
@@ -67,7 +67,20 @@ moments_listed first (s ∷ ss) reading =
 list-answer : (first : ℤ) (steps : List Step) (reading : ℤ) (ms : List ℤ) → ListsInOrder (Shows first steps reading) ms → IsAnswer first steps reading (answer_of ms)
 list-answer first steps reading [] h = (tt, h)
 list-answer first steps reading (m ∷ []) h = (h.0, λ t s. elim (less-or-not m t) [ inl after ↦ absurd (h.2 t (s, after)) | inr early ↦ omega (arith, ints, h.1 t s) ])
-list-answer first steps reading (m ∷ n ∷ more) h = ((h.0, h.2.0.0, h.2.0.1), λ t s. elim (less-or-not m t) [ inl after ↦ inr (h.2.1 t (s, after)) | inr early ↦ inl (omega (arith, ints, h.1 t s)) ])
+list-answer first steps reading (m ∷ n ∷ []) h = (
+  (h.0, h.2.0.0, h.2.0.1),
+  λ t s. elim (less-or-not m t) [
+    | inl after ↦ inr (elim (less-or-not n t) [ inl last ↦ absurd (h.2.2 t ((s, after), last)) | inr early ↦ omega (arith, ints, h.2.1 t (s, after)) ])
+    | inr early ↦ inl (omega (arith, ints, h.1 t s))
+  ],
+)
+list-answer first steps reading (m ∷ n ∷ o ∷ more) h = (
+  (h.0, h.2.0.0, h.2.2.0.0.0, h.2.0.1, h.2.2.0.1),
+  λ t s. elim (less-or-not m t) [
+    | inl after ↦ inr (elim (less-or-not n t) [ inl last ↦ inr (h.2.2.1 t ((s, after), last)) | inr early ↦ inl (omega (arith, ints, h.2.1 t (s, after))) ])
+    | inr early ↦ inl (omega (arith, ints, h.1 t s))
+  ],
+)
 
 pub answer_listed : (first : ℤ) (steps : List Step) (reading : ℤ) → IsAnswer first steps reading (moments_of first steps reading)
 unfolding moments_of
@@ -76,14 +89,21 @@ answer_listed first steps reading = list-answer first steps reading _ (moments_l
 -- there is one answer
 same-answer : (first : ℤ) (steps : List Step) (reading : ℤ) (one other : Moments) → IsAnswer first steps reading one → IsAnswer first steps reading other → one ≡ other
 same-answer first steps reading Skipped Skipped f g = refl
-same-answer first steps reading Skipped (One n) f g = absurd (f.1 n g.0)
-same-answer first steps reading Skipped (Repeated n o) f g = absurd (f.1 n g.0.0)
+same-answer first steps reading Skipped (One p) f g = absurd (f.1 p g.0)
+same-answer first steps reading Skipped (Repeated p q) f g = absurd (f.1 p g.0.0)
+same-answer first steps reading Skipped (Several p q r) f g = absurd (f.1 p g.0.0)
 same-answer first steps reading (One m) Skipped f g = absurd (g.1 m f.0)
-same-answer first steps reading (One m) (One n) f g = ap One (g.1 m f.0)
-same-answer first steps reading (One m) (Repeated n o) f g = absurd (omega (arith, ints, f.1 n g.0.0, f.1 o g.0.1, g.0.2))
+same-answer first steps reading (One m) (One p) f g = ap One (g.1 m f.0)
+same-answer first steps reading (One m) (Repeated p q) f g = absurd (omega (arith, ints, f.1 p g.0.0, f.1 q g.0.1, g.0.2))
+same-answer first steps reading (One m) (Several p q r) f g = absurd (omega (arith, ints, f.1 p g.0.0, f.1 q g.0.1, g.0.3))
 same-answer first steps reading (Repeated m n) Skipped f g = absurd (g.1 m f.0.0)
-same-answer first steps reading (Repeated m n) (One o) f g = absurd (omega (arith, ints, g.1 m f.0.0, g.1 n f.0.1, f.0.2))
-same-answer first steps reading (Repeated m n) (Repeated o p) f g = grind (arith, ints, f.0.2, g.0.2, f.1 o g.0.0, f.1 p g.0.1, g.1 m f.0.0, g.1 n f.0.1)
+same-answer first steps reading (Repeated m n) (One p) f g = absurd (omega (arith, ints, g.1 m f.0.0, g.1 n f.0.1, f.0.2))
+same-answer first steps reading (Repeated m n) (Repeated p q) f g = grind (arith, ints, f.0.2, g.0.2, f.1 p g.0.0, f.1 q g.0.1, g.1 m f.0.0, g.1 n f.0.1)
+same-answer first steps reading (Repeated m n) (Several p q r) f g = absurd (grind (arith, ints, f.0.2, g.0.3, g.0.4, f.1 p g.0.0, f.1 q g.0.1, f.1 r g.0.2))
+same-answer first steps reading (Several m n o) Skipped f g = absurd (g.1 m f.0.0)
+same-answer first steps reading (Several m n o) (One p) f g = absurd (omega (arith, ints, g.1 m f.0.0, g.1 n f.0.1, f.0.3))
+same-answer first steps reading (Several m n o) (Repeated p q) f g = absurd (grind (arith, ints, g.0.2, f.0.3, f.0.4, g.1 m f.0.0, g.1 n f.0.1, g.1 o f.0.2))
+same-answer first steps reading (Several m n o) (Several p q r) f g = grind (arith, ints, f.0.3, f.0.4, g.0.3, g.0.4, f.1 p g.0.0, f.1 q g.0.1, f.1 r g.0.2, g.1 m f.0.0, g.1 n f.0.1, g.1 o f.0.2)
 
 pub is_moments_of : (first : ℤ) (steps : List Step) (reading : ℤ) (found : Moments) → IsAnswer first steps reading found → found ≡ moments_of first steps reading
 is_moments_of first steps reading found f = same-answer first steps reading found _ f (answer_listed first steps reading)

@@ -3,7 +3,7 @@ use Rattle.std.specs.Prelude.{◌≡◌, ◌++◌, ℤ, ◌<ℤ◌, ◌≤ℤ◌
 use Rattle.std.specs.List.{filter}
 use Rattle.zones_clock.specs.declared.zone.Step.{Step}
 use Rattle.zones_clock.specs.declared.zone.Moments.{Moments}
-use Rattle.zones_clock.specs.declared.zone.Moments.TheVariants.{Skipped, One, Repeated}
+use Rattle.zones_clock.specs.declared.zone.Moments.TheVariants.{Skipped, One, Repeated, Several}
 use Rattle.zones_clock.specs.Steps.{IsReading}
 
 -- the moments at which a clock shows a reading, in order: before the first step by the offset until then, and from it on as the steps after it say
@@ -11,11 +11,12 @@ unfoldable pub all_moments : ℤ → List Step → ℤ → List ℤ
 all_moments offset [] reading = (reading -ℤ offset) ∷ []
 all_moments offset (step ∷ steps) reading = filter (λ m. int_lt m step.from) ((reading -ℤ offset) ∷ []) ++ filter (λ m. not (int_lt m step.from)) (all_moments step.offset steps reading)
 
--- none, the only one, or the first two of several
+-- none, the only one, both, or the first three of several
 abbrev pub answer_of : List ℤ → Moments
 answer_of [] = Skipped
 answer_of (m ∷ []) = One m
-answer_of (m ∷ n ∷ more) = Repeated m n
+answer_of (m ∷ n ∷ []) = Repeated m n
+answer_of (m ∷ n ∷ o ∷ more) = Several m n o
 
 -- the answer to a reading, as a function
 unfoldable pub moments_of : ℤ → List Step → ℤ → Moments

@@ -2,18 +2,19 @@
 use Rattle.std.specs.Prelude.{pos, ◌-◌, ◌≡◌, ℕ, ◌<◌, ℤ, ◌<ℤ◌, ◌≤ℤ◌, ◌+ℤ◌, ◌-ℤ◌, length, List, ◌⊎◌, ◌↔◌}
 use Rattle.zones_clock.specs.declared.zone.Step.{Step}
 use Rattle.zones_clock.specs.declared.zone.Moments.{Moments}
-use Rattle.zones_clock.specs.declared.zone.Moments.TheVariants.{Skipped, One, Repeated}
+use Rattle.zones_clock.specs.declared.zone.Moments.TheVariants.{Skipped, One, Repeated, Several}
 use Rattle.zones_clock.specs.Steps.{offset_at, offset_after, step_at, IsReading}
 
 -- at this moment the clock shows this reading
 pub record Shows (first : ℤ) (steps : List Step) (reading moment : ℤ) : Type 0 where
   pub shown : moment +ℤ offset_at first steps moment ≡ reading
 
--- the answer to a reading: the only moment at which the clock shows it, that there is none, or two of several
+-- the answer to a reading: the only moment at which the clock shows it, that there is none, the only two, or three of several
 abbrev pub AreTheMoments : ℤ → List Step → ℤ → Moments → Type 0
 AreTheMoments first steps reading Skipped = (moment : ℤ) → Shows first steps reading moment → ⊥
 AreTheMoments first steps reading (One m) = Shows first steps reading m × ((moment : ℤ) → Shows first steps reading moment → moment ≡ m)
-AreTheMoments first steps reading (Repeated m n) = Shows first steps reading m × Shows first steps reading n × (m <ℤ n)
+AreTheMoments first steps reading (Repeated m n) = (Shows first steps reading m × Shows first steps reading n × (m <ℤ n)) × ((moment : ℤ) → Shows first steps reading moment → (moment ≡ m) ⊎ (moment ≡ n))
+AreTheMoments first steps reading (Several m n o) = Shows first steps reading m × Shows first steps reading n × Shows first steps reading o × (m <ℤ n) × (n <ℤ o)
 
 -- so many steps have begun at a moment
 abbrev pub AllBegun : List Step → ℕ → ℤ → Type 0
@@ -28,23 +29,26 @@ pub record HasNextBegun (steps : List Step) (count : ℕ) (moment : ℤ) : Type 
   pub there : count < length steps
   pub begun : (step_at steps count).from ≤ℤ moment
 
--- the moment is the first found, or no earlier than the second
+-- the moment is one that was found, or no earlier than the third
 abbrev pub Has : Moments → ℤ → Type 0
 Has Skipped moment = ⊥
 Has (One m) moment = moment ≡ m
-Has (Repeated m n) moment = (moment ≡ m) ⊎ (n ≤ℤ moment)
+Has (Repeated m n) moment = (moment ≡ m) ⊎ (moment ≡ n)
+Has (Several m n o) moment = (moment ≡ m) ⊎ (moment ≡ n) ⊎ (o ≤ℤ moment)
 
 -- what was found is shown
 abbrev pub AreShown : ℤ → List Step → ℤ → Moments → Type 0
 AreShown first steps reading Skipped = Unit {0}
 AreShown first steps reading (One m) = Shows first steps reading m
 AreShown first steps reading (Repeated m n) = Shows first steps reading m × Shows first steps reading n × (m <ℤ n)
+AreShown first steps reading (Several m n o) = Shows first steps reading m × Shows first steps reading n × Shows first steps reading o × (m <ℤ n) × (n <ℤ o)
 
 -- the moment is later than what was found
 abbrev pub IsAfter : Moments → ℤ → Type 0
 IsAfter Skipped moment = Unit {0}
 IsAfter (One m) moment = m <ℤ moment
 IsAfter (Repeated m n) moment = n <ℤ moment
+IsAfter (Several m n o) moment = o <ℤ moment
 
 -- what was found lies before that many steps have begun
 abbrev pub AreBefore : Moments → List Step → ℕ → Type 0
@@ -64,7 +68,8 @@ pub record IsFound (first : ℤ) (steps : List Step) (reading : ℤ) (count : �
 abbrev pub with_moment : Moments → ℤ → Moments
 with_moment Skipped moment = One moment
 with_moment (One m) moment = Repeated m moment
-with_moment (Repeated m n) moment = Repeated m n
+with_moment (Repeated m n) moment = Several m n moment
+with_moment (Several m n o) moment = Several m n o
 
 -- the moment at which a clock with the offset after that many steps shows the reading was added, if it lies there
 pub data IsTaken (first : ℤ) (steps : List Step) (reading : ℤ) (count : ℕ) (found : Moments) (result : Moments) : Type 0 where

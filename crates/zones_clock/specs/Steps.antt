@@ -1,6 +1,6 @@
 -- A clock whose distance from UTC changes in steps.
-use Rattle.std.specs.Prelude.{◌≡◌, ℕ, zero, suc, ◌<◌, ◌+◌, ℤ, pos, negsuc, ◌<ℤ◌, int_lt, get_or, length, List, [], ◌∷◌, if◌then◌else◌, drop, not, ◌==◌}
-use Rattle.std.specs.List.{take_while}
+use Rattle.std.specs.Prelude.{◌≡◌, ℕ, zero, suc, ◌<◌, ◌+◌, ◌&&◌, Bool, ℤ, pos, negsuc, ◌<ℤ◌, int_lt, nat_le, get_or, length, List, [], ◌∷◌, if◌then◌else◌, drop, not, ◌==◌, bytes_eq}
+use Rattle.std.specs.List.{list_any, range_with_len, take_while}
 use Rattle.zones_clock.specs.declared.zone.Step.{Step}
 
 -- an offset is less than 26 hours, on either side
@@ -52,3 +52,7 @@ name_place_after name steps (suc count) = (step_at steps count).name
 -- the abbreviation at a place: the letters from there up to the next byte 0, or up to the end
 abbrev pub name_in : List ℕ → ℕ → List ℕ
 name_in letters place = take_while (λ byte. not (byte == 0)) (drop place letters)
+
+-- a word is one of the zone's abbreviations, which have three bytes or more: it is that of a place (RFC 9636, section 3.2)
+unfoldable pub is_name : List ℕ → List ℕ → Bool
+is_name letters word = nat_le 3 (length word) && list_any (λ place. bytes_eq (name_in letters place) word) (range_with_len 0 (length letters))

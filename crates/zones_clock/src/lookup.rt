@@ -13,7 +13,8 @@ fn with_moment(found: Moments, moment: i64) -> Moments
     match found {
         Moments::Skipped => Moments::One(moment),
         Moments::One(first) => Moments::Repeated(first, moment),
-        Moments::Repeated(first, second) => Moments::Repeated(first, second),
+        Moments::Repeated(first, second) => Moments::Several(first, second, moment),
+        Moments::Several(first, second, third) => Moments::Several(first, second, third),
     }
 }
 
@@ -114,7 +115,8 @@ impl Zone {
 
     /// How many seconds the clock is ahead of UTC at a moment, given in seconds since 1970-01-01T00:00:00Z.
     pub fn offset_at(&self, moment: i64) -> i32
-        ensures { result ≡ offset_at self.now.first self.now.steps.items moment }
+        ensures value { result ≡ offset_at self.now.first self.now.steps.items moment }
+        ensures bound { IsOffset result }
     {
         self.offset_after(self.count_begun(moment))
     }

@@ -1,7 +1,7 @@
 //! The abbreviations that a zone's clock has, as `CET` and `CEST`.
-ghost use Rattle.std.specs.Prelude.{◌≡◌, ◌≤◌, ◌==◌, not, drop, length, vec_len};
-ghost use Rattle.std.specs.List.{take_while};
-ghost use Rattle.zones_clock.specs.Steps.{name_place_at, name_place_after, name_in};
+ghost use Rattle.std.specs.Prelude.{◌≡◌, ◌≤◌, ◌==◌, not, bytes_eq, drop, length, vec_len};
+ghost use Rattle.std.specs.List.{list_any, range_with_len, take_while};
+ghost use Rattle.zones_clock.specs.Steps.{is_name, name_place_at, name_place_after, name_in};
 
 use crate::zone::Zone;
 
@@ -31,6 +31,20 @@ fn name_in(letters: &[u8], place: usize) -> &[u8]
     &rest[..count_letters(rest)]
 }
 
+// Whether a word is the abbreviation of a place.
+#[tactic(auto, using(crate::proofs::NameLemmas::any_more, crate::proofs::NameLemmas::any_none))]
+fn is_name_in(letters: &[u8], word: &[u8]) -> bool
+    ensures { result ≡ list_any (λ place. bytes_eq (name_in letters.now place) word.now)
+        (range_with_len 0 (length letters.now)) }
+{
+    for place in 0..letters.len() {
+        if name_in(letters, place) == word {
+            return true;
+        }
+    }
+    false
+}
+
 impl Zone {
     // The place of the abbreviation after so many steps.
     fn name_place_after(&self, count: usize) -> u16
@@ -52,5 +66,12 @@ impl Zone {
     {
         let place = self.name_place_after(self.count_begun(moment));
         name_in(&self.letters, usize::from(place))
+    }
+    /// Whether a word is one of the zone's abbreviations, which have three bytes or more.
+    #[tactic(auto, using(std::proofs::lemmas::Bool::Decides::nat_tests), unfolding(crate::specs::Steps::is_name))]
+    pub fn is_name(&self, word: &[u8]) -> bool
+        ensures { result ≡ is_name self.now.letters.items word.now }
+    {
+        word.len() >= 3 && is_name_in(&self.letters, word)
     }
 }

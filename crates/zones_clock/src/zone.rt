@@ -34,6 +34,8 @@ pub enum Moments {
     Skipped,
     /// There is exactly one.
     One(i64),
-    /// There are several: the clock was put back over the reading. These are two of them, the earlier first.
+    /// There are two, the earlier first: the clock was put back over the reading.
     Repeated(i64, i64),
+    /// There are three or more: the clock was put back over the reading more than once. These are the first three.
+    Several(i64, i64, i64),
 }

@@ -61,6 +61,7 @@ fn answer_reading<W: Write>(out: &mut W, zone: &Zone, reading: i64) -> io::Resul
         Moments::Skipped => writeln!(out, "skipped"),
         Moments::One(moment) => writeln!(out, "one {moment}"),
         Moments::Repeated(first, second) => writeln!(out, "repeated {first} {second}"),
+        Moments::Several(first, second, _) => writeln!(out, "repeated {first} {second}"),
     }
 }
 

@@ -4,17 +4,20 @@ ghost use Rattle.instants_prefixes.specs.DateSource.{grammar_in};
 ghost use Rattle.instants_timeline.specs.Place.{place_text, shown_or_refused};
 ghost use Rattle.instants_timeline.specs.Settings.{setting_of};
 ghost use Rattle.instants_lines.specs.Lacking.{first_lacking};
-ghost use Rattle.instants_lines.specs.Showing.{limit_in, setting_in};
+ghost use Rattle.instants_lines.specs.Dates.{date_in};
+ghost use Rattle.instants_lines.specs.Showing.{given_of, limit_in, search_in, setting_in};
 
 use crate::date_sources::DateSources;
+use crate::known::Known;
 use crate::lacking::Lacking;
 use datetime_types::OffsetDateTime;
 use instants_answers::{Answer, write_fields};
-use instants_found::Finder;
+use instants_found::{Finder, Finding};
 use instants_prefixes::{DateSource, Given};
 use instants_sources::Named;
 use instants_timeline::{Timeline, answer_moment};
 use std::alloc::{AllocError, Global};
+use zones_clock::Zone;
 
 impl<'a> DateSources<'a> {
     /// Looks for the sources of a timeline, in order, at so many first places of a line, and shows moments as it does.
@@ -33,6 +36,14 @@ impl<'a> DateSources<'a> {
             assumed,
             target,
         })
+    }
+
+    /// The date of a line, with what is given on the clock of a zone.
+    pub(crate) fn find(&self, known: Known, zone: Option<&Zone>, line: &[u8]) -> Option<Finding>
+        ensures { result ≡ date_in (search_in self.now (given_of known zone.entry)) line.now }
+    {
+        let given = known.on(zone);
+        self.finder.find(&given, line)
     }
 
     // Writes a moment as an answer, in place of what that held. Of most dates the fields are written.

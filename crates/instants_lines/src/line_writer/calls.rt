@@ -5,7 +5,7 @@ ghost use Rattle.instants_found.specs.Found.{looked_at};
 ghost use Rattle.instants_found.specs.Starts.{HasNoDate};
 ghost use Rattle.instants_found.specs.Within.{IsWithin};
 ghost use Rattle.instants_found.specs.declared.found.Finding.TheVariants.{Doubtful, There};
-ghost use Rattle.instants_lines.specs.Showing.{search_in};
+ghost use Rattle.instants_lines.specs.Showing.{given_of, search_in};
 ghost use Rattle.instants_lines.specs.Dates.{doubt, key_of_date, key_or, replaced, with_date, with_date_time, place_of_date};
 ghost use Rattle.instants_lines.specs.Going.{below, below_by, beginning, depth, finding_in, given_below, goes_on, is_carry, keyed, label_prefix};
 ghost use Rattle.instants_lines.specs.Located.{located};
@@ -14,15 +14,18 @@ ghost use Rattle.instants_lines.specs.Wrote.{Wrote};
 
 use crate::date_sources::DateSources;
 use crate::depth::depth;
+use crate::known::Known;
 use crate::line_writer::LineWriter;
 use crate::located::write_finding;
 use crate::parts::{tabbed, write_keyed, write_labelled, write_three};
+use calendar::UtcOffset;
 use instants_answers::{Answer, rfc3339_line};
 use instants_found::{Finding, Found};
 use instants_lines_words::Mode;
 use instants_prefixes::{Given, Years};
 use instants_stream::{ByteWriter, DeviceFailed};
 use instants_timeline::shown_at;
+use zones_clock::Zone;
 
 impl<'a, 'b> LineWriter<'a, 'b> {
     /// At the beginning a line without a date takes `! none`.
@@ -30,23 +33,33 @@ impl<'a, 'b> LineWriter<'a, 'b> {
         mode: Mode,
         label: Option<&'a str>,
         dates: &'a DateSources<'b>,
-        given: Given,
+        known: Known,
+        zone: Option<&'a Zone>,
     ) -> LineWriter<'a, 'b>
         ensures { going_of result ≡ beginning mode (option_map (λ text. text.now) label.entry)
-            (search_in dates.now given) }
+            (search_in dates.now (given_of known zone.entry)) }
     {
         let mut key = Answer::new();
         key.push_bytes(b"! none");
         LineWriter {
             mode,
             dates,
-            given,
+            known,
+            zone,
             label,
             key,
             tabbed: tabbed(key),
             storage: Answer::new(),
             indent: None,
         }
+    }
+
+    // What is given for dates that lack it.
+    #[inline(always)]
+    fn given(&self) -> Given<'a>
+        ensures { result ≡ (going_of self.now).search.given }
+    {
+        self.known.on(self.zone)
     }
 
     // Whether a line goes on with what the last one with a date says.
@@ -74,7 +87,8 @@ impl<'a, 'b> LineWriter<'a, 'b> {
             *self = LineWriter {
                 mode: self.mode,
                 dates: self.dates,
-                given: self.given,
+                known: self.known,
+                zone: self.zone,
                 label: self.label,
                 key: self.storage,
                 tabbed: tabbed(self.storage),
@@ -91,7 +105,7 @@ impl<'a, 'b> LineWriter<'a, 'b> {
         if self.goes_on(line) {
             return None;
         }
-        self.dates.finder.find(&self.given, line)
+        self.dates.find(self.known, self.zone, line)
     }
 
     // Keeps the moment of a date, where a year is given.
@@ -104,13 +118,17 @@ impl<'a, 'b> LineWriter<'a, 'b> {
         } }
         ensures storage { self.new.storage ≡ self.old.storage }
     {
-        if let Years::Unknown = self.given.years {
+        if let Years::Unknown = self.known.years {
             return;
         }
-        self.given = Given {
-            offset: self.given.offset,
-            years: Years::Near(date.moment.moment()),
-            time: self.given.time,
+        let above = match self.zone {
+            Some(_) => date.moment.moment().replace_offset(UtcOffset::UTC),
+            None => date.moment.moment(),
+        };
+        self.known = Known {
+            offset: self.known.offset,
+            years: Years::Near(above),
+            time: self.known.time,
         };
     }
 
@@ -208,7 +226,7 @@ impl<'a, 'b> LineWriter<'a, 'b> {
         ensures next { IfSome result (λ end. OnOk end (going_of self.new ≡ below (going_of self.old) line.now)) }
         ensures same { IfNone result ((going_of self.new ≡ going_of self.old) × (writer.new ≡ writer.old)) }
     {
-        let Some(date) = self.dates.finder.plain_date(&self.given, line, first) else {
+        let Some(date) = self.dates.finder.plain_date(&self.given(), line, first) else {
             return None;
         };
         Some(self.write_dated(&date, line, writer))
@@ -232,7 +250,7 @@ impl<'a, 'b> LineWriter<'a, 'b> {
             (keyed (going_of self.old) line.now ++ line_feed ∷ []) }
         ensures next { OnOk result (going_of self.new ≡ below (going_of self.old) line.now) }
     {
-        let finding = self.dates.finder.find_from(&self.given, line, first);
+        let finding = self.dates.finder.find_from(&self.given(), line, first);
         let key = tabbed(self.take_key(line, finding));
         write_keyed(writer, &key, &self.label, line)
     }
@@ -339,7 +357,7 @@ impl<'a, 'b> LineWriter<'a, 'b> {
             (replaced (going_of self.old).search line.now) }
         ensures next { OnOk result (going_of self.new ≡ below (going_of self.old) line.now) }
     {
-        let finding = self.dates.finder.find(&self.given, line);
+        let finding = self.dates.finder.find(&self.given(), line);
         self.write_by(&finding, line, writer)?;
         self.keep_finding(&finding);
         Ok(())
@@ -360,8 +378,8 @@ impl<'a, 'b> LineWriter<'a, 'b> {
             (located (going_of self.old).search line.now) }
         ensures next { OnOk result (going_of self.new ≡ below (going_of self.old) line.now) }
     {
-        let finding = self.dates.finder.find(&self.given, line);
-        write_finding(self.dates, &self.given, line, &finding, writer)?;
+        let finding = self.dates.finder.find(&self.given(), line);
+        write_finding(self.dates, &self.given(), line, &finding, writer)?;
         self.keep_finding(&finding);
         Ok(())
     }

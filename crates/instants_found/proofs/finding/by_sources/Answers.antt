@@ -1,5 +1,5 @@
-use Rattle.std.proofs.Common.{◌≡◌, ◌+◌, length, map, Bool, true, false, Some, None, sym, ap, ◌∙◌, arith}
-use Rattle.std.specs.Prelude.{is_some, not, option_map, if◌then◌else◌}
+use Rattle.std.proofs.Common.{◌+◌, length, map, Bool, false, Some, None, sym, ap, ◌∙◌, arith}
+use Rattle.std.specs.Prelude.{not, option_map, if◌then◌else◌}
 use Rattle.instants_prefixes.specs.DateSource.{grammar_in}
 use Rattle.instants_found.specs.Candidate.{candidate_with, found_at}
 use Rattle.instants_found.specs.Found.{finding}
@@ -32,8 +32,8 @@ with_others-requires-clause-first c =
     let source = c.index-sources-number.result in
     one_more c.args.given.now c.args.line.now c.args.start c.args.sources.now c.loop-number.number source None (Some c.candidate_with-one.result) (omega arith) c.index-sources-number.is c.loop-number.invariant
     (ap Some c.candidate_with-one.ensures
-    ∙ made c.args.given.now c.args.line.now c.args.start c.loop-number.number (grammar_in source) c.in-Some.prefix c.why-doubt.result (rw c.after-bytes.ensures at c.in-Some.ensures.prefix)
-    (sym c.if-not-is_read.false ∙ c.is_read.ensures) c.why-doubt.ensures)
+    ∙ made c.args.given.now c.args.line.now c.args.start c.loop-number.number (grammar_in source) c.in-Some.prefix c.of-date.result c.why-doubt.result (rw c.after-bytes.ensures at c.in-Some.ensures.prefix)
+    (sym c.if-not-is_read.false ∙ c.is_read.ensures) c.of-date.ensures.is c.why-doubt.ensures)
 
 pub returns-then-is_some : goal.returns-then-is_some
 returns-then-is_some c =
@@ -43,8 +43,9 @@ returns-then-is_some c =
     let sources = c.args.sources.now in
     let number = c.loop-number.number in
     let source = c.index-sources-number.result in
-    let prefix = c.in-Some.prefix in
-    let one = made given line start number (grammar_in source) prefix c.why-doubt.result (rw c.after-bytes.ensures at c.in-Some.ensures.prefix) (sym c.if-not-is_read.false ∙ c.is_read.ensures) c.why-doubt.ensures in
+    let prefix = c.of-date.result.prefix in
+    let one =
+    made given line start number (grammar_in source) c.in-Some.prefix c.of-date.result c.why-doubt.result (rw c.after-bytes.ensures at c.in-Some.ensures.prefix) (sym c.if-not-is_read.false ∙ c.is_read.ensures) c.of-date.ensures.is c.why-doubt.ensures in
     let first = one_more given line start sources number source None (Some (candidate_with line start number prefix c.why-doubt.result)) (omega arith) c.index-sources-number.is c.loop-number.invariant one in
     let others = none_after given line start (map grammar_in sources) (number + 1) (length sources) (omega arith) (rw c.after-bytes.ensures at (c.others_may_read.ensures c.if-others_may_read.false)) in
     ap (λ (b : Bool). Some (if not b then There (found_at start number prefix) else Doubtful start)) (sym c.if-is_some.true ∙ c.is_some.ensures) ∙ ap (option_map (finding start)) (first ∙ sym others)
@@ -57,8 +58,9 @@ returns-in-loop-number c =
     let sources = c.args.sources.now in
     let number = c.loop-number.number in
     let source = c.index-sources-number.result in
-    let prefix = c.in-Some.prefix in
-    let one = made given line start number (grammar_in source) prefix c.why-doubt.result (rw c.after-bytes.ensures at c.in-Some.ensures.prefix) (sym c.if-not-is_read.false ∙ c.is_read.ensures) c.why-doubt.ensures in
+    let prefix = c.of-date.result.prefix in
+    let one =
+    made given line start number (grammar_in source) c.in-Some.prefix c.of-date.result c.why-doubt.result (rw c.after-bytes.ensures at c.in-Some.ensures.prefix) (sym c.if-not-is_read.false ∙ c.is_read.ensures) c.of-date.ensures.is c.why-doubt.ensures in
     let first = one_more given line start sources number source None (Some (candidate_with line start number prefix c.why-doubt.result)) (omega arith) c.index-sources-number.is c.loop-number.invariant one in
     let others = none_after given line start (map grammar_in sources) (number + 1) (length sources) (omega arith) (rw c.after-bytes.ensures at (c.others_may_read.ensures c.if-others_may_read.false)) in
     ap (λ (d : Found). Some (There d)) c.found_at.ensures

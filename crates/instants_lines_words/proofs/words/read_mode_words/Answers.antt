@@ -10,10 +10,16 @@ use Rattle.instants_lines_words.proofs.words.read_mode_words.Goals.{After-is_emp
 some : (c : After-is_empty) → c.is_empty.result ≡ false → 0 < length (map (λ word. word.now) c.part-parted.result.sources.now)
 some c there_are = rw (length-map c.part-parted.result.sources.now (λ word. word.now)) (grind (arith, c.is_empty.ensures, there_are))
 
+pub returns-in-Err-clause-err : goal.returns-in-Err-clause-err
+returns-in-Err-clause-err c =
+    let is = c.part-parted.ensures in
+    by_parts _ _ _ _ _ _ _ _ _ _ _ _ _ (ap (map (λ word. word.now)) c.in-Some.ensures.cases.0) (sym c.mode_named.ensures ∙ c.in-Some-mode_named.is) is.target is.assumed is.limit is.whole is.zone is.year is.time is.label is.sources
+    ∙ rw (some_there _ (some (goal.at.returns-in-Err-clause-err c).After-is_empty c.if-is_empty.false), (there _ c.in_default-wrong_setting.ensures).1, ← c.in-Err.ensures) refl
+
 pub returns-in-Some-wrong_source-clause-err : goal.returns-in-Some-wrong_source-clause-err
 returns-in-Some-wrong_source-clause-err c =
     let is = c.part-parted.ensures in
-    by_parts _ _ _ _ _ _ _ _ _ _ _ _ (ap (map (λ word. word.now)) c.in-Some.ensures.cases.0) (sym c.mode_named.ensures ∙ c.in-Some-mode_named.is) is.target is.assumed is.limit is.whole is.year is.time is.label is.sources
+    by_parts _ _ _ _ _ _ _ _ _ _ _ _ _ (ap (map (λ word. word.now)) c.in-Some.ensures.cases.0) (sym c.mode_named.ensures ∙ c.in-Some-mode_named.is) is.target is.assumed is.limit is.whole is.zone is.year is.time is.label is.sources
     ∙ rw (some_there _ (some (goal.at.returns-in-Some-wrong_source-clause-err c).After-is_empty c.if-is_empty.false), (there _ c.in_default-wrong_setting.ensures).1, ← c.in-Ok.ensures, wrong_there _ _ c.in-Some-wrong_source.ensures, c.first_wrong.ensures) refl
 
 pub returns-in-Ok-fill-clause-ok : goal.returns-in-Ok-fill-clause-ok
@@ -25,6 +31,6 @@ returns-in-Ok-fill-clause-ok c =
     let all = there _ c.in_default-wrong_source.ensures in (
       record { target = setting.0.0; assumed = setting.0.1; limit = setting.0.2; sources = all.0 },
       rw c.in-Ok-fill.ensures (right parted.target.now parted.assumed.now parted.limit.now (map (λ word. word.now) parted.sources.now) setting.0 all.0 are setting.1 all.1),
-      by_parts _ _ _ _ _ _ _ _ _ _ _ _ (ap (map (λ word. word.now)) c.in-Some.ensures.cases.0) (sym c.mode_named.ensures ∙ c.in-Some-mode_named.is) is.target is.assumed is.limit is.whole is.year is.time is.label is.sources
+      by_parts _ _ _ _ _ _ _ _ _ _ _ _ _ (ap (map (λ word. word.now)) c.in-Some.ensures.cases.0) (sym c.mode_named.ensures ∙ c.in-Some-mode_named.is) is.target is.assumed is.limit is.whole is.zone is.year is.time is.label is.sources
           ∙ all_right _ _ _ _ setting.0 _ all.0 (some_there _ are) setting.1 (sym c.in-Ok.ensures) (ap (result_map_both (λ all. all) (first_wrong parted.is_whole)) all.1),
     )

@@ -1,4 +1,4 @@
-use Rattle.std.proofs.Common.{rules, arith}
+use Rattle.std.proofs.Common.{arith}
 use Rattle.std.proofs.lemmas.Bool.Decides.{nat_tests}
 use Rattle.instants_prefixes.proofs.RuledOut.{four_digits_due, digit_due}
 use Rattle.instants_prefixes.proofs.ruled_out.lacks_digit.Goals as goal

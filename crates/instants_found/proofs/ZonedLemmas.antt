@@ -1,0 +1,78 @@
+-- A date on the clock of a zone lies where the date that was read lies.
+use Rattle.std.proofs.Common.{◌≡◌, inl, inr, ap, ◌∙◌, ◌-ℤ◌, ◌+◌, Bool, true, false, ℤ, ℕ, List, Option, Some, None, Ok, refl, sym, arith, if◌then◌else◌}
+use Rattle.std.specs.Prelude.{nat_lt, unsigned_abs}
+use Rattle.std.proofs.lemmas.Bool.Decides.{nat_tests}
+use Rattle.std.proofs.lemmas.Int.{ints}
+use Rattle.instants_edges.specs.Beside.{word_after}
+use Rattle.instants_found.specs.declared.doubt.Doubt.TheVariants.{AnotherOffset}
+use Rattle.calendar.specs.UtcOffset.{offset_of_seconds}
+use Rattle.zones_clock.specs.Steps.{IsOffset}
+use Rattle.std.specs.Borrow.{Bor}
+use Rattle.zones_clock.specs.declared.zone.Zone.{Zone}
+use Rattle.zones_clock.specs.declared.zone.Moments.{Moments}
+use Rattle.zones_clock.specs.declared.zone.Moments.TheVariants.{Skipped, One, Repeated, Several}
+use Rattle.zones_clock.specs.AllMoments.{moments_of}
+use Rattle.instants_prefixes.specs.DateSource.{IsWithin}
+use Rattle.instants_prefixes.specs.declared.prefix.Prefix.{Prefix}
+use Rattle.zones_clock.specs.Clock.{AreTheMoments}
+use Rattle.zones_clock.proofs.ClockLemmas.{the_moments}
+use Rattle.zones_clock.proofs.MomentLemmas.{answer_listed}
+use Rattle.instants_found.specs.declared.zoned.Settled.{Settled}
+use Rattle.instants_found.specs.Zoned.{EachIsAtTheMoment, IsTheMoment, ahead_by, at_offset, by_moments, has_name, chosen, is_said, reading, settled_by}
+
+chosen_within : (bytes : List ℕ) (prefix : Prefix) (first second : ℤ) (one other : Bool) → IsWithin bytes prefix → IsWithin bytes (chosen prefix first second one other).prefix
+chosen_within bytes prefix first second true true within = within
+chosen_within bytes prefix first second true false within = record { begins = within.begins; ends = within.ends; zone = within.zone; all = within.all }
+chosen_within bytes prefix first second false true within = record { begins = within.begins; ends = within.ends; zone = within.zone; all = within.all }
+chosen_within bytes prefix first second false false within = within
+
+moments_within : (bytes : List ℕ) (zone : Zone) (line : List ℕ) (ends : ℕ) (prefix : Prefix) (moments : Moments) → IsWithin bytes prefix → IsWithin bytes (by_moments zone line ends prefix moments).prefix
+moments_within bytes zone line ends prefix Skipped within = within
+moments_within bytes zone line ends prefix (One moment) within = record { begins = within.begins; ends = within.ends; zone = within.zone; all = within.all }
+moments_within bytes zone line ends prefix (Repeated first second) within = chosen_within bytes prefix first second _ _ within
+moments_within bytes zone line ends prefix (Several first second third) within = within
+
+pub settled_within : (bytes : List ℕ) (zone : Option (Bor Zone)) (offset : Option ℤ) (takes : Bool) (line : List ℕ) (start : ℕ) (prefix : Prefix) → IsWithin bytes prefix → IsWithin bytes (settled_by zone offset takes line start prefix).prefix
+settled_within bytes None offset takes line start prefix within = within
+settled_within bytes (Some zone) offset true line start prefix within = moments_within bytes zone.now line (start + prefix.ends) prefix (moments_of zone.now.first zone.now.steps.items (reading prefix.moment)) within
+settled_within bytes (Some zone) offset false line start prefix within = within
+
+-- an offset of a zone's clock is one of the calendar
+pub of_zone : (offset : ℤ) → IsOffset offset → offset_of_seconds offset ≡ Ok offset
+unfolding offset_of_seconds
+of_zone offset is =
+    let small : nat_lt 93_599 (unsigned_abs offset) ≡ false = grind (arith, nat_tests) in
+    rw small refl
+
+-- the only moment, by how far the clock is ahead there; numbers may have gone through a call
+pub at_only_is : (zone : Zone) (line : List ℕ) (ends : ℕ) (prefix : Prefix) (ahead passed moment shown : ℤ) (date : Settled) → passed ≡ ahead → shown ≡ reading prefix.moment → moment ≡ reading prefix.moment -ℤ ahead → moments_of zone.first zone.steps.items shown ≡ One (shown -ℤ ahead)
+    → date ≡ ahead_by prefix passed (if has_name zone (word_after line ends) moment then None else Some AnotherOffset) → date ≡ by_moments zone line ends prefix (moments_of zone.first zone.steps.items (reading prefix.moment))
+at_only_is zone line ends prefix ahead passed moment shown date through shows is only e =
+    let offset : passed ≡ reading prefix.moment -ℤ moment = omega (arith, ints, through, is) in
+    let same : One moment ≡ moments_of zone.first zone.steps.items (reading prefix.moment) =
+    ap One (let m : moment ≡ shown -ℤ ahead = omega (arith, ints, is, shows) in m) ∙ sym only ∙ ap (moments_of zone.first zone.steps.items) shows in
+    e ∙ ap (λ (o : ℤ). ahead_by prefix o (if has_name zone (word_after line ends) moment then None else Some AnotherOffset)) offset ∙ ap (by_moments zone line ends prefix) same
+
+-- ---- the moment of a date
+
+abbrev AtTheMoment : Zone → List ℕ → ℕ → Prefix → Settled → Type 0
+AtTheMoment zone line ends prefix date = (moment : ℤ) × (date.prefix ≡ at_offset prefix (reading prefix.moment -ℤ moment)) × IsTheMoment zone line ends prefix moment
+
+chosen_moment : (zone : Zone) (line : List ℕ) (ends : ℕ) (prefix : Prefix) (m n : ℤ) (one other : Bool) → is_said zone line ends m ≡ one → is_said zone line ends n ≡ other
+    → AreTheMoments zone.first zone.steps.items (reading prefix.moment) (Repeated m n) → (chosen prefix m n one other).doubt ≡ None → AtTheMoment zone line ends prefix (chosen prefix m n one other)
+chosen_moment zone line ends prefix m n true false e f h none =
+    (m, refl, record { shown = h.0.0; others = λ t s. elim (h.1 t s) [ inl same ↦ inl same | inr same ↦ inr (ap (is_said zone line ends) same ∙ f) ] })
+chosen_moment zone line ends prefix m n false true e f h none =
+    (n, refl, record { shown = h.0.1; others = λ t s. elim (h.1 t s) [ inl same ↦ inr (ap (is_said zone line ends) same ∙ e) | inr same ↦ inl same ] })
+chosen_moment zone line ends prefix m n true true e f h none = absurd cc
+chosen_moment zone line ends prefix m n false false e f h none = absurd cc
+
+the_moment : (zone : Zone) (line : List ℕ) (ends : ℕ) (prefix : Prefix) (moments : Moments) → AreTheMoments zone.first zone.steps.items (reading prefix.moment) moments
+    → (by_moments zone line ends prefix moments).doubt ≡ None → AtTheMoment zone line ends prefix (by_moments zone line ends prefix moments)
+the_moment zone line ends prefix Skipped h none = absurd cc
+the_moment zone line ends prefix (One m) h none = (m, refl, record { shown = h.0; others = λ t s. inl (h.1 t s) })
+the_moment zone line ends prefix (Repeated m n) h none = chosen_moment zone line ends prefix m n _ _ refl refl h none
+the_moment zone line ends prefix (Several m n o) h none = absurd cc
+
+pub each_at_the_moment : EachIsAtTheMoment
+each_at_the_moment zone line ends prefix none = the_moment zone line ends prefix _ (the_moments zone.first zone.steps.items (reading prefix.moment) _ (answer_listed zone.first zone.steps.items (reading prefix.moment))) none

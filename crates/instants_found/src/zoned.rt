@@ -1,0 +1,255 @@
+//! Dates that say no offset, on the clock of a zone.
+ghost use Rattle.std.specs.Prelude.{◌≡◌, ◌<◌, ◌≤◌, ◌+◌, ℕ, List, Some, None, drop, length, if◌then◌else◌};
+ghost use Rattle.instants_prefixes.specs.DateSource.{grammar_in, IsWithin};
+ghost use Rattle.instants_prefixes.specs.Reading.{record_at};
+ghost use Rattle.instants_edges.specs.Beside.{word_after};
+ghost use Rattle.zones_clock.specs.AllMoments.{moments_of};
+ghost use Rattle.zones_clock.specs.Steps as Steps;
+ghost use Rattle.instants_found.specs.Zoned as Zoned;
+ghost use Rattle.instants_found.specs.declared.doubt.Doubt.TheVariants.{AnotherOffset};
+
+use crate::beside::after;
+use crate::doubt::Doubt;
+use calendar::UtcOffset;
+use datetime_types::OffsetDateTime;
+use instants_edges::{offset_said, word_after};
+use instants_prefixes::{DateSource, Given, Prefix, lacks_offset};
+use zones_clock::{Moments, Zone};
+
+/// A date that was read, the offset that is assumed for it, and why it has none, if that is so.
+#[derive(Drop)]
+pub(crate) struct Settled {
+    pub(crate) prefix: Prefix,
+    pub(crate) offset: Option<UtcOffset>,
+    pub(crate) doubt: Option<Doubt>,
+}
+
+// Whether what a source read takes the offset that is given. What was read is asked only where the source may say an offset.
+fn takes_offset(source: &DateSource<'_>, bytes: &[u8]) -> bool
+    ensures { result ≡ Zoned.takes_offset (record_at (grammar_in source.now) bytes.now) }
+{
+    if source.is_local() {
+        return true;
+    }
+    let read = source.record(bytes);
+    lacks_offset(&read) && read.unix_timestamp_nanos().is_none()
+}
+
+// What the clock of a date shows, in seconds since it showed 1970-01-01T00:00:00.
+#[inline(always)]
+fn reading(date: OffsetDateTime) -> i64
+    ensures value { result ≡ Zoned.reading date }
+    ensures bound { Steps.IsReading result }
+{
+    date.replace_offset(UtcOffset::UTC).unix_timestamp()
+}
+
+// An offset of a zone's clock, in seconds, as one of the calendar.
+fn calendar_offset(ahead: i32) -> UtcOffset
+    requires { Steps.IsOffset ahead }
+    ensures { result ≡ ahead }
+{
+    match UtcOffset::from_whole_seconds(ahead) {
+        Ok(offset) => offset,
+        Err(_) => unreachable!(),
+    }
+}
+
+// Whether the clock is ahead at a moment by an offset, if one is said.
+fn has_offset(zone: &Zone, said: Option<i32>, moment: i64) -> bool
+    ensures { result ≡ Zoned.has_offset zone.now said moment }
+{
+    match said {
+        Some(offset) => offset == zone.offset_at(moment),
+        None => true,
+    }
+}
+
+// Whether the clock has an abbreviation at a moment, if it is one of the zone's.
+fn has_name(zone: &Zone, word: &[u8], moment: i64) -> bool
+    ensures { result ≡ Zoned.has_name zone.now word.now moment }
+{
+    !zone.is_name(word) || zone.name_at(moment) == word
+}
+
+// Whether the line says after a date what the clock has at a moment.
+fn is_said(zone: &Zone, line: &[u8], ends: usize, moment: i64) -> bool
+    requires { ends ≤ length line.now }
+    ensures { result ≡ Zoned.is_said zone.now line.now ends moment }
+{
+    has_name(zone, word_after(line, ends), moment)
+        && has_offset(zone, offset_said(line, ends), moment)
+}
+
+impl Settled {
+    // A date on a clock that is so many seconds ahead of UTC.
+    fn ahead_by(prefix: Prefix, ahead: i32, doubt: Option<Doubt>) -> Settled
+        requires { Steps.IsOffset ahead }
+        ensures { result ≡ Zoned.ahead_by prefix ahead doubt }
+    {
+        let offset = calendar_offset(ahead);
+        let moment = prefix.moment.replace_offset(offset);
+        Settled {
+            prefix: Prefix { moment, ..prefix },
+            offset: Some(offset),
+            doubt,
+        }
+    }
+
+    // A date at a moment at which the clock of a zone shows it.
+    fn at(zone: &Zone, prefix: Prefix, moment: i64, doubt: Option<Doubt>) -> Settled
+        requires { Zoned.ShowsAt zone.now prefix moment }
+        ensures { result ≡ Zoned.at_moment prefix moment doubt }
+    {
+        Settled::ahead_by(prefix, zone.offset_at(moment), doubt)
+    }
+
+    // A date at the only moment at which the clock of a zone, which is so many seconds ahead of UTC there, shows it.
+    fn at_only(
+        zone: &Zone,
+        line: &[u8],
+        ends: usize,
+        prefix: Prefix,
+        ahead: i32,
+        moment: i64,
+    ) -> Settled
+        requires ends { ends ≤ length line.now }
+        requires offset { Steps.IsOffset ahead }
+        ensures { result ≡ Zoned.ahead_by prefix ahead
+            (if Zoned.has_name zone.now (word_after line.now ends) moment then None else Some AnotherOffset) }
+    {
+        let doubt = if has_name(zone, word_after(line, ends), moment) {
+            None
+        } else {
+            Some(Doubt::AnotherOffset)
+        };
+        Settled::ahead_by(prefix, ahead, doubt)
+    }
+
+    // A date at no moment.
+    fn nowhere(prefix: Prefix, doubt: Doubt) -> Settled
+        ensures { result ≡ Zoned.nowhere prefix doubt }
+    {
+        Settled {
+            prefix,
+            offset: None,
+            doubt: Some(doubt),
+        }
+    }
+
+    // Of two moments at which the clock shows a date the one of which the line says what it has there.
+    #[cold]
+    #[inline(never)]
+    fn chosen(
+        zone: &Zone,
+        line: &[u8],
+        ends: usize,
+        prefix: Prefix,
+        first: i64,
+        second: i64,
+    ) -> Settled
+        requires ends { ends ≤ length line.now }
+        requires first { Zoned.ShowsAt zone.now prefix first }
+        requires second { Zoned.ShowsAt zone.now prefix second }
+        ensures { result ≡ Zoned.chosen prefix first second
+            (Zoned.is_said zone.now line.now ends first) (Zoned.is_said zone.now line.now ends second) }
+    {
+        let (is_first, is_second) = (
+            is_said(zone, line, ends, first),
+            is_said(zone, line, ends, second),
+        );
+        match (is_first, is_second) {
+            (true, false) => Settled::at(zone, prefix, first, None),
+            (false, true) => Settled::at(zone, prefix, second, None),
+            (true, true) => Settled::nowhere(prefix, Doubt::Repeated),
+            (false, false) => Settled::nowhere(prefix, Doubt::AnotherOffset),
+        }
+    }
+
+    // A date within 26 hours of a step of the clock of a zone.
+    #[inline(never)]
+    fn near_step(zone: &Zone, line: &[u8], ends: usize, prefix: Prefix, shown: i64) -> Settled
+        requires ends { ends ≤ length line.now }
+        requires shown { shown ≡ Zoned.reading prefix.moment }
+        requires bound { Steps.IsReading shown }
+        ensures { result ≡ Zoned.by_moments zone.now line.now ends prefix
+            (moments_of zone.now.first zone.now.steps.items (Zoned.reading prefix.moment)) }
+    {
+        match zone.moments(shown) {
+            Moments::One(moment) => {
+                Settled::at_only(zone, line, ends, prefix, zone.offset_at(moment), moment)
+            }
+            Moments::Repeated(first, second) => {
+                Settled::chosen(zone, line, ends, prefix, first, second)
+            }
+            Moments::Skipped => Settled::nowhere(prefix, Doubt::Skipped),
+            Moments::Several(_, _, _) => Settled::nowhere(prefix, Doubt::Repeated),
+        }
+    }
+
+    // A date that takes an offset, on the clock of a zone.
+    fn on_clock(zone: &Zone, line: &[u8], ends: usize, prefix: Prefix) -> Settled
+        requires { ends ≤ length line.now }
+        ensures { result ≡ Zoned.by_moments zone.now line.now ends prefix
+            (moments_of zone.now.first zone.now.steps.items (Zoned.reading prefix.moment)) }
+    {
+        let shown = reading(prefix.moment.moment());
+        match zone.sure_offset(shown) {
+            Some(ahead) => {
+                let moment = shown - i64::from(ahead);
+                Settled::at_only(zone, line, ends, prefix, ahead, moment)
+            }
+            None => Settled::near_step(zone, line, ends, prefix, shown),
+        }
+    }
+
+    // A date on the clock of a zone, where it takes an offset.
+    #[inline(never)]
+    fn on_zone(
+        zone: &Zone,
+        source: &DateSource<'_>,
+        offset: Option<UtcOffset>,
+        line: &[u8],
+        start: usize,
+        prefix: Prefix,
+    ) -> Settled
+        requires within { start < length line.now }
+        requires ends { start + prefix.ends ≤ length line.now }
+        ensures { result ≡ Zoned.settled_by (Some zone.entry) offset
+            (Zoned.takes_offset (record_at (grammar_in source.now) (drop start line.now))) line.now start prefix }
+    {
+        if takes_offset(source, after(line, start)) {
+            return Settled::on_clock(zone, line, start + prefix.ends, prefix);
+        }
+        Settled {
+            prefix,
+            offset,
+            doubt: None,
+        }
+    }
+
+    /// The date of a prefix that a source reads at a place of a line, with the offset that is assumed for it.
+    #[inline(always)]
+    pub(crate) fn of(
+        source: &DateSource<'_>,
+        given: &Given,
+        line: &[u8],
+        start: usize,
+        prefix: Prefix,
+    ) -> Settled
+        requires within { start < length line.now }
+        requires ends { start + prefix.ends ≤ length line.now }
+        ensures is { result ≡ Zoned.settled given.now
+            (record_at (grammar_in source.now) (drop start line.now)) line.now start prefix }
+        ensures within { (b : List ℕ) → IsWithin b prefix → IsWithin b result.prefix }
+    {
+        match given.zone {
+            Some(zone) => Settled::on_zone(zone, source, given.offset, line, start, prefix),
+            None => Settled {
+                prefix,
+                offset: given.offset,
+                doubt: None,
+            },
+        }
+    }
+}
