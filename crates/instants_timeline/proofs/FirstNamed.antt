@@ -12,11 +12,9 @@ use Rattle.instants_sources.specs.Grammar.{Grammar, grammar_of}
 use Rattle.instants_sources.specs.declared.source.Source.{Source}
 use Rattle.instants_sources.proofs.Roads.{found_named}
 use Rattle.instants_sources.specs.Named.{named, IsDirect, IsNamedBy}
-use Rattle.instants_sources.specs.Planned.{IsPlanned}
-use Rattle.parsing_plan.specs.declared.plan.Plan.{Plan}
 use Rattle.instants_timeline.specs.Place.{Setting, or_named, first_named, place_of, place_text, shown_or_refused, answer_to}
 use Rattle.instants_faults.specs.Refusal.{refusal_of, refusal_text}
-use Rattle.instants_timeline.specs.FirstNamed.{HoldsAnswer, IsLedBy, IsLedByPlan, NamesFrom}
+use Rattle.instants_timeline.specs.FirstNamed.{HoldsAnswer, IsLedBy, NamesFrom}
 
 here : (o : Result Shown Fault) (others : Option Shown) (moment : Shown) → result_ok o ≡ Some moment → result_ok (or_named o others) ≡ Some moment
 here (Ok m) others moment e = e
@@ -138,7 +136,3 @@ unfolding first_named
 none_at_end setting line place end from =
     let over : drop place setting.sources ≡ [] = drop_all place setting.sources end in
     sym (rw over at from)
-
--- a description that comes first leads by its plan
-pub led_by_plan : (setting : Setting) (grammar : Grammar) (plan : Plan) → IsLedBy setting grammar → IsPlanned grammar plan → IsLedByPlan setting plan
-led_by_plan setting grammar plan first planned = record { grammar = grammar; first = first; planned = planned }

@@ -57,9 +57,6 @@ kept_first (Some g) refused = refl
 
 -- ---- the answer alone
 
-abbrev pub after : Option Fault → List Counted → Record → List ℕ → Answer
-after so_far cs r bytes = (still so_far cs r bytes).0
-
 pub goes_on : {X : Type 0} (l : Language) (t : X → Tree) (xs : List X) (i : ℕ) (x : X) (r next : Record) (bytes rest : List ℕ) (total : Answer) → i < length xs → x ≡ get_or xs i x → reading l (t x) r bytes ≡ Ok (next, rest) → total ≡ reading_of_all l (from t xs i) r bytes → total ≡ reading_of_all l (from t xs (i + 1)) next rest
 goes_on l t xs i x r next bytes rest total lt e read so_far = so_far ∙ ap (λ y. y.0) (all_on l t xs i x r next bytes rest lt e read)
 
@@ -68,9 +65,3 @@ stops l t xs i x r bytes fault total lt e read so_far = so_far ∙ ap (λ y. y.0
 
 pub ends : {X : Type 0} (l : Language) (t : X → Tree) (xs : List X) (i : ℕ) (r : Record) (bytes : List ℕ) (total : Answer) → length xs ≤ i → total ≡ reading_of_all l (from t xs i) r bytes → total ≡ Ok (r, bytes)
 ends l t xs i r bytes total le so_far = so_far ∙ ap (λ y. y.0) (all_end l t xs i r bytes le)
-
-pub after_refused : {X : Type 0} (l : Language) (t : X → Tree) (xs : List X) (i : ℕ) (x : X) (r : Record) (bytes : List ℕ) (so_far : Option Fault) (fault : Fault) (total : Answer) → i < length xs → x ≡ get_or xs i x → reading l (t x) r bytes ≡ Err fault → total ≡ after so_far (each_reads l (from t xs i)) r bytes → total ≡ after (Some (first_fault so_far fault)) (each_reads l (from t xs (i + 1))) r bytes
-after_refused l t xs i x r bytes so_far fault total lt e read is = is ∙ ap (λ y. y.0) (still_refused l t xs i x r bytes so_far fault lt e read)
-
-pub after_read : {X : Type 0} (l : Language) (t : X → Tree) (xs : List X) (i : ℕ) (x : X) (r : Record) (bytes : List ℕ) (so_far : Option Fault) (found : Record × List ℕ) (total : Answer) → i < length xs → x ≡ get_or xs i x → reading l (t x) r bytes ≡ Ok found → total ≡ after so_far (each_reads l (from t xs i)) r bytes → total ≡ Ok found
-after_read l t xs i x r bytes so_far found total lt e read is = is ∙ ap (λ y. y.0) (still_read l t xs i x r bytes so_far found lt e read)
