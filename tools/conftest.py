@@ -22,6 +22,8 @@ def pytest_addoption(parser: pytest.Parser) -> None:
     parser.addoption("--write", action="store_true", help="keep what the regression test of tools/try_postgres.py prints")
     parser.addoption("--document", metavar="FILE", action="append", help="a document, in place of those that tools/try_documents.py lists")
     parser.addoption("--rows", metavar="FILE", action="append", help="rows that tools/try_first_answer.py compares")
+    parser.addoption("--packages", metavar="FOLDER", help="the folder of the packages that tools/package.py made")
+    parser.addoption("--all-steps", action="store_true", help="also those steps of the workflow that take long")
     parser.addoption("--lines", type=int, metavar="N", help="how many mixed lines are tried, where there are such")
 
 

@@ -1,6 +1,7 @@
 """What tools/package.py makes: the folder that is packed, the archive, Debian's packages by debhelper, and the list of these."""
 
 import gzip
+import hashlib
 import os
 import pathlib
 import re
@@ -10,7 +11,7 @@ import sys
 import tarfile
 import tempfile
 from collections.abc import Mapping, Sequence
-from typing import IO, cast
+from typing import IO, NamedTuple, cast
 
 sys.dont_write_bytecode = True
 
@@ -36,6 +37,8 @@ SOURCES = ("c", "postgres", "rust", "sqlite")
 # What each package has: the licence, and the notice of whose code is in it. The crates for Rust have copies of their own.
 TERMS = ("LICENSE", "NOTICE")
 CRATES = tuple(ROOT / "bindings" / "rust" / it for it in ("sys", ""))
+# The file of the checksums.
+SUMS = "SHA256SUMS"
 
 
 class PackagingFailed(Exception):
@@ -129,7 +132,8 @@ def lay_out(top: pathlib.Path) -> None:
         run(["strip", "--strip-unneeded", "--remove-section=.comment", top / "bin" / name])
     put(ROOT / SCRIPT, top / "bin" / SCRIPT)
     for name in HELPERS:
-        put(ROOT / "tools" / name, top / "helpers" / name)
+        # (where the script looks for them, so that it runs in the archive's folder too)
+        put(ROOT / "tools" / name, top / "lib" / "instants" / name)
     for name in (build_library.ARCHIVE, build_library.SHARED):
         put(build_library.out() / name, top / "lib" / name)
     put(ROOT / "include" / "instants.h", top / "include" / "instants.h")
@@ -149,8 +153,10 @@ def settle(top: pathlib.Path, commit: Commit) -> None:
     for at, folders, names in os.walk(top, topdown=False):
         for name in [*names, *folders]:
             path = pathlib.Path(at, name)
-            path.chmod(0o755 if path.is_dir() or path.parent.name == "bin" or name == "rules" else 0o644)
-            os.utime(path, (commit.time, commit.time))
+            # (what a link leads to may be no part of the folder)
+            if not path.is_symlink():
+                path.chmod(0o755 if path.is_dir() or path.parent.name == "bin" or name == "rules" else 0o644)
+            os.utime(path, (commit.time, commit.time), follow_symlinks=False)
 
 
 def pack(top: pathlib.Path, made: pathlib.Path, commit: Commit) -> None:
@@ -207,9 +213,30 @@ class Measured:
         return wrong
 
 
-def make(folder: pathlib.Path, commit: Commit) -> tuple[list[pathlib.Path], Measured]:
-    """Makes all packages in a folder, and returns their files, the archive first and the list of them last, and what was measured of
-    the programs."""
+class Made(NamedTuple):
+    """The files that were made: the archive, Debian's packages, the list of what is in them, and the checksums of all."""
+
+    archive: pathlib.Path
+    debian: list[pathlib.Path]
+    listed: pathlib.Path
+    sums: pathlib.Path
+
+    def packages(self) -> list[pathlib.Path]:
+        return [self.archive, *self.debian]
+
+    def files(self) -> list[pathlib.Path]:
+        return [*self.packages(), self.listed, self.sums]
+
+
+def write_sums(files: Sequence[pathlib.Path]) -> pathlib.Path:
+    """Writes the checksums of the files of a folder there, as `sha256sum --check` reads them, and returns their file."""
+    target = files[0].with_name(SUMS)
+    target.write_text("".join(f"{hashlib.sha256(it.read_bytes()).hexdigest()}  {it.name}\n" for it in files))
+    return target
+
+
+def make(folder: pathlib.Path, commit: Commit) -> tuple[Made, Measured]:
+    """Makes all packages in a folder, and returns their files and what was measured of the programs."""
     with tempfile.TemporaryDirectory(prefix="package-") as room:
         name = f"instants-{version()}"
         top = pathlib.Path(room, name)
@@ -218,5 +245,6 @@ def make(folder: pathlib.Path, commit: Commit) -> tuple[list[pathlib.Path], Meas
         archive = folder / f"{name}-x86_64-linux.tar.gz"
         pack(top, archive, commit)
         measured = Measured(top / "bin")
-        made = [archive, *(pathlib.Path(shutil.copy(it, folder)) for it in debian(top, commit))]
-        return [*made, spdx_list.write(made, version(), measured.glibc, commit.time)], measured
+        packages = [pathlib.Path(shutil.copy(it, folder)) for it in debian(top, commit)]
+        listed = spdx_list.write([archive, *packages], version(), measured.glibc, commit.time)
+        return Made(archive, packages, listed, write_sums([archive, *packages, listed])), measured

@@ -11,15 +11,16 @@ They are put into FOLDER (`packages` in the system's temporary folder if left ou
   programs in C and the functions for SQLite and PostgreSQL; `python3-instants`: the package for Python;
 
 and `instants-VERSION-x86_64-linux.tar.gz`, with all of it, `make install PREFIX=`, and a wheel for pip; and
-`instants-VERSION.spdx.json`, the list of what is in them and of its licences (tools/spdx_list.py). The README has the sizes of the
-programs without their symbols, and which glibc they need; both are compared with what is measured here. The programs and the
-library are those that were built last; where they are not, or are older than their sources, they are proved and built first.
-The same commit gives the same bytes: each file is as old as the commit, and all is made twice and compared.
+`instants-VERSION.spdx.json`, the list of what is in them and of its licences (tools/spdx_list.py); and `SHA256SUMS`. The README has
+the sizes of the programs without their symbols, and which glibc they need; both are compared with what is measured here. The
+programs and the library are those that were built last; where they are not, or are older than their sources, they are proved and
+built first. The same commit gives the same bytes: each file is as old as the commit, and all is made twice and compared.
 
-With --try they are installed and tried as tools/try_packages.py says, which has to be root for that. The last line counts what
-passed; the status is 1 where anything failed.
+With --try they are installed and tried as tools/try_packages.py says, in a root of Debian that is downloaded; it has to be root
+for that. The last line counts what passed; the status is 1 where anything failed.
 
-The packages of Debian: binutils gcc make debhelper dh-python, and for --try cargo lintian pkg-config.
+The packages of Debian: binutils gcc make debhelper dh-python, and for --try cargo debootstrap libsqlite3-dev lintian pkg-config
+sqlite3.
 """
 
 import argparse
@@ -33,7 +34,7 @@ import build_library
 import build_program
 import tries
 import try_packages
-from make_packages import CHECK, PROGRAMS, Commit, PackagingFailed, make, programs, stale_terms, version
+from make_packages import CHECK, PROGRAMS, Commit, PackagingFailed, make, programs, stale_terms
 from program import BuildFailed
 
 
@@ -52,15 +53,15 @@ def main() -> int:
         commit = Commit()
         made, measured = make(given.folder, commit)
         with tempfile.TemporaryDirectory(prefix="again-") as again:
-            same = [one.read_bytes() == other.read_bytes() for one, other in zip(made, make(pathlib.Path(again), commit)[0])]
-        for it, is_same in zip(made, same):
+            same = [one.read_bytes() == other.read_bytes() for one, other in zip(made.files(), make(pathlib.Path(again), commit)[0].files())]
+        for it, is_same in zip(made.files(), same):
             tries.report(f"{it}: the same bytes twice", is_same)
         wrong = measured.differs()
         tries.report("the README's sizes of the programs, and their glibc", not wrong, "; ".join(wrong))
         stale = stale_terms()
         tries.report("the licence and the notice of the crates for Rust", not stale, f"not as the repository has them: {stale}")
         if given.is_tried:
-            try_packages.try_packages(made[0], made[1:-1], made[-1], version())
+            try_packages.try_packages(made, measured.glibc)
     except (BuildFailed, PackagingFailed) as fault:
         sys.exit(f"package: {fault}")
     return tries.summary()

@@ -21,7 +21,7 @@ KIT, C_LIBRARY, START = "SPDXRef-Rattle", "SPDXRef-C-library", "SPDXRef-start-up
 BY_LINKERS = "start-up files of the GNU C Library, start-up files and functions of GCC"
 LINKED = "The LGPL with an exception for what is linked with these files, and the GPL with the GCC Runtime Library Exception."
 # What holds the kit's code, and is linked with the C library as it runs.
-BINARY = re.compile(r"(?:bin|lib)/[^/]+$")
+BINARY = re.compile(r"(?:bin|lib)/(?!instants-merge$)[^/]+$")
 Digests = list[dict[str, str]]
 Package = dict[str, object]
 
