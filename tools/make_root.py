@@ -35,11 +35,11 @@ APART = ("unshare", "--mount", "--pid", "--fork", "--kill-child")
 
 
 @contextlib.contextmanager
-def place_for_root() -> Iterator[pathlib.Path]:
-    """Gives the name of a folder for a root, which is removed in the end, with nothing that is mounted there."""
-    room = pathlib.Path(tempfile.mkdtemp(prefix="root-"))
+def room_for_roots() -> Iterator[pathlib.Path]:
+    """Gives a folder for roots, which is removed in the end, but for what may be mounted there."""
+    room = pathlib.Path(tempfile.mkdtemp(prefix="roots-"))
     try:
-        yield room / "root"
+        yield room
     finally:
         run(["rm", "-rf", "--one-file-system", room])
 
@@ -66,7 +66,8 @@ def main() -> None:
     words.add_argument("file", type=pathlib.Path)
     given = words.parse_args()
     try:
-        with place_for_root() as root:
+        with room_for_roots() as room:
+            root = room / "root"
             make_root(root, [it for it in given.packages.split(",") if it], given.suite, given.mirror)
             run(["tar", "--numeric-owner", "--one-file-system", "--sort=name", "-C", root, "-cf", given.file.resolve(), "."])
     except PackagingFailed as fault:

@@ -19,14 +19,15 @@ sys.dont_write_bytecode = True
 import pytest
 from installed_calls import ANSWER, LINE
 from make_packages import PACKAGING, version
+from make_root import APART, room_for_roots
 from program import ROOT, Command
 
 
 class Builder:
-    """buildah, with what it keeps in a folder of its own."""
+    """buildah, with what it keeps in a folder of its own, and what it mounts for it alone."""
 
     def __init__(self, room: pathlib.Path) -> None:
-        self.command = ["buildah", "--storage-driver", "vfs", "--root", str(room / "kept"), "--runroot", str(room / "running")]
+        self.command = [*APART, "--mount-proc", "buildah", "--storage-driver", "vfs", "--root", str(room / "kept"), "--runroot", str(room / "running")]
 
     def call(self, words: Command, given: bytes = b"") -> bytes:
         ran = subprocess.run([*self.command, *words], input=given, capture_output=True, check=False)
@@ -35,20 +36,20 @@ class Builder:
 
 
 @pytest.fixture(scope="module")
-def builder(pytestconfig: pytest.Config, room: pathlib.Path) -> Iterator[Builder]:
+def builder(pytestconfig: pytest.Config) -> Iterator[Builder]:
     """A builder that has made a container of the image."""
     folder = pathlib.Path(pytestconfig.getoption("--packages") or pathlib.Path(tempfile.gettempdir(), "packages"))
     package = folder / f"instants_{version()}_amd64.deb"
     if not package.is_file():
         pytest.fail(f"{package} is not there; tools/package.py makes it", pytrace=False)
-    context, found = room / "context", Builder(room)
-    context.mkdir()
-    shutil.copy(package, context)
-    subprocess.run([ROOT / "tools" / "make_root.py", context / "root.tar"], check=True)
-    found.call(["build", "--isolation", "chroot", "--file", str(PACKAGING / "Containerfile"), "--tag", "instants", str(context)])
-    found.call(["from", "--pull-never", "--name", "tried", "localhost/instants"])
-    yield found
-    found.call(["rm", "tried"])
+    with room_for_roots() as room:
+        context, found = room / "context", Builder(room)
+        context.mkdir()
+        shutil.copy(package, context)
+        subprocess.run([ROOT / "tools" / "make_root.py", context / "root.tar"], check=True)
+        found.call(["build", "--isolation", "chroot", "--file", str(PACKAGING / "Containerfile"), "--tag", "instants", str(context)])
+        found.call(["from", "--pull-never", "--name", "tried", "localhost/instants"])
+        yield found
 
 
 def ran(builder: Builder, *words: str, given: bytes = b"") -> bytes:

@@ -37,7 +37,7 @@ from installed_calls import (ANSWER, LINE, NEEDED, WORDS, Installed, try_absent,
                              try_followed, try_manual, try_python)
 from installed_pages import OF_SOURCES, commands_in
 from make_packages import CRATES, TERMS, Made, run, version
-from make_root import make_root, place_for_root
+from make_root import make_root, room_for_roots
 from page_links import lost_in
 from program import ROOT, sure
 from tries import report
@@ -241,7 +241,8 @@ def try_packages(made: Made, glibc: str) -> None:
     """Tries all that was made, of programs that need so new a glibc."""
     try_files(made, glibc)
     try_crates()
-    with place_for_root() as root:
+    with room_for_roots() as room:
+        root = room / "root"
         make_root(root, NEEDED)
         try_debian(root, made.debian)
         try_archive(root, made)
