@@ -11,6 +11,7 @@ import pathlib
 import shutil
 import subprocess
 import sys
+import tarfile
 import tempfile
 from collections.abc import Iterator
 
@@ -27,6 +28,7 @@ class Builder:
     """buildah, with what it keeps in a folder of its own, and what it mounts for it alone."""
 
     def __init__(self, room: pathlib.Path) -> None:
+        self.context = room / "context"
         self.command = [*APART, "--mount-proc", "buildah", "--storage-driver", "vfs", "--root", str(room / "kept"), "--runroot", str(room / "running")]
 
     def call(self, words: Command, given: bytes = b"") -> bytes:
@@ -43,11 +45,11 @@ def builder(pytestconfig: pytest.Config) -> Iterator[Builder]:
     if not package.is_file():
         pytest.fail(f"{package} is not there; tools/package.py makes it", pytrace=False)
     with room_for_roots() as room:
-        context, found = room / "context", Builder(room)
-        context.mkdir()
-        shutil.copy(package, context)
-        subprocess.run([ROOT / "tools" / "make_root.py", context / "root.tar"], check=True)
-        found.call(["build", "--isolation", "chroot", "--file", str(PACKAGING / "Containerfile"), "--tag", "instants", str(context)])
+        found = Builder(room)
+        found.context.mkdir()
+        shutil.copy(package, found.context)
+        subprocess.run([ROOT / "tools" / "make_root.py", found.context / "root.tar"], check=True)
+        found.call(["build", "--isolation", "chroot", "--file", PACKAGING / "Containerfile", "--tag", "instants", found.context])
         found.call(["from", "--pull-never", "--name", "tried", "localhost/instants"])
         yield found
 
@@ -69,10 +71,17 @@ def test_unpackers(builder: Builder) -> None:
 
 
 def test_plain(builder: Builder) -> None:
-    """The programs run as nobody, in /logs; neither the kit, a compiler, nor the package's file is there, and nothing tells of this machine."""
+    """The programs run as nobody, in /logs; neither the kit, a compiler, nor the package's file is there."""
     assert ran(builder, "sh", "-c", "id -un; pwd") == b"nobody\n/logs\n"
     assert ran(builder, "sh", "-c", "for it in rt cc gcc ld as; do command -v $it; done; ls /tmp; true") == b""
-    assert ran(builder, "sh", "-c", "cd /etc && ls hostname resolv.conf 2> /dev/null; true") == b""
+
+
+def test_root(builder: Builder) -> None:
+    """Nothing in the root tells of this machine, or was left by the downloads."""
+    with tarfile.open(builder.context / "root.tar") as root:
+        files = {it.name for it in root if it.isfile()}
+    assert {"./etc/debian_version", "./etc/hostname", "./etc/resolv.conf"} & files == {"./etc/debian_version"}
+    assert not [it for it in files if it.startswith(("./var/cache/apt/", "./var/lib/apt/lists/", "./var/log/"))]
 
 
 if __name__ == "__main__":

@@ -18,6 +18,7 @@ import random
 import re
 import shutil
 import signal
+import socket
 import subprocess
 import sys
 import time
@@ -212,6 +213,12 @@ def test_window(merge: Merge, words: list[str], count: int) -> None:
 def test_standard_input(merge: Merge) -> None:
     assert merge.call("-l", "w", "-", given=WORKER)[1] == merge.call("-l", "w", merge.write("log", WORKER))[1]
     assert merge.call("-l", "w", "-", given=gzip.compress(WORKER))[1] == merge.call("-l", "w", "log")[1]
+    # (a socket, which can't be opened again by its name)
+    ours, theirs = socket.socketpair()
+    with ours, theirs:
+        ours.sendall(WORKER)
+        ours.shutdown(socket.SHUT_WR)
+        assert merge.call("-l", "w", "-", stdin=theirs)[1] == merge.call("-l", "w", "log")[1]
 
 
 def test_a_named_pipe(merge: Merge) -> None:
