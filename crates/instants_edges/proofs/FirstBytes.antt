@@ -1,7 +1,9 @@
 -- Bytes that begin in no form of a list, by their first byte.
-use Rattle.std.proofs.Common.{◌≡◌, ℕ, ◌<◌, ◌==◌, false, List, [], ◌∷◌, length, get_or, refl, arith}
+use Rattle.std.proofs.Common.{◌≡◌, ◌∙◌, ℕ, ◌+◌, ◌<◌, ◌==◌, true, false, List, [], ◌∷◌, length, take, drop, get_or, if◌then◌else◌, sym, ap, refl, arith}
+use Rattle.std.specs.List.{prefix_len}
+use Rattle.std.proofs.lemmas.List.{get_or-drop}
 use Rattle.std.specs.Prelude.{codes}
-use Rattle.std.specs.Char.{is_ascii_digit, is_ascii_lowercase, to_ascii_lowercase}
+use Rattle.std.specs.Char.{is_ascii_alphabetic, is_ascii_digit, is_ascii_lowercase, to_ascii_lowercase}
 use Rattle.std.proofs.Math.Bool.{and-false}
 use Rattle.std.proofs.lemmas.Bool.Decides.{nat_tests}
 use Rattle.instants_edges.specs.Edge.{is_sign}
@@ -47,3 +49,15 @@ pub no_clock : (bytes : List ℕ) → is_ascii_digit (get_or bytes 0 0) ≡ fals
 unfolding begun begin_so
 no_clock [] digit = refl
 no_clock (byte ∷ bytes) digit = rw digit refl
+
+begins : (bytes : List ℕ) (first : ℕ) → first ≡ get_or bytes 0 0 → get_or (take (prefix_len is_ascii_alphabetic bytes) bytes) 0 first ≡ first
+begins [] first is = refl
+begins (byte ∷ bytes) first is = elim (is_ascii_alphabetic byte) as (λ b. get_or (take (if b then 1 + prefix_len is_ascii_alphabetic bytes else 0) (byte ∷ bytes)) 0 first ≡ first) [
+  | true ↦ sym is
+  | false ↦ refl
+]
+
+-- a word begins with the first byte that is left, if it has one
+pub word_begins : (bytes : List ℕ) (from first : ℕ) → first ≡ get_or bytes from 0
+    → get_or (take (prefix_len is_ascii_alphabetic (drop from bytes)) (drop from bytes)) 0 first ≡ first
+word_begins bytes from first is = begins (drop from bytes) first (is ∙ sym (get_or-drop from bytes 0 0 ∙ ap (λ k. get_or bytes k 0) (omega arith)))

@@ -1,5 +1,5 @@
 //! The offset that a line says after a date, or inside of it.
-ghost use Rattle.std.specs.Prelude.{◌≡◌, ◌≤◌, ◌<◌, ◌-◌, ◌==◌, not, IsTrue, length, map};
+ghost use Rattle.std.specs.Prelude.{◌≡◌, ◌≤◌, ◌<◌, ◌-◌, ◌==◌, not, IsTrue, get_or, length, map};
 ghost use Rattle.instants_edges.specs.Words as Words;
 ghost use Rattle.instants_edges.specs.Beside as Beside;
 
@@ -141,6 +141,17 @@ pub fn word_after(line: &[u8], ends: usize) -> &[u8]
     let bytes = near(after(line, ends));
     let others = rest_from(bytes, usize::from(byte_at(bytes, 0) == b' '));
     first_bytes(others, letters_length(others))
+}
+
+/// The byte with which that word begins, if it has one.
+#[inline(always)]
+#[tactic(auto, using(crate::proofs::FirstBytes::word_begins), unfolding(crate::specs::Beside::word_after))]
+pub fn first_after(line: &[u8], ends: usize) -> u8
+    requires ends { ends ≤ length line.now }
+    ensures { get_or (Beside.word_after line.now ends) 0 result ≡ result }
+{
+    let bytes = near(after(line, ends));
+    byte_at(bytes, usize::from(byte_at(bytes, 0) == b' '))
 }
 
 // Whether a sign and four digits stand at a place after no word.

@@ -5,16 +5,23 @@ ghost use Rattle.instants_prefixes.specs.Reading.{record_at};
 ghost use Rattle.instants_edges.specs.Beside.{word_after};
 ghost use Rattle.zones_clock.specs.AllMoments.{moments_of};
 ghost use Rattle.zones_clock.specs.Steps as Steps;
+ghost use Rattle.parsing_values.specs.Moment.{moment_of};
 ghost use Rattle.instants_found.specs.Zoned as Zoned;
 ghost use Rattle.instants_found.specs.declared.doubt.Doubt.TheVariants.{AnotherOffset};
 
 use crate::beside::after;
 use crate::doubt::Doubt;
 use calendar::UtcOffset;
-use datetime_types::OffsetDateTime;
-use instants_edges::{offset_said, word_after};
+use calendar_count::march;
+use calendar_count::range::UNIX_EPOCH;
+use instants_edges::{first_after, offset_said, word_after};
 use instants_prefixes::{DateSource, Given, Prefix, lacks_offset};
+use instants_sources::Named;
+use parsing_values::Fields;
 use zones_clock::{Moments, Zone};
+
+// The seconds of a day.
+const DAY: i64 = 86_400;
 
 /// A date that was read, the offset that is assumed for it, and why it has none, if that is so.
 #[derive(Drop)]
@@ -35,13 +42,28 @@ fn takes_offset(source: &DateSource<'_>, bytes: &[u8]) -> bool
     lacks_offset(&read) && read.unix_timestamp_nanos().is_none()
 }
 
-// What the clock of a date shows, in seconds since it showed 1970-01-01T00:00:00.
+// What the clock of fields shows, in seconds since it showed 1970-01-01T00:00:00.
 #[inline(always)]
-fn reading(date: OffsetDateTime) -> i64
-    ensures value { result ≡ Zoned.reading date }
+fn reading_of(fields: &Fields) -> i64
+    ensures value { result ≡ Zoned.reading (moment_of fields.now) }
     ensures bound { Steps.IsReading result }
 {
-    date.replace_offset(UtcOffset::UTC).unix_timestamp()
+    let year = i32::from(fields.year.number());
+    let day = march::count_of_day(year, fields.month, fields.day);
+    let second = u32::from(fields.minute) * 60 + fields.second;
+    (i64::from(day) - i64::from(UNIX_EPOCH)) * DAY + i64::from(second)
+}
+
+// What the clock of a date shows, in seconds since it showed 1970-01-01T00:00:00.
+#[inline(always)]
+fn reading(date: &Named) -> i64
+    ensures value { result ≡ Zoned.reading date.now }
+    ensures bound { Steps.IsReading result }
+{
+    match date.fields() {
+        Some(fields) => reading_of(fields),
+        None => date.moment().replace_offset(UtcOffset::UTC).unix_timestamp(),
+    }
 }
 
 // An offset of a zone's clock, in seconds, as one of the calendar.
@@ -65,10 +87,16 @@ fn has_offset(zone: &Zone, said: Option<i32>, moment: i64) -> bool
     }
 }
 
-// Whether the clock has an abbreviation at a moment, if it is one of the zone's.
-fn has_name(zone: &Zone, word: &[u8], moment: i64) -> bool
-    ensures { result ≡ Zoned.has_name zone.now word.now moment }
+// Whether the clock has the abbreviation at a moment that stands after a date, if it is one of the zone's.
+#[inline(always)]
+fn has_name(zone: &Zone, line: &[u8], ends: usize, moment: i64) -> bool
+    requires { ends ≤ length line.now }
+    ensures { result ≡ Zoned.has_name zone.now (word_after line.now ends) moment }
 {
+    if !zone.can_begin(first_after(line, ends)) {
+        return true;
+    }
+    let word = word_after(line, ends);
     !zone.is_name(word) || zone.name_at(moment) == word
 }
 
@@ -77,7 +105,7 @@ fn is_said(zone: &Zone, line: &[u8], ends: usize, moment: i64) -> bool
     requires { ends ≤ length line.now }
     ensures { result ≡ Zoned.is_said zone.now line.now ends moment }
 {
-    has_name(zone, word_after(line, ends), moment)
+    has_name(zone, line, ends, moment)
         && has_offset(zone, offset_said(line, ends), moment)
 }
 
@@ -118,7 +146,7 @@ impl Settled {
         ensures { result ≡ Zoned.ahead_by prefix ahead
             (if Zoned.has_name zone.now (word_after line.now ends) moment then None else Some AnotherOffset) }
     {
-        let doubt = if has_name(zone, word_after(line, ends), moment) {
+        let doubt = if has_name(zone, line, ends, moment) {
             None
         } else {
             Some(Doubt::AnotherOffset)
@@ -193,7 +221,7 @@ impl Settled {
         ensures { result ≡ Zoned.by_moments zone.now line.now ends prefix
             (moments_of zone.now.first zone.now.steps.items (Zoned.reading prefix.moment)) }
     {
-        let shown = reading(prefix.moment.moment());
+        let shown = reading(&prefix.moment);
         match zone.sure_offset(shown) {
             Some(ahead) => {
                 let moment = shown - i64::from(ahead);

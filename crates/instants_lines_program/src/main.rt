@@ -115,7 +115,7 @@ fn write_by(rt: &HostRuntime, words: &[&str], options: Options) -> ExitCode {
     let Ok(own_rt) = rt.clone() else {
         return ended(rt, Err(LinesFault::Program(ProgramFault::Memory)), None);
     };
-    let zone = zone_named(words).map(|name| read_named(rt, name));
+    let zone = zone_named(words).map(|name| read_named(rt, name, options.counts));
     let mut input = Noting::new(Looking::new(own_rt, rt.stdin(), options.is_quiet));
     let mut output = Noting::new(Counting::new(rt.stdout(), options.asked(asks_keys(words))));
     let mut reader = StdReader::new(&mut input);

@@ -196,8 +196,12 @@ fn read_below(rt: &HostRuntime, folder: &PathBuf, name: &str) -> Result<(Zone, u
     read_file(rt, path.as_str())
 }
 
-/// The zone of a name.
-pub fn read_named<'a>(rt: &HostRuntime, name: &'a str) -> Result<NamedZone<'a>, NoZone<'a>> {
+/// The zone of a name. The text of all names is read where it is asked for, since it has the version, and where there is no zone.
+pub fn read_named<'a>(
+    rt: &HostRuntime,
+    name: &'a str,
+    asks_version: bool,
+) -> Result<NamedZone<'a>, NoZone<'a>> {
     let Ok(folder) = folder(rt) else {
         return Err(NoZone {
             name,
@@ -206,8 +210,13 @@ pub fn read_named<'a>(rt: &HostRuntime, name: &'a str) -> Result<NamedZone<'a>, 
             cause: Cause::Memory,
         });
     };
-    let names = read_names(rt, &folder).ok();
-    match read_below(rt, &folder, name) {
+    let found = read_below(rt, &folder, name);
+    let names = if asks_version || found.is_err() {
+        read_names(rt, &folder).ok()
+    } else {
+        None
+    };
+    match found {
         Ok((zone, size)) => Ok(NamedZone {
             zone,
             name,

@@ -4,8 +4,8 @@ use Rattle.std.proofs.lemmas.Int.{ints}
 use Rattle.zones_clock.specs.declared.zone.Step.{Step}
 use Rattle.zones_clock.specs.declared.zone.Moments.{Moments}
 use Rattle.zones_clock.specs.declared.zone.Moments.TheVariants.{Skipped, One, Repeated, Several}
-use Rattle.zones_clock.specs.Steps.{InOrder, AreOffsets, IsOffset, IsReading, offset_at, offset_after, name_place_at, name_place_after, step_at}
-use Rattle.zones_clock.specs.Clock.{AllBegun, HasLastBegun, HasNextBegun, IsIn, Shows, Has, AreShown, IsAfter, AreBefore, AllFound, IsFound, with_moment, IsTaken, lies_there, lies_elsewhere, AreTheMoments, AreSure, IsFarFromSteps, IsSureFrom, IsSureUntil}
+use Rattle.zones_clock.specs.Steps.{InOrder, AreOffsets, IsOffset, offset_at, offset_after, name_place_at, name_place_after, step_at}
+use Rattle.zones_clock.specs.Clock.{AllBegun, HasNextBegun, IsIn, Shows, Has, AreShown, IsAfter, AreBefore, AllFound, IsFound, with_moment, IsTaken, lies_there, lies_elsewhere, AreTheMoments, IsSure}
 
 pub lt-true : (a b : ℤ) → a <ℤ b → int_lt a b ≡ true
 lt-true a b h = grind (arith, ints)
@@ -52,9 +52,6 @@ offset_in first (s ∷ ss) t one all = elim (int_lt t s.from) as (λ b. IsOffset
 
 le-lt : (a b c : ℤ) → a <ℤ b → b ≤ℤ c → a ≤ℤ c
 le-lt a b c h g = omega (arith, ints)
-
-from_at : List Step → ℕ → ℤ
-from_at steps k = (step_at steps k).from
 
 next-order : (steps : List Step) (n : ℕ) → InOrder steps → suc n < length steps → (step_at steps n).from <ℤ (step_at steps (suc n)).from
 next-order steps n order lt = let e : n + 1 ≡ suc n = omega arith in subst (λ k. (step_at steps n).from <ℤ (step_at steps k).from) e (order n (omega arith))
@@ -277,31 +274,24 @@ offset_after-in : (first : ℤ) (steps : List Step) (count : ℕ) → count ≤ 
 offset_after-in first steps zero within one all = one
 offset_after-in first steps (suc n) within one all = all n (omega arith)
 
-begun_of_next : (steps : List Step) (count : ℕ) (t : ℤ) → InOrder steps → count ≤ length steps → HasLastBegun steps count t → AllBegun steps count t
-begun_of_next steps count t order within h = λ i lt. begun_of_last steps count t order (omega arith) within (h (omega arith)) i lt
-
 sum-difference : (r o : ℤ) → (r -ℤ o) +ℤ o ≡ r
 sum-difference r o = omega (arith, ints)
 
--- 26 hours from each step, a reading names one moment
-pub sure_between : (first : ℤ) (steps : List Step) (count : ℕ) (from until offset : ℤ) → InOrder steps → IsOffset first → AreOffsets steps → count ≤ length steps → IsSureFrom steps count from → IsSureUntil steps count until → offset ≡ offset_after first steps count → AreSure first steps from until offset
-sure_between first steps count from until offset order one all within f u e reading is lo hi =
+-- where all moments that can show a reading lie between two steps, it names one
+pub sure_at : (first : ℤ) (steps : List Step) (count : ℕ) (reading : ℤ) → IsOffset first → AreOffsets steps → count ≤ length steps
+    → IsSure steps count reading → AreTheMoments first steps reading (One (reading -ℤ offset_after first steps count))
+sure_at first steps count reading one all within sure =
     let off : ℤ = offset_after first steps count in
-    let begun : AllBegun steps count (reading -ℤ pos 93_600) = begun_of_next steps count _ order within ((f reading is).0 lo) in
     let in-range : IsOffset off = offset_after-in first steps count within one all in
-    let lies : IsIn steps count (reading -ℤ off) = (λ i lt. earlier reading (reading -ℤ off) off _ (step_at steps i).from (sum-difference reading off) in-range refl (begun i lt), λ lt. later reading (reading -ℤ off) off _ (step_at steps count).from (sum-difference reading off) in-range refl ((u reading is).0 hi lt)) in
-    let answer : AreTheMoments first steps reading (One (reading -ℤ off)) = (
-      that-shows first steps reading count within lies,
-      λ t s. the-moment first steps reading count t within s (
-        λ i lt. earlier reading t (offset_at first steps t) _ (step_at steps i).from s.shown (offset_in first steps t one all) refl (begun i lt),
-        λ lt. later reading t (offset_at first steps t) _ (step_at steps count).from s.shown (offset_in first steps t one all) refl ((u reading is).0 hi lt),
-      ),
-    ) in
-    subst (λ o. AreTheMoments first steps reading (One (reading -ℤ o))) (sym e) answer
-
-pub sure_between_of : (first : ℤ) (steps : List Step) (count : ℕ) (from until offset given-from given-until given-offset : ℤ) → given-from ≡ from → given-until ≡ until → given-offset ≡ offset → InOrder steps → IsOffset first → AreOffsets steps → count ≤ length steps → IsSureFrom steps count from → IsSureUntil steps count until → offset ≡ offset_after first steps count → AreSure first steps given-from given-until given-offset
-sure_between_of first steps count from until offset given-from given-until given-offset ef eu eo order one all within f u e =
-    sure_between first steps count given-from given-until given-offset order one all within (subst (IsSureFrom steps count) (sym ef) f) (subst (IsSureUntil steps count) (sym eu) u) (eo ∙ e)
+    let begun = λ (t : ℤ) (o : ℤ) (sum : t +ℤ o ≡ reading) (is : IsOffset o) (i : ℕ) (lt : i < count).
+    earlier reading t o _ (step_at steps i).from sum is refl (sure.begun i lt) in
+    let next = λ (t : ℤ) (o : ℤ) (sum : t +ℤ o ≡ reading) (is : IsOffset o) (lt : count < length steps).
+    later reading t o _ (step_at steps count).from sum is refl (sure.next lt) in
+    let at = sum-difference reading off in (
+      that-shows first steps reading count within (begun (reading -ℤ off) off at in-range, next (reading -ℤ off) off at in-range),
+      λ t s. let is = offset_in first steps t one all in
+          the-moment first steps reading count t within s (begun t (offset_at first steps t) s.shown is, next t (offset_at first steps t) s.shown is),
+    )
 
 -- the same, of a moment that went through a call
 pub offset_between_of : (first : ℤ) (steps : List Step) (count : ℕ) (passed t : ℤ) → passed ≡ t → count ≤ length steps → IsIn steps count passed → offset_at first steps t ≡ offset_after first steps count
@@ -313,22 +303,3 @@ name_place_between_of first steps count passed t e within h = name_place_between
 -- where the search ends, so many steps have begun
 pub in_of : (steps : List Step) (low high : ℕ) (passed t : ℤ) → passed ≡ t → high ≡ low → AllBegun steps low passed → (high < length steps → passed <ℤ (step_at steps high).from) → IsIn steps low t
 in_of steps low high passed t e same begun later = subst (IsIn steps low) e (begun, subst (λ k. k < length steps → passed <ℤ (step_at steps k).from) same later)
-
-not-far-before : (from t : ℤ) → (from ≤ℤ (t -ℤ pos 93_600)) ⊎ ((t +ℤ pos 93_600) <ℤ from) → from ≤ℤ t → from ≤ℤ (t -ℤ pos 93_600)
-not-far-before from t (inl before) h = before
-not-far-before from t (inr after) h = omega (arith, ints)
-
-not-far-after : (from t : ℤ) → (from ≤ℤ (t -ℤ pos 93_600)) ⊎ ((t +ℤ pos 93_600) <ℤ from) → t <ℤ from → (t +ℤ pos 93_600) <ℤ from
-not-far-after from t (inl before) h = omega (arith, ints)
-not-far-after from t (inr after) h = after
-
--- a reading that is far from each step lies in the stretch between those that have begun and the next
-pub found_between : (steps : List Step) (count : ℕ) (t from until : ℤ) → IsReading t → count ≤ length steps → IsIn steps count t → IsSureFrom steps count from → IsSureUntil steps count until → IsFarFromSteps steps t → (from ≤ℤ t) × (t <ℤ until)
-found_between steps count t from until is within lies f u far = (
-  (f t is).1 (λ some. not-far-before _ t (far (count - 1) (omega arith)) (lies.0 (count - 1) (omega arith))),
-  (u t is).1 (λ lt. not-far-after _ t (far count lt) (lies.1 lt)),
-)
-
-pub found_between_of : (steps : List Step) (count : ℕ) (passed t from until given-from given-until : ℤ) → passed ≡ t → given-from ≡ from → given-until ≡ until → IsReading t → count ≤ length steps → IsIn steps count passed → IsSureFrom steps count from → IsSureUntil steps count until → IsFarFromSteps steps t → (given-from ≤ℤ t) × (t <ℤ given-until)
-found_between_of steps count passed t from until given-from given-until e ef eu is within lies f u far =
-    found_between steps count t given-from given-until is within (subst (IsIn steps count) e lies) (subst (IsSureFrom steps count) (sym ef) f) (subst (IsSureUntil steps count) (sym eu) u) far

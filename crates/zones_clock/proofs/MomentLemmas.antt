@@ -1,14 +1,14 @@
 -- The list of the moments at which a clock shows a reading has each of them, in order.
-use Rattle.std.proofs.Common.{◌≡◌, ◌⊎◌, inl, inr, refl, ap, sym, arith, Bool, ℤ, ◌+ℤ◌, ◌-ℤ◌, ◌<ℤ◌, ◌≤ℤ◌, int_lt, List, [], ◌∷◌, ◌++◌, if◌then◌else◌, not, subst}
+use Rattle.std.proofs.Common.{◌≡◌, ℕ, ◌≤◌, length, ◌⊎◌, inl, inr, refl, ap, sym, arith, Bool, ℤ, ◌+ℤ◌, ◌-ℤ◌, ◌<ℤ◌, ◌≤ℤ◌, int_lt, List, [], ◌∷◌, ◌++◌, if◌then◌else◌, not, subst}
 use Rattle.std.specs.List.{filter}
 use Rattle.std.proofs.lemmas.Int.{ints}
 use Rattle.zones_clock.specs.declared.zone.Step.{Step}
 use Rattle.zones_clock.specs.declared.zone.Moments.{Moments}
 use Rattle.zones_clock.specs.declared.zone.Moments.TheVariants.{Skipped, One, Repeated, Several}
-use Rattle.zones_clock.specs.Steps.{offset_at}
-use Rattle.zones_clock.specs.Clock.{Shows, AreSure}
-use Rattle.zones_clock.specs.AllMoments.{all_moments, answer_of, moments_of, ListsInOrder, HaveOneEach}
-use Rattle.zones_clock.proofs.ClockLemmas.{IsAnswer, less-or-not, lt-true, lt-false, lt-le, difference}
+use Rattle.zones_clock.specs.Steps.{offset_at, offset_after, IsOffset, AreOffsets}
+use Rattle.zones_clock.specs.Clock.{Shows, IsSure}
+use Rattle.zones_clock.specs.AllMoments.{all_moments, answer_of, moments_of, ListsInOrder}
+use Rattle.zones_clock.proofs.ClockLemmas.{IsAnswer, sure_at, less-or-not, lt-true, lt-false, lt-le, difference}
 
 -- what is true of the same moments is listed by the same list
 same-listed : (P Q : ℤ → Type 0) (ms : List ℤ) → ((t : ℤ) → P t → Q t) → ((t : ℤ) → Q t → P t) → ListsInOrder P ms → ListsInOrder Q ms
@@ -108,5 +108,7 @@ same-answer first steps reading (Several m n o) (Several p q r) f g = grind (ari
 pub is_moments_of : (first : ℤ) (steps : List Step) (reading : ℤ) (found : Moments) → IsAnswer first steps reading found → found ≡ moments_of first steps reading
 is_moments_of first steps reading found f = same-answer first steps reading found _ f (answer_listed first steps reading)
 
-pub one_each : (first : ℤ) (steps : List Step) (from until offset : ℤ) → AreSure first steps from until offset → HaveOneEach first steps from until offset
-one_each first steps from until offset sure reading is lo hi = sym (is_moments_of first steps reading (One (reading -ℤ offset)) (sure reading is lo hi))
+pub sure_moment : (first : ℤ) (steps : List Step) (count : ℕ) (reading passed given offset : ℤ) → passed ≡ reading → given ≡ offset → offset ≡ offset_after first steps count
+    → IsOffset first → AreOffsets steps → count ≤ length steps → IsSure steps count passed → moments_of first steps reading ≡ One (reading -ℤ given)
+sure_moment first steps count reading passed given offset at same is one all within sure =
+    rw (same, is) (sym (is_moments_of first steps reading _ (sure_at first steps count reading one all within (subst (IsSure steps count) at sure))))

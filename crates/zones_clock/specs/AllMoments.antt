@@ -1,10 +1,9 @@
 -- The moments at which a clock shows a reading: as a list, and as an answer.
-use Rattle.std.specs.Prelude.{◌≡◌, ◌++◌, ℤ, ◌<ℤ◌, ◌≤ℤ◌, ◌-ℤ◌, int_lt, List, [], ◌∷◌, not}
+use Rattle.std.specs.Prelude.{◌++◌, ℤ, ◌<ℤ◌, ◌≤ℤ◌, ◌-ℤ◌, int_lt, List, [], ◌∷◌, not}
 use Rattle.std.specs.List.{filter}
 use Rattle.zones_clock.specs.declared.zone.Step.{Step}
 use Rattle.zones_clock.specs.declared.zone.Moments.{Moments}
 use Rattle.zones_clock.specs.declared.zone.Moments.TheVariants.{Skipped, One, Repeated, Several}
-use Rattle.zones_clock.specs.Steps.{IsReading}
 
 -- the moments at which a clock shows a reading, in order: before the first step by the offset until then, and from it on as the steps after it say
 unfoldable pub all_moments : ℤ → List Step → ℤ → List ℤ
@@ -26,7 +25,3 @@ moments_of first steps reading = answer_of (all_moments first steps reading)
 abbrev pub ListsInOrder : (ℤ → Type 0) → List ℤ → Type 0
 ListsInOrder IsTrueOf [] = (moment : ℤ) → IsTrueOf moment → ⊥
 ListsInOrder IsTrueOf (m ∷ more) = IsTrueOf m × ((moment : ℤ) → IsTrueOf moment → m ≤ℤ moment) × ListsInOrder (λ moment. IsTrueOf moment × (m <ℤ moment)) more
-
--- the answer to each reading from one on and before another is the one moment that an offset gives
-abbrev pub HaveOneEach : ℤ → List Step → ℤ → ℤ → ℤ → Type 0
-HaveOneEach first steps from until offset = (reading : ℤ) → IsReading reading → from ≤ℤ reading → reading <ℤ until → moments_of first steps reading ≡ One (reading -ℤ offset)

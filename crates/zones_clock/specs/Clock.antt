@@ -1,9 +1,9 @@
 -- What a clock shows, and the moments that a reading names.
-use Rattle.std.specs.Prelude.{pos, ◌-◌, ◌≡◌, ℕ, ◌<◌, ℤ, ◌<ℤ◌, ◌≤ℤ◌, ◌+ℤ◌, ◌-ℤ◌, length, List, ◌⊎◌, ◌↔◌}
+use Rattle.std.specs.Prelude.{pos, ◌≡◌, ℕ, ◌<◌, ℤ, ◌<ℤ◌, ◌≤ℤ◌, ◌+ℤ◌, ◌-ℤ◌, length, List, ◌⊎◌}
 use Rattle.zones_clock.specs.declared.zone.Step.{Step}
 use Rattle.zones_clock.specs.declared.zone.Moments.{Moments}
 use Rattle.zones_clock.specs.declared.zone.Moments.TheVariants.{Skipped, One, Repeated, Several}
-use Rattle.zones_clock.specs.Steps.{offset_at, offset_after, step_at, IsReading}
+use Rattle.zones_clock.specs.Steps.{offset_at, offset_after, step_at}
 
 -- at this moment the clock shows this reading
 pub record Shows (first : ℤ) (steps : List Step) (reading moment : ℤ) : Type 0 where
@@ -76,22 +76,7 @@ pub data IsTaken (first : ℤ) (steps : List Step) (reading : ℤ) (count : ℕ)
   lies_there : IsIn steps count (reading -ℤ offset_after first steps count) → result ≡ with_moment found (reading -ℤ offset_after first steps count) → IsTaken first steps reading count found result
   lies_elsewhere : (IsIn steps count (reading -ℤ offset_after first steps count) → ⊥) → result ≡ found → IsTaken first steps reading count found result
 
--- each reading from one on and before another names one moment, by one offset
-abbrev pub AreSure : ℤ → List Step → ℤ → ℤ → ℤ → Type 0
-AreSure first steps from until offset = (reading : ℤ) → IsReading reading → from ≤ℤ reading → reading <ℤ until → AreTheMoments first steps reading (One (reading -ℤ offset))
-
--- the last of so many steps, if there is one, has begun at a moment
-abbrev pub HasLastBegun : List Step → ℕ → ℤ → Type 0
-HasLastBegun steps count moment = 0 < count → (step_at steps (count - 1)).from ≤ℤ moment
-
--- readings from this one on are those 26 hours before which the last of so many steps has begun
-abbrev pub IsSureFrom : List Step → ℕ → ℤ → Type 0
-IsSureFrom steps count from = (reading : ℤ) → IsReading reading → (from ≤ℤ reading) ↔ HasLastBegun steps count (reading -ℤ pos 93_600)
-
--- readings before this one are those 26 hours after which the step after so many has not begun
-abbrev pub IsSureUntil : List Step → ℕ → ℤ → Type 0
-IsSureUntil steps count until = (reading : ℤ) → IsReading reading → (reading <ℤ until) ↔ (count < length steps → (reading +ℤ pos 93_600) <ℤ (step_at steps count).from)
-
--- no step begins within 26 hours of a reading
-abbrev pub IsFarFromSteps : List Step → ℤ → Type 0
-IsFarFromSteps steps reading = (i : ℕ) → i < length steps → ((step_at steps i).from ≤ℤ (reading -ℤ pos 93_600)) ⊎ ((reading +ℤ pos 93_600) <ℤ (step_at steps i).from)
+-- all moments that can show a reading lie after so many steps, and before the next
+pub record IsSure (steps : List Step) (count : ℕ) (reading : ℤ) : Type 0 where
+  pub begun : AllBegun steps count (reading -ℤ pos 93_600)
+  pub next : count < length steps → (reading +ℤ pos 93_600) <ℤ (step_at steps count).from

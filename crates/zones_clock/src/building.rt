@@ -2,6 +2,7 @@
 ghost use Rattle.std.specs.Prelude.{◌≡◌, [], ◌∷◌, ◌++◌, OnOk, OnErr};
 ghost use Rattle.zones_clock.specs.Steps.{IsOffset, ComesAfter};
 
+use crate::names::mark_bytes;
 use crate::zone::{Step, Zone};
 use std::alloc::{AllocError, Global};
 
@@ -14,11 +15,14 @@ impl Zone {
         ensures steps { result.steps.items ≡ [] }
         ensures letters { result.letters.items ≡ letters.items }
     {
+        let mut bytes = [false; 256];
+        mark_bytes(&mut bytes, &letters);
         Zone {
             first,
             first_name,
             steps: Vec::new(alloc),
             letters,
+            bytes,
         }
     }
 
@@ -35,6 +39,21 @@ impl Zone {
         ensures letters { self.new.letters.items ≡ self.old.letters.items }
     {
         self.steps.push(step)?;
+        Ok(())
+    }
+
+    /// Adds the letters of an abbreviation after those that are there, and a byte 0 that ends it.
+    pub fn push_name(&mut self, name: &[u8]) -> Result<(), AllocError>
+        ensures pushed { OnOk result (self.new.letters.items ≡ self.old.letters.items ++ name.now ++ 0 ∷ []) }
+
+        ensures first { self.new.first ≡ self.old.first }
+        ensures first_name { self.new.first_name ≡ self.old.first_name }
+        ensures steps { self.new.steps.items ≡ self.old.steps.items }
+    {
+        mark_bytes(&mut self.bytes, name);
+        mark_bytes(&mut self.bytes, b"\0");
+        self.letters.extend_from_slice(name)?;
+        self.letters.push(0)?;
         Ok(())
     }
 }

@@ -5,8 +5,7 @@ mod building;
 pub mod laws;
 mod lookup;
 mod names;
-mod stretch;
+mod sure;
 mod zone;
 
-pub use stretch::Stretch;
 pub use zone::{Moments, OFFSET_BOUND, Step, Zone};

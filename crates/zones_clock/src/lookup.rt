@@ -50,7 +50,8 @@ impl Zone {
     }
 
     // Whether so many steps have begun at a moment.
-    fn have_begun(&self, count: usize, moment: i64) -> bool
+    #[inline(always)]
+    pub(crate) fn have_begun(&self, count: usize, moment: i64) -> bool
         requires { count ≤ vec_len self.now.steps }
         ensures { IsTrue result ↔ AllBegun self.now.steps.items count moment }
     {
@@ -61,7 +62,8 @@ impl Zone {
     }
 
     // Whether there is a step after so many, and it has begun at a moment.
-    fn has_next_begun(&self, count: usize, moment: i64) -> bool
+    #[inline(always)]
+    pub(crate) fn has_next_begun(&self, count: usize, moment: i64) -> bool
         ensures { IsTrue result ↔ HasNextBegun self.now.steps.items count moment }
     {
         if count < self.steps.len() {

@@ -1,7 +1,7 @@
 //! The abbreviations that a zone's clock has, as `CET` and `CEST`.
-ghost use Rattle.std.specs.Prelude.{◌≡◌, ◌≤◌, ◌==◌, not, bytes_eq, drop, length, vec_len};
+ghost use Rattle.std.specs.Prelude.{◌≡◌, ◌≤◌, ◌<◌, ◌==◌, ℕ, List, false, not, bytes_eq, drop, get_or, length, vec_len};
 ghost use Rattle.std.specs.List.{list_any, range_with_len, take_while};
-ghost use Rattle.zones_clock.specs.Steps.{is_name, name_place_at, name_place_after, name_in};
+ghost use Rattle.zones_clock.specs.Steps.{HasBytes, KeepsMarks, is_name, name_place_at, name_place_after, name_in};
 
 use crate::zone::Zone;
 
@@ -32,17 +32,29 @@ fn name_in(letters: &[u8], place: usize) -> &[u8]
 }
 
 // Whether a word is the abbreviation of a place.
-#[tactic(auto, using(crate::proofs::NameLemmas::any_more, crate::proofs::NameLemmas::any_none))]
+#[tactic(auto, using(crate::proofs::NameLemmas::any_more, crate::proofs::NameLemmas::any_none, crate::proofs::NameLemmas::name_other))]
 fn is_name_in(letters: &[u8], word: &[u8]) -> bool
+    requires { 0 < length word.now }
     ensures { result ≡ list_any (λ place. bytes_eq (name_in letters.now place) word.now)
         (range_with_len 0 (length letters.now)) }
 {
     for place in 0..letters.len() {
-        if name_in(letters, place) == word {
+        if letters[place] == word[0] && name_in(letters, place) == word {
             return true;
         }
     }
     false
+}
+
+/// Marks the bytes that letters have, each at its number.
+#[tactic(auto, using(crate::proofs::NameLemmas::marked_more, crate::proofs::NameLemmas::marked_still))]
+pub(crate) fn mark_bytes(bytes: &mut [bool; 256], letters: &[u8])
+    ensures marked { HasBytes bytes.new letters.now }
+    ensures kept { KeepsMarks bytes.old bytes.new }
+{
+    for letter in letters {
+        bytes[usize::from(*letter)] = true;
+    }
 }
 
 impl Zone {
@@ -67,6 +79,15 @@ impl Zone {
         let place = self.name_place_after(self.count_begun(moment));
         name_in(&self.letters, usize::from(place))
     }
+
+    /// Whether an abbreviation of the zone can begin with a byte: `false` settles `is_name` before a word is cut.
+    #[inline(always)]
+    pub fn can_begin(&self, first: u8) -> bool
+        ensures { result ≡ false → (word : List ℕ) → get_or word 0 first ≡ first → is_name self.now.letters.items word ≡ false }
+    {
+        self.bytes[usize::from(first)]
+    }
+
     /// Whether a word is one of the zone's abbreviations, which have three bytes or more.
     #[tactic(auto, using(std::proofs::lemmas::Bool::Decides::nat_tests), unfolding(crate::specs::Steps::is_name))]
     pub fn is_name(&self, word: &[u8]) -> bool

@@ -1,5 +1,5 @@
 //! A zone, and what a reading of its clock names.
-ghost use Rattle.zones_clock.specs.Steps.{InOrder, AreOffsets, IsOffset};
+ghost use Rattle.zones_clock.specs.Steps.{InOrder, AreOffsets, HasBytes, IsOffset};
 
 /// The most that a clock may be ahead of UTC or behind it, in seconds, is less than this: 26 hours (RFC 9636, section 3.2,
 /// wants -25 to 26).
@@ -22,9 +22,11 @@ pub struct Zone {
     pub first_name: u16,
     pub steps: Vec<Step>,
     pub letters: Vec<u8>,
+    pub(crate) bytes: [bool; 256],
     pub ghost first_offset: { IsOffset first },
     pub ghost offsets: { AreOffsets steps.items },
     pub ghost ordered: { InOrder steps.items },
+    ghost has_bytes: { HasBytes bytes letters.items },
 }
 
 /// The moments at which a zone's clock shows a reading, in seconds since 1970-01-01T00:00:00Z.

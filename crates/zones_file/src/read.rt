@@ -71,7 +71,7 @@ fn add_footer(zone: &mut Zone, footer: Option<Footer<'_>>) -> Result<(), ZoneFau
     };
     let moment = last_moment(zone);
     check_rule(zone, &footer.rule, moment)?;
-    let names = push_names(&mut zone.letters, &footer)?;
+    let names = push_names(zone, &footer)?;
     footer.rule.push_steps(names, zone, moment)?;
     Ok(())
 }

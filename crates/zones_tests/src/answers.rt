@@ -42,8 +42,8 @@ fn answer_by<W: Write>(out: &mut W, zone: &Zone, question: Question) -> io::Resu
             writeln!(out)
         }
         Question::Reading(reading) if is_reading(reading) => answer_reading(out, zone, reading),
-        Question::Stretch(reading) if is_reading(reading) => answer_stretch(out, zone, reading),
-        Question::Reading(_) | Question::Stretch(_) => writeln!(out, "?"),
+        Question::Sure(reading) if is_reading(reading) => answer_sure(out, zone, reading),
+        Question::Reading(_) | Question::Sure(_) => writeln!(out, "?"),
         Question::Byte(_, _) | Question::Length(_) => writeln!(out, "read"),
     }
 }
@@ -65,12 +65,11 @@ fn answer_reading<W: Write>(out: &mut W, zone: &Zone, reading: i64) -> io::Resul
     }
 }
 
-fn answer_stretch<W: Write>(out: &mut W, zone: &Zone, reading: i64) -> io::Result<()>
+fn answer_sure<W: Write>(out: &mut W, zone: &Zone, reading: i64) -> io::Result<()>
     requires { IsReading reading }
 {
-    let stretch = zone.stretch_at(reading);
-    if reading < stretch.from || reading >= stretch.until {
-        return writeln!(out, "outside");
+    match zone.sure_offset(reading) {
+        Some(offset) => writeln!(out, "one {}", reading - i64::from(offset)),
+        None => writeln!(out, "near"),
     }
-    writeln!(out, "one {}", reading - i64::from(stretch.offset))
 }

@@ -2,7 +2,7 @@
 //!
 //! - `Berlin moment M`: the offset and the abbreviation of the clock at a moment;
 //! - `Berlin reading R`: the moments at which the clock shows a reading;
-//! - `Berlin stretch R`: whether a reading lies in its stretch, and the moment that it then names;
+//! - `Berlin sure R`: the only moment of a reading where no step is near, else `near`;
 //! - `Berlin byte PLACE BYTE`: the fault of the file with another byte at a place;
 //! - `Berlin length N`: the fault of the file with so many bytes, zeros after its own;
 //! - `rule TEXT M`: the names of a rule, its offset at a moment, and the instant and the offset of the next step.

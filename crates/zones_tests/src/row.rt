@@ -5,7 +5,7 @@
 pub enum Question {
     Moment(i64),
     Reading(i64),
-    Stretch(i64),
+    Sure(i64),
     Byte(usize, u8),
     Length(usize),
 }
@@ -32,7 +32,7 @@ fn question_of(word: &str, rest: &str) -> Option<Question> {
     match word {
         "moment" => Some(Question::Moment(rest.parse().ok()?)),
         "reading" => Some(Question::Reading(rest.parse().ok()?)),
-        "stretch" => Some(Question::Stretch(rest.parse().ok()?)),
+        "sure" => Some(Question::Sure(rest.parse().ok()?)),
         "byte" => {
             let (place, byte) = rest.split_once(' ')?;
             Some(Question::Byte(place.parse().ok()?, byte.parse().ok()?))
