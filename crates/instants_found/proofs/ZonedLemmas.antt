@@ -1,8 +1,15 @@
 -- A date on the clock of a zone lies where the date that was read lies.
-use Rattle.std.proofs.Common.{◌≡◌, inl, inr, ap, ◌∙◌, ◌-ℤ◌, ◌+◌, Bool, true, false, ℤ, ℕ, List, Option, Some, None, Ok, refl, sym, arith, if◌then◌else◌}
+use Rattle.std.proofs.Common.{◌≡◌, inl, inr, ap, ◌∙◌, ◌-ℤ◌, ◌+ℤ◌, ◌*ℤ◌, pos, ◌+◌, ◌*◌, ◌<◌, ◌≤◌, Bool, true, false, ℤ, ℕ, List, Option, Some, None, Ok, refl, sym, arith, if◌then◌else◌}
 use Rattle.std.specs.Prelude.{nat_lt, unsigned_abs}
 use Rattle.std.proofs.lemmas.Bool.Decides.{nat_tests}
 use Rattle.std.proofs.lemmas.Int.{ints}
+use Rattle.calendar_count.specs.Calendar.{day_at, ymd}
+use Rattle.calendar_count.specs.Range.{last_count, unix_epoch}
+use Rattle.datetime_wall.specs.Wall.{Shown, second_nanos, wall_clock}
+use Rattle.datetime_types.proofs.UnixLemmas.{wall_parts}
+use Rattle.parsing_values.specs.Moment.{moment_of, time_of_fields}
+use Rattle.parsing_values.specs.declared.fields.Fields.{Fields}
+use Rattle.parsing_values.proofs.lemmas.Moments.{moment_of_parts}
 use Rattle.instants_edges.specs.Beside.{word_after}
 use Rattle.instants_found.specs.declared.doubt.Doubt.TheVariants.{AnotherOffset}
 use Rattle.calendar.specs.UtcOffset.{offset_of_seconds}
@@ -15,8 +22,7 @@ use Rattle.zones_clock.specs.AllMoments.{moments_of}
 use Rattle.instants_prefixes.specs.DateSource.{IsWithin}
 use Rattle.instants_prefixes.specs.declared.prefix.Prefix.{Prefix}
 use Rattle.zones_clock.specs.Clock.{AreTheMoments}
-use Rattle.zones_clock.proofs.ClockLemmas.{the_moments}
-use Rattle.zones_clock.proofs.MomentLemmas.{answer_listed}
+use Rattle.zones_clock.proofs.MomentLemmas.{answer_is}
 use Rattle.instants_found.specs.declared.zoned.Settled.{Settled}
 use Rattle.instants_found.specs.Zoned.{EachIsAtTheMoment, IsTheMoment, ahead_by, at_offset, by_moments, has_name, chosen, is_said, reading, settled_by}
 
@@ -75,4 +81,15 @@ the_moment zone line ends prefix (Repeated m n) h none = chosen_moment zone line
 the_moment zone line ends prefix (Several m n o) h none = absurd cc
 
 pub each_at_the_moment : EachIsAtTheMoment
-each_at_the_moment zone line ends prefix none = the_moment zone line ends prefix _ (the_moments zone.first zone.steps.items (reading prefix.moment) _ (answer_listed zone.first zone.steps.items (reading prefix.moment))) none
+each_at_the_moment zone line ends prefix none = the_moment zone line ends prefix _ (answer_is zone.first zone.steps.items (reading prefix.moment)) none
+
+-- ---- what the clock of fields shows
+
+pub reading_is : (f : Fields) (day : ℕ) → day ≤ last_count → day_at day ≡ ymd (pos f.year) f.month f.day → f.fraction < second_nanos
+    → reading (moment_of f) ≡ ((pos day -ℤ pos unix_epoch) *ℤ pos 86_400) +ℤ pos (f.minute * 60 + f.second)
+unfolding wall_clock
+reading_is f day within is small =
+    let parts = moment_of_parts f day (time_of_fields f) (pos 60 *ℤ f.offset) within is refl refl in
+    let wall : (moment_of f).wall ≡ wall_clock day (time_of_fields f) = ap (λ (m : Shown). m.wall) (sym parts) in
+    let q = wall_parts (wall_clock day (time_of_fields f)) in
+    rw wall (omega (arith, ints, q, small))

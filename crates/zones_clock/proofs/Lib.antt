@@ -1,3 +1,4 @@
 pub mod ClockLemmas
+pub mod BetweenLemmas
 pub mod MomentLemmas
 pub mod NameLemmas

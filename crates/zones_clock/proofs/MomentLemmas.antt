@@ -1,14 +1,13 @@
 -- The list of the moments at which a clock shows a reading has each of them, in order.
-use Rattle.std.proofs.Common.{◌≡◌, ℕ, ◌≤◌, length, ◌⊎◌, inl, inr, refl, ap, sym, arith, Bool, ℤ, ◌+ℤ◌, ◌-ℤ◌, ◌<ℤ◌, ◌≤ℤ◌, int_lt, List, [], ◌∷◌, ◌++◌, if◌then◌else◌, not, subst}
+use Rattle.std.proofs.Common.{◌≡◌, ◌⊎◌, inl, inr, refl, arith, Bool, ℤ, ◌+ℤ◌, ◌-ℤ◌, ◌<ℤ◌, ◌≤ℤ◌, int_le, int_lt, List, [], ◌∷◌, ◌++◌, if◌then◌else◌, subst}
 use Rattle.std.specs.List.{filter}
 use Rattle.std.proofs.lemmas.Int.{ints}
 use Rattle.zones_clock.specs.declared.zone.Step.{Step}
-use Rattle.zones_clock.specs.declared.zone.Moments.{Moments}
-use Rattle.zones_clock.specs.declared.zone.Moments.TheVariants.{Skipped, One, Repeated, Several}
-use Rattle.zones_clock.specs.Steps.{offset_at, offset_after, IsOffset, AreOffsets}
-use Rattle.zones_clock.specs.Clock.{Shows, IsSure}
-use Rattle.zones_clock.specs.AllMoments.{all_moments, answer_of, moments_of, ListsInOrder}
-use Rattle.zones_clock.proofs.ClockLemmas.{IsAnswer, sure_at, less-or-not, lt-true, lt-false, lt-le, difference}
+use Rattle.zones_clock.specs.declared.zone.Moments.TheVariants.{Skipped, Several}
+use Rattle.zones_clock.specs.Steps.{offset_at}
+use Rattle.zones_clock.specs.Clock.{AreTheMoments, Shows}
+use Rattle.zones_clock.specs.AllMoments.{all_moments, moments_of, with_moments, ListsInOrder}
+use Rattle.zones_clock.proofs.ClockLemmas.{less-or-not, le-true, le-false, lt-true, lt-false, lt-le, difference}
 
 -- what is true of the same moments is listed by the same list
 same-listed : (P Q : ℤ → Type 0) (ms : List ℤ) → ((t : ℤ) → P t → Q t) → ((t : ℤ) → Q t → P t) → ListsInOrder P ms → ListsInOrder Q ms
@@ -16,15 +15,15 @@ same-listed P Q [] to back h = λ t q. h t (back t q)
 same-listed P Q (m ∷ ms) to back h = (to m h.0, λ t q. h.1 t (back t q), same-listed (λ t. P t × (m <ℤ t)) (λ t. Q t × (m <ℤ t)) ms (λ t x. (to t x.0, x.1)) (λ t x. (back t x.0, x.1)) h.2)
 
 -- of the moments listed, those from one on
-from-listed : (P : ℤ → Type 0) (from : ℤ) (ms : List ℤ) → ListsInOrder P ms → ListsInOrder (λ t. P t × (from ≤ℤ t)) (filter (λ m. not (int_lt m from)) ms)
+from-listed : (P : ℤ → Type 0) (from : ℤ) (ms : List ℤ) → ListsInOrder P ms → ListsInOrder (λ t. P t × (from ≤ℤ t)) (filter (λ m. int_le from m) ms)
 from-listed P from [] h = λ t p. h t p.0
 from-listed P from (m ∷ ms) h =
     let After : ℤ → Type 0 = λ t. (P t × (m <ℤ t)) × (from ≤ℤ t) in
-    let kept : List ℤ = filter (λ m. not (int_lt m from)) ms in
+    let kept : List ℤ = filter (λ m. int_le from m) ms in
     let later : ListsInOrder After kept = from-listed (λ t. P t × (m <ℤ t)) from ms h.2 in
     elim (less-or-not m from) [
-      | inl below ↦ rw (lt-true m from below) (same-listed After (λ t. P t × (from ≤ℤ t)) kept (λ t x. (x.0.0, x.1)) (λ t x. ((x.0, lt-le m from t below x.1), x.1)) later)
-      | inr past ↦ rw (lt-false m from past) ((h.0, past), λ t x. h.1 t x.0, same-listed After (λ t. (P t × (from ≤ℤ t)) × (m <ℤ t)) kept (λ t x. ((x.0.0, x.1), x.0.1)) (λ t x. ((x.0.0, x.1), x.0.1)) later)
+      | inl below ↦ rw (le-false from m below) (same-listed After (λ t. P t × (from ≤ℤ t)) kept (λ t x. (x.0.0, x.1)) (λ t x. ((x.0, lt-le m from t below x.1), x.1)) later)
+      | inr past ↦ rw (le-true from m past) ((h.0, past), λ t x. h.1 t x.0, same-listed After (λ t. (P t × (from ≤ℤ t)) × (m <ℤ t)) kept (λ t x. ((x.0.0, x.1), x.0.1)) (λ t x. ((x.0.0, x.1), x.0.1)) later)
     ]
 
 -- a moment lies before the first step, and the first offset gives it, or it lies from there on, and the clock after the step shows the reading
@@ -52,7 +51,7 @@ moments_listed first [] reading = (record { shown = omega (arith, ints) }, λ t 
 moments_listed first (s ∷ ss) reading =
     let m : ℤ = reading -ℤ first in
     let Later : ℤ → Type 0 = λ t. Shows s.offset ss reading t × (s.from ≤ℤ t) in
-    let rest : List ℤ = filter (λ t. not (int_lt t s.from)) (all_moments s.offset ss reading) in
+    let rest : List ℤ = filter (λ t. int_le s.from t) (all_moments s.offset ss reading) in
     let later : ListsInOrder Later rest = from-listed (Shows s.offset ss reading) s.from (all_moments s.offset ss reading) (moments_listed s.offset ss reading) in
     same-listed (Parts first s ss reading) (Shows first (s ∷ ss) reading) (filter (λ t. int_lt t s.from) (m ∷ []) ++ rest) (of-parts first s ss reading) (parts-of first s ss reading) (elim (less-or-not m s.from) [
       | inl below ↦ rw (lt-true m s.from below) (
@@ -63,52 +62,23 @@ moments_listed first (s ∷ ss) reading =
       | inr past ↦ rw (lt-false m s.from past) (same-listed Later (Parts first s ss reading) rest (λ t x. inr x) (λ t x. elim x [ inl y ↦ absurd (omega (arith, ints, y.0, y.1)) | inr y ↦ y ]) later)
     ])
 
+several : (m n o : ℤ) (more : List ℤ) → with_moments (Several m n o) more ≡ Several m n o
+several m n o [] = refl
+several m n o (p ∷ more) = several m n o more
+
 -- what a list in order gives is the answer
-list-answer : (first : ℤ) (steps : List Step) (reading : ℤ) (ms : List ℤ) → ListsInOrder (Shows first steps reading) ms → IsAnswer first steps reading (answer_of ms)
-list-answer first steps reading [] h = (tt, h)
-list-answer first steps reading (m ∷ []) h = (h.0, λ t s. elim (less-or-not m t) [ inl after ↦ absurd (h.2 t (s, after)) | inr early ↦ omega (arith, ints, h.1 t s) ])
-list-answer first steps reading (m ∷ n ∷ []) h = (
+answer-of : (first : ℤ) (steps : List Step) (reading : ℤ) (ms : List ℤ) → ListsInOrder (Shows first steps reading) ms → AreTheMoments first steps reading (with_moments Skipped ms)
+answer-of first steps reading [] h = h
+answer-of first steps reading (m ∷ []) h = (h.0, λ t s. elim (less-or-not m t) [ inl after ↦ absurd (h.2 t (s, after)) | inr early ↦ omega (arith, ints, h.1 t s) ])
+answer-of first steps reading (m ∷ n ∷ []) h = (
   (h.0, h.2.0.0, h.2.0.1),
   λ t s. elim (less-or-not m t) [
     | inl after ↦ inr (elim (less-or-not n t) [ inl last ↦ absurd (h.2.2 t ((s, after), last)) | inr early ↦ omega (arith, ints, h.2.1 t (s, after)) ])
     | inr early ↦ inl (omega (arith, ints, h.1 t s))
   ],
 )
-list-answer first steps reading (m ∷ n ∷ o ∷ more) h = (
-  (h.0, h.2.0.0, h.2.2.0.0.0, h.2.0.1, h.2.2.0.1),
-  λ t s. elim (less-or-not m t) [
-    | inl after ↦ inr (elim (less-or-not n t) [ inl last ↦ inr (h.2.2.1 t ((s, after), last)) | inr early ↦ inl (omega (arith, ints, h.2.1 t (s, after))) ])
-    | inr early ↦ inl (omega (arith, ints, h.1 t s))
-  ],
-)
+answer-of first steps reading (m ∷ n ∷ o ∷ more) h = rw (several m n o more) (h.0, h.2.0.0, h.2.2.0.0.0, h.2.0.1, h.2.2.0.1)
 
-pub answer_listed : (first : ℤ) (steps : List Step) (reading : ℤ) → IsAnswer first steps reading (moments_of first steps reading)
+pub answer_is : (first : ℤ) (steps : List Step) (reading : ℤ) → AreTheMoments first steps reading (moments_of first steps reading)
 unfolding moments_of
-answer_listed first steps reading = list-answer first steps reading _ (moments_listed first steps reading)
-
--- there is one answer
-same-answer : (first : ℤ) (steps : List Step) (reading : ℤ) (one other : Moments) → IsAnswer first steps reading one → IsAnswer first steps reading other → one ≡ other
-same-answer first steps reading Skipped Skipped f g = refl
-same-answer first steps reading Skipped (One p) f g = absurd (f.1 p g.0)
-same-answer first steps reading Skipped (Repeated p q) f g = absurd (f.1 p g.0.0)
-same-answer first steps reading Skipped (Several p q r) f g = absurd (f.1 p g.0.0)
-same-answer first steps reading (One m) Skipped f g = absurd (g.1 m f.0)
-same-answer first steps reading (One m) (One p) f g = ap One (g.1 m f.0)
-same-answer first steps reading (One m) (Repeated p q) f g = absurd (omega (arith, ints, f.1 p g.0.0, f.1 q g.0.1, g.0.2))
-same-answer first steps reading (One m) (Several p q r) f g = absurd (omega (arith, ints, f.1 p g.0.0, f.1 q g.0.1, g.0.3))
-same-answer first steps reading (Repeated m n) Skipped f g = absurd (g.1 m f.0.0)
-same-answer first steps reading (Repeated m n) (One p) f g = absurd (omega (arith, ints, g.1 m f.0.0, g.1 n f.0.1, f.0.2))
-same-answer first steps reading (Repeated m n) (Repeated p q) f g = grind (arith, ints, f.0.2, g.0.2, f.1 p g.0.0, f.1 q g.0.1, g.1 m f.0.0, g.1 n f.0.1)
-same-answer first steps reading (Repeated m n) (Several p q r) f g = absurd (grind (arith, ints, f.0.2, g.0.3, g.0.4, f.1 p g.0.0, f.1 q g.0.1, f.1 r g.0.2))
-same-answer first steps reading (Several m n o) Skipped f g = absurd (g.1 m f.0.0)
-same-answer first steps reading (Several m n o) (One p) f g = absurd (omega (arith, ints, g.1 m f.0.0, g.1 n f.0.1, f.0.3))
-same-answer first steps reading (Several m n o) (Repeated p q) f g = absurd (grind (arith, ints, g.0.2, f.0.3, f.0.4, g.1 m f.0.0, g.1 n f.0.1, g.1 o f.0.2))
-same-answer first steps reading (Several m n o) (Several p q r) f g = grind (arith, ints, f.0.3, f.0.4, g.0.3, g.0.4, f.1 p g.0.0, f.1 q g.0.1, f.1 r g.0.2, g.1 m f.0.0, g.1 n f.0.1, g.1 o f.0.2)
-
-pub is_moments_of : (first : ℤ) (steps : List Step) (reading : ℤ) (found : Moments) → IsAnswer first steps reading found → found ≡ moments_of first steps reading
-is_moments_of first steps reading found f = same-answer first steps reading found _ f (answer_listed first steps reading)
-
-pub sure_moment : (first : ℤ) (steps : List Step) (count : ℕ) (reading passed given offset : ℤ) → passed ≡ reading → given ≡ offset → offset ≡ offset_after first steps count
-    → IsOffset first → AreOffsets steps → count ≤ length steps → IsSure steps count passed → moments_of first steps reading ≡ One (reading -ℤ given)
-sure_moment first steps count reading passed given offset at same is one all within sure =
-    rw (same, is) (sym (is_moments_of first steps reading _ (sure_at first steps count reading one all within (subst (IsSure steps count) at sure))))
+answer_is first steps reading = answer-of first steps reading _ (moments_listed first steps reading)

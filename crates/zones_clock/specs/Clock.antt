@@ -1,5 +1,6 @@
 -- What a clock shows, and the moments that a reading names.
-use Rattle.std.specs.Prelude.{pos, ◌≡◌, ℕ, ◌<◌, ℤ, ◌<ℤ◌, ◌≤ℤ◌, ◌+ℤ◌, ◌-ℤ◌, length, List, ◌⊎◌}
+use Rattle.std.specs.Prelude.{pos, ◌≡◌, ℕ, zero, suc, ◌<◌, nat_lt, Bool, true, ◌&&◌, not, ℤ, ◌<ℤ◌, ◌≤ℤ◌, int_le, ◌+ℤ◌, ◌-ℤ◌, length, List, [], ◌∷◌, ◌⊎◌}
+use Rattle.std.specs.List.{filter}
 use Rattle.zones_clock.specs.declared.zone.Step.{Step}
 use Rattle.zones_clock.specs.declared.zone.Moments.{Moments}
 use Rattle.zones_clock.specs.declared.zone.Moments.TheVariants.{Skipped, One, Repeated, Several}
@@ -24,46 +25,6 @@ AllBegun steps count moment = (i : ℕ) → i < count → (step_at steps i).from
 abbrev pub IsIn : List Step → ℕ → ℤ → Type 0
 IsIn steps count moment = AllBegun steps count moment × (count < length steps → moment <ℤ (step_at steps count).from)
 
--- there is a step after so many, and it has begun at a moment
-pub record HasNextBegun (steps : List Step) (count : ℕ) (moment : ℤ) : Type 0 where
-  pub there : count < length steps
-  pub begun : (step_at steps count).from ≤ℤ moment
-
--- the moment is one that was found, or no earlier than the third
-abbrev pub Has : Moments → ℤ → Type 0
-Has Skipped moment = ⊥
-Has (One m) moment = moment ≡ m
-Has (Repeated m n) moment = (moment ≡ m) ⊎ (moment ≡ n)
-Has (Several m n o) moment = (moment ≡ m) ⊎ (moment ≡ n) ⊎ (o ≤ℤ moment)
-
--- what was found is shown
-abbrev pub AreShown : ℤ → List Step → ℤ → Moments → Type 0
-AreShown first steps reading Skipped = Unit {0}
-AreShown first steps reading (One m) = Shows first steps reading m
-AreShown first steps reading (Repeated m n) = Shows first steps reading m × Shows first steps reading n × (m <ℤ n)
-AreShown first steps reading (Several m n o) = Shows first steps reading m × Shows first steps reading n × Shows first steps reading o × (m <ℤ n) × (n <ℤ o)
-
--- the moment is later than what was found
-abbrev pub IsAfter : Moments → ℤ → Type 0
-IsAfter Skipped moment = Unit {0}
-IsAfter (One m) moment = m <ℤ moment
-IsAfter (Repeated m n) moment = n <ℤ moment
-IsAfter (Several m n o) moment = o <ℤ moment
-
--- what was found lies before that many steps have begun
-abbrev pub AreBefore : Moments → List Step → ℕ → Type 0
-AreBefore found steps count = (moment : ℤ) → AllBegun steps count moment → IsAfter found moment
-
--- each moment that shows the reading was found, or lies where that many steps have begun
-abbrev pub AllFound : ℤ → List Step → ℤ → Moments → ℕ → Type 0
-AllFound first steps reading found count = (moment : ℤ) → Shows first steps reading moment → Has found moment ⊎ AllBegun steps count moment
-
--- what was found among the moments before that many steps have begun
-pub record IsFound (first : ℤ) (steps : List Step) (reading : ℤ) (count : ℕ) (found : Moments) : Type 0 where
-  pub shown : AreShown first steps reading found
-  pub all : AllFound first steps reading found count
-  pub before : AreBefore found steps count
-
 -- with a later moment added
 abbrev pub with_moment : Moments → ℤ → Moments
 with_moment Skipped moment = One moment
@@ -71,10 +32,18 @@ with_moment (One m) moment = Repeated m moment
 with_moment (Repeated m n) moment = Several m n moment
 with_moment (Several m n o) moment = Several m n o
 
--- the moment at which a clock with the offset after that many steps shows the reading was added, if it lies there
-pub data IsTaken (first : ℤ) (steps : List Step) (reading : ℤ) (count : ℕ) (found : Moments) (result : Moments) : Type 0 where
-  lies_there : IsIn steps count (reading -ℤ offset_after first steps count) → result ≡ with_moment found (reading -ℤ offset_after first steps count) → IsTaken first steps reading count found result
-  lies_elsewhere : (IsIn steps count (reading -ℤ offset_after first steps count) → ⊥) → result ≡ found → IsTaken first steps reading count found result
+-- the last of so many steps, if there is one, has begun at a moment
+abbrev pub have_begun : List Step → ℕ → ℤ → Bool
+have_begun steps zero moment = true
+have_begun steps (suc count) moment = int_le (step_at steps count).from moment
+
+-- there is a step after so many, and it has begun at a moment
+abbrev pub has_next_begun : List Step → ℕ → ℤ → Bool
+has_next_begun steps count moment = nat_lt count (length steps) && int_le (step_at steps count).from moment
+
+-- the moment at which a clock with the offset after so many steps shows a reading, if it lies after them and before the next
+abbrev pub moment_between : ℤ → List Step → ℤ → ℕ → List ℤ
+moment_between first steps reading count = filter (λ m. have_begun steps count m && not (has_next_begun steps count m)) ((reading -ℤ offset_after first steps count) ∷ [])
 
 -- all moments that can show a reading lie after so many steps, and before the next
 pub record IsSure (steps : List Step) (count : ℕ) (reading : ℤ) : Type 0 where

@@ -1,8 +1,8 @@
 //! The moments at which a zone's clock shows a reading.
-ghost use Rattle.std.specs.Prelude.{◌≡◌, ℕ, ◌+◌, ◌<◌, ◌≤◌, ◌↔◌, IsTrue, vec_len, ◌-ℤ◌, ◌≤ℤ◌};
+ghost use Rattle.std.specs.Prelude.{◌≡◌, ℕ, ◌+◌, ◌<◌, ◌≤◌, vec_len, int_le, ◌-ℤ◌};
 ghost use Rattle.zones_clock.specs.Steps.{offset_at, offset_after, step_at, IsOffset, IsReading};
-ghost use Rattle.zones_clock.specs.Clock.{IsIn, AllBegun, AreTheMoments, IsTaken, HasNextBegun, with_moment};
-ghost use Rattle.zones_clock.specs.AllMoments.{moments_of};
+ghost use Rattle.zones_clock.specs.Clock.{IsIn, have_begun, has_next_begun, moment_between, with_moment};
+ghost use Rattle.zones_clock.specs.AllMoments.{moments_of, with_moments};
 
 use crate::zone::{Moments, OFFSET_BOUND, Zone};
 
@@ -22,7 +22,7 @@ impl Zone {
     // Whether the step at a place has begun at a moment.
     fn has_begun(&self, place: usize, moment: i64) -> bool
         requires { place < vec_len self.now.steps }
-        ensures { IsTrue result ↔ (step_at self.now.steps.items place).from ≤ℤ moment }
+        ensures { result ≡ int_le (step_at self.now.steps.items place).from moment }
     {
         self.steps[place].from <= moment
     }
@@ -49,11 +49,11 @@ impl Zone {
         reading - i64::from(self.offset_after(count))
     }
 
-    // Whether so many steps have begun at a moment.
+    // Whether the last of so many steps has begun at a moment, if there is one.
     #[inline(always)]
     pub(crate) fn have_begun(&self, count: usize, moment: i64) -> bool
         requires { count ≤ vec_len self.now.steps }
-        ensures { IsTrue result ↔ AllBegun self.now.steps.items count moment }
+        ensures { result ≡ have_begun self.now.steps.items count moment }
     {
         if count == 0 {
             return true;
@@ -64,23 +64,12 @@ impl Zone {
     // Whether there is a step after so many, and it has begun at a moment.
     #[inline(always)]
     pub(crate) fn has_next_begun(&self, count: usize, moment: i64) -> bool
-        ensures { IsTrue result ↔ HasNextBegun self.now.steps.items count moment }
+        ensures { result ≡ has_next_begun self.now.steps.items count moment }
     {
         if count < self.steps.len() {
             return self.has_begun(count, moment);
         }
         false
-    }
-
-    // Whether so many steps have begun at a moment, and the next has not.
-    fn is_in(&self, count: usize, moment: i64) -> bool
-        requires { count ≤ vec_len self.now.steps }
-        ensures { IsTrue result ↔ IsIn self.now.steps.items count moment }
-    {
-        if !self.have_begun(count, moment) {
-            return false;
-        }
-        !self.has_next_begun(count, moment)
     }
 
     // How many steps have begun at a moment.
@@ -105,10 +94,10 @@ impl Zone {
     fn with_moment_after(&self, count: usize, reading: i64, found: Moments) -> Moments
         requires count { count ≤ vec_len self.now.steps }
         requires reading { IsReading reading }
-        ensures { IsTaken self.now.first self.now.steps.items reading count found result }
+        ensures { result ≡ with_moments found (moment_between self.now.first self.now.steps.items reading count) }
     {
         let moment = self.moment_after(count, reading);
-        if self.is_in(count, moment) {
+        if self.have_begun(count, moment) && !self.has_next_begun(count, moment) {
             with_moment(found, moment)
         } else {
             found
@@ -126,8 +115,7 @@ impl Zone {
     /// The moments at which the clock shows a reading, given in seconds since the clock showed 1970-01-01T00:00:00.
     pub fn moments(&self, reading: i64) -> Moments
         requires { IsReading reading }
-        ensures relation { AreTheMoments self.now.first self.now.steps.items reading result }
-        ensures function { result ≡ moments_of self.now.first self.now.steps.items reading }
+        ensures { result ≡ moments_of self.now.first self.now.steps.items reading }
     {
         let earliest = reading - OFFSET_BOUND;
         let latest = reading + OFFSET_BOUND;

@@ -1,13 +1,13 @@
 use Rattle.std.proofs.Common.{arith}
 use Rattle.std.proofs.lemmas.Int.{ints}
-use Rattle.zones_clock.proofs.ClockLemmas.{all_begun, in_of, later_of}
+use Rattle.zones_clock.proofs.ClockLemmas.{all_begun, in_of}
 use Rattle.zones_clock.proofs.zone.Zone.count_begun.Goals as goal
 
 pub loop-low-preserved-then-has_begun : goal.loop-low-preserved-then-has_begun
 loop-low-preserved-then-has_begun c = record {
   order = omega arith;
   within = c.loop-low.invariant.within;
-  begun = all_begun c.args.self.now.steps.items _ _ c.args.self.now.ordered (omega arith) (c.has_begun.ensures.0 c.if-has_begun.true);
+  begun = all_begun c.args.self.now.steps.items _ _ c.args.self.now.ordered (omega arith) (grind (arith, ints, c.has_begun.ensures, c.if-has_begun.true));
   later = c.loop-low.invariant.later;
 }
 
@@ -16,7 +16,7 @@ loop-low-preserved c = record {
   order = omega arith;
   within = omega arith;
   begun = c.loop-low.invariant.begun;
-  later = λ lt. later_of _ _ _ c.has_begun.ensures c.if-has_begun.false;
+  later = λ lt. grind (arith, ints, c.has_begun.ensures, c.if-has_begun.false);
 }
 
 pub returns-clause-begun : goal.returns-clause-begun
