@@ -1,5 +1,5 @@
 -- Bytes that begin in no form of a list, by their first byte.
-use Rattle.std.proofs.Common.{◌≡◌, ◌∙◌, ℕ, ◌+◌, ◌<◌, ◌==◌, true, false, List, [], ◌∷◌, length, take, drop, get_or, if◌then◌else◌, sym, ap, refl, arith}
+use Rattle.std.proofs.Common.{◌≡◌, ◌∙◌, ℕ, suc, ◌+◌, ◌<◌, ◌==◌, true, false, List, [], ◌∷◌, length, take, drop, get_or, if◌then◌else◌, sym, ap, refl, arith}
 use Rattle.std.specs.List.{prefix_len}
 use Rattle.std.proofs.lemmas.List.{get_or-drop}
 use Rattle.std.specs.Prelude.{codes}
@@ -50,10 +50,13 @@ unfolding begun begin_so
 no_clock [] digit = refl
 no_clock (byte ∷ bytes) digit = rw digit refl
 
+one-more : (n : ℕ) → 1 + n ≡ suc n
+one-more n = omega arith
+
 begins : (bytes : List ℕ) (first : ℕ) → first ≡ get_or bytes 0 0 → get_or (take (prefix_len is_ascii_alphabetic bytes) bytes) 0 first ≡ first
 begins [] first is = refl
 begins (byte ∷ bytes) first is = elim (is_ascii_alphabetic byte) as (λ b. get_or (take (if b then 1 + prefix_len is_ascii_alphabetic bytes else 0) (byte ∷ bytes)) 0 first ≡ first) [
-  | true ↦ sym is
+  | true ↦ rw (one-more (prefix_len is_ascii_alphabetic bytes)) (sym is)
   | false ↦ refl
 ]
 
