@@ -48,6 +48,8 @@ fn reading_of(fields: &Fields) -> i64
     ensures value { result ≡ Zoned.reading (moment_of fields.now) }
     ensures bound { Steps.IsReading result }
 {
+    // (that a fraction is less than a second is told by its number, which leaves no code)
+    let _ = fields.fraction.nanosecond();
     let year = i32::from(fields.year.number());
     let day = march::count_of_day(year, fields.month, fields.day);
     let second = u32::from(fields.minute) * 60 + fields.second;
@@ -62,7 +64,10 @@ fn reading(date: &Named) -> i64
 {
     match date.fields() {
         Some(fields) => reading_of(fields),
-        None => date.moment().replace_offset(UtcOffset::UTC).unix_timestamp(),
+        None => date
+            .moment()
+            .replace_offset(UtcOffset::UTC)
+            .unix_timestamp(),
     }
 }
 
@@ -105,8 +110,7 @@ fn is_said(zone: &Zone, line: &[u8], ends: usize, moment: i64) -> bool
     requires { ends ≤ length line.now }
     ensures { result ≡ Zoned.is_said zone.now line.now ends moment }
 {
-    has_name(zone, line, ends, moment)
-        && has_offset(zone, offset_said(line, ends), moment)
+    has_name(zone, line, ends, moment) && has_offset(zone, offset_said(line, ends), moment)
 }
 
 impl Settled {
