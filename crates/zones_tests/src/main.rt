@@ -10,31 +10,51 @@
 //! A row is written with its answer after ` => `.
 #![tactic(auto)]
 
-mod answers;
-mod row;
+mod files;
 mod rules;
+mod telling;
 
-use answers::answer;
-use row::row_of;
-use rules::{answer_rule, rule_row_of};
-use std::io::{BufWriter, Write};
+use files::tell_file;
+use rules::tell_rule;
 use std::{fs, io};
+use telling::tell_no_answer;
+use zones::is_zone_name;
 
 fn main(rt: HostRuntime) -> io::Result<()> {
-    let mut out = BufWriter::new(rt.alloc(), io::writer(&rt))?;
-    for line in rt.lines(rt.alloc()) {
-        answer_line(&rt, &mut out, line?.as_str())?;
+    let rows = io::read_to_string(rt.alloc(), rt.stdin())?;
+    let mut told = String::new(rt.alloc());
+    for row in rows.as_str().lines() {
+        tell_row(&rt, &mut told, row)?;
     }
-    out.flush()
+    rt.print(told.as_str())
 }
 
-fn answer_line<W: Write>(rt: &HostRuntime, out: &mut W, line: &str) -> io::Result<()> {
-    write!(out, "{line} => ")?;
-    if let Some((text, moment)) = rule_row_of(line) {
-        return answer_rule(rt.alloc(), out, text, moment);
+fn tell_row(rt: &HostRuntime, told: &mut String, row: &str) -> io::Result<()> {
+    write!(told, "{row} => ")?;
+    match parts_of(row) {
+        Some(parts) => tell_parts(rt, told, parts),
+        None => Ok(tell_no_answer(told)?),
     }
-    match row_of(line) {
-        Some(row) => answer(rt.alloc(), out, fs::read(rt, row.zone)?, row.question),
-        None => writeln!(out, "?"),
+}
+
+// The first two words of a row, and what stands after them.
+fn parts_of(row: &str) -> Option<(&str, &str, &str)> {
+    let (first, rest) = row.split_once(' ')?;
+    let (second, rest) = rest.split_once(' ')?;
+    Some((first, second, rest))
+}
+
+fn tell_parts(
+    rt: &HostRuntime,
+    told: &mut String,
+    (first, second, rest): (&str, &str, &str),
+) -> io::Result<()> {
+    if first == "rule" {
+        return Ok(tell_rule(rt.alloc(), told, second, rest)?);
     }
+    if !is_zone_name(first.as_bytes()) {
+        return Ok(tell_no_answer(told)?);
+    }
+    let file = fs::read(rt, first)?;
+    Ok(tell_file(rt.alloc(), told, file, second, rest)?)
 }

@@ -1,42 +1,42 @@
 //! What a rule's text answers.
 
+use crate::telling::{Told, tell_no_answer, text_of};
 use std::alloc::Global;
-use std::io;
-use std::io::Write;
-use zones::{Names, Zone, read_rule};
+use zones::{Footer, Names, Step, Zone, read_rule};
 
-/// The text and the moment of a row `rule TEXT MOMENT`.
-pub fn rule_row_of(line: &str) -> Option<(&str, i64)> {
-    let rest = line.strip_prefix("rule ")?;
-    let (text, moment) = rest.split_once(' ')?;
-    Some((text, moment.parse().ok()?))
-}
+// No name of a step is told.
+const NAMES: Names = Names {
+    standard: 0,
+    summer: 1,
+};
 
-/// Writes a rule's names, its offset at a moment, and the first step after it.
-pub fn answer_rule<W: Write>(
-    alloc: Global,
-    out: &mut W,
-    text: &str,
-    moment: i64,
-) -> io::Result<()> {
+/// Tells a rule's names, its offset at a moment, and the first step after it.
+pub fn tell_rule(alloc: Global, told: &mut String, text: &str, moment: &str) -> Told {
+    let Ok(moment) = moment.parse() else {
+        return tell_no_answer(told);
+    };
     let Some(footer) = read_rule(text.as_bytes()) else {
-        return writeln!(out, "no rule");
+        return told.push_str("no rule\n");
     };
     if !footer.rule.is_in_order() {
-        return writeln!(out, "crossing");
+        return told.push_str("crossing\n");
     }
-    out.write_all(footer.standard_name)?;
-    write!(out, "/")?;
-    out.write_all(footer.summer_name)?;
-    write!(out, " {}", footer.rule.offset_at(moment))?;
+    tell_footer(told, &footer, moment)?;
     let mut zone = Zone::fixed(alloc, 0, 0, Vec::new(alloc));
-    let names = Names {
-        standard: 0,
-        summer: 1,
-    };
-    footer.rule.push_steps(names, &mut zone, moment)?;
-    match zone.steps.first() {
-        Some(step) => writeln!(out, " until {} {}", step.from, step.offset),
-        None => writeln!(out, " always"),
+    footer.rule.push_steps(NAMES, &mut zone, moment)?;
+    tell_first(told, zone.steps.as_slice())
+}
+
+fn tell_footer(told: &mut String, footer: &Footer<'_>, moment: i64) -> Told {
+    let standard_name = text_of(footer.standard_name);
+    let summer_name = text_of(footer.summer_name);
+    let offset = footer.rule.offset_at(moment);
+    write!(told, "{standard_name}/{summer_name} {offset} ")
+}
+
+fn tell_first(told: &mut String, steps: &[Step]) -> Told {
+    match steps.first() {
+        Some(step) => writeln!(told, "until {} {}", step.from, step.offset),
+        None => told.push_str("always\n"),
     }
 }
