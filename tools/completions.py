@@ -45,16 +45,16 @@ _instants()
                 *) compopt -o default 2> /dev/null ;;
             esac
             ;;
-        # (a description stands here, or a year, a time or a label)
-        *:v[123]:* | *:strftime:* | *:year:* | *:time:* | *:label:*) ;;
+        # (a description stands here, or what follows a name as year)
+        *:v[123]:* | *:strftime:* | *:year:* | *:time:* | *:field:* | *:column:* | *:separator:* | *:label:*) ;;
         instants:*:1:*) words='+00:00' ;;
         instants:*:2:*) words='- +00:00' ;;
         instants:*:3:*) words='100 LIMIT' ;;
         instants:*) words='SOURCES' ;;
         *:1:* | *:-q:* | *:--count:*) words='MODES OPTIONS' ;;
         *:3:[[:upper:]]*) words=$(ZONES | cut -f3) ;;
-        *:[2345]:*) words='+00:00 - 64 LIMIT year time label SOURCES FORMATS' ;;
-        *) words='year time label SOURCES FORMATS' ;;
+        *:[2345]:*) words='+00:00 - 64 LIMIT year time field column separator label SOURCES FORMATS' ;;
+        *) words='year time field column separator label SOURCES FORMATS' ;;
     esac
     mapfile -t COMPREPLY < <(compgen -W "$words" -- "$word")
     if declare -F __ltrim_colon_completions > /dev/null; then
@@ -76,7 +76,7 @@ case $name:$before:$place in
     instants-merge:-f:*) found=(guess SOURCES FORMATS) ;;
     instants-merge:-[aytl]:* | instants-merge:--since:* | instants-merge:--until:*) ;;
     instants-merge:*) if [[ $PREFIX == -* ]]; then found=(MERGES); else _files; fi ;;
-    *:v[123]:* | *:strftime:* | *:year:* | *:time:* | *:label:*) ;;
+    *:v[123]:* | *:strftime:* | *:year:* | *:time:* | *:field:* | *:column:* | *:separator:* | *:label:*) ;;
     instants:*:1) found=(+00:00) ;;
     instants:*:2) found=(- +00:00) ;;
     instants:*:3) found=(100 LIMIT) ;;
@@ -87,11 +87,11 @@ case $name:$before:$place in
         if [[ $PREFIX == [[:upper:]]* ]]; then
             found=(${(f)"$(ZONES | cut -f3)"})
         else
-            found=(+00:00 - 64 LIMIT year time label SOURCES FORMATS)
+            found=(+00:00 - 64 LIMIT year time field column separator label SOURCES FORMATS)
         fi
         ;;
-    *:[245]) found=(+00:00 - 64 LIMIT year time label SOURCES FORMATS) ;;
-    *) found=(year time label SOURCES FORMATS) ;;
+    *:[245]) found=(+00:00 - 64 LIMIT year time field column separator label SOURCES FORMATS) ;;
+    *) found=(year time field column separator label SOURCES FORMATS) ;;
 esac
 compadd -- $found
 """
@@ -109,7 +109,7 @@ function __instants_words
             return
         case 'instants-merge:-f:*'
             set found guess SOURCES FORMATS
-        case '*:v1:*' '*:v2:*' '*:v3:*' '*:strftime:*' '*:year:*' '*:time:*' '*:label:*'
+        case '*:v1:*' '*:v2:*' '*:v3:*' '*:strftime:*' '*:year:*' '*:time:*' '*:field:*' '*:column:*' '*:separator:*' '*:label:*'
             return
         case 'instants:*:1'
             set found +00:00
@@ -122,14 +122,14 @@ function __instants_words
         case '*:1' '*:-q:*' '*:--count:*'
             set found MODES OPTIONS
         case '*:2' '*:3' '*:4' '*:5'
-            set found +00:00 - 64 LIMIT year time label SOURCES FORMATS
+            set found +00:00 - 64 LIMIT year time field column separator label SOURCES FORMATS
             # (a zone begins with a capital letter)
             if test $place = 3; and string match -qr '^[A-Z]' -- (commandline -ct)
                 set -q TZDIR; or set -l TZDIR /usr/share/zoneinfo
                 set found (cat $TZDIR/zone.tab 2> /dev/null | string match -v '#*' | cut -f3)
             end
         case '*'
-            set found year time label SOURCES FORMATS
+            set found year time field column separator label SOURCES FORMATS
     end
     printf '%s\n' $found
 end

@@ -1,7 +1,8 @@
 #!/usr/bin/env python3
 """Answers as `instants-lines` does, by a model of it in plain Python (tools/model).
 
-    tools/model_lines.py MODE [TARGET [ASSUMED [LIMIT]]] [year N] [time HH:MM] [label TEXT] SOURCE.. < FILE
+    tools/model_lines.py MODE [TARGET [ASSUMED [LIMIT]]] [year N] [time HH:MM] [field NAME | column N [separator S]] [label TEXT]
+                         SOURCE.. < FILE
 
 The model is written from docs/DEFINITIONS.md and the definitions that it names, and not from the code, so it checks the program
 independently; tools/try_model.py compares the two. It takes some ten thousand times as long as the program.

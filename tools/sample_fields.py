@@ -4,6 +4,10 @@ crates/instants_fields_tests are drawn from these.
 
     tools/sample_fields.py members COUNT SEED    LINE<tab>NAME<tab>what stands in the line, or `none`
     tools/sample_fields.py columns COUNT SEED    LINE<tab>NUMBER<tab>SEPARATOR<tab>the column, or `none`
+    tools/sample_fields.py dates COUNT SEED      WORDS, with bars between them, <tab>LINE<tab>what mode `locate` writes
+
+The dates are those of crates/instants_lines_tests/src/parts.rt: each line has several, which differ, and the one that is found is that
+of the field or the column that Python reads.
 """
 
 import csv
@@ -63,11 +67,39 @@ def columns(draw: random.Random) -> tuple[str, str, str]:
     return line, f"{number}\t{separator!r}", found
 
 
+def dated(at: int) -> str:
+    return f"2021-01-{at + 1:02}T03:04:05Z"
+
+
+def found(line: str, text: str) -> str:
+    """Returns what is written where the date is found in the text that Python reads."""
+    at = [it for it in range(28) if dated(it) in text]
+    if not at:
+        return "! none"
+    start = line.index(dated(at[0]))
+    return f"{dated(at[0])[:-1]}.000000000Z\t1\t{start + 1}-{start + len(dated(at[0]))}"
+
+
+def dates(draw: random.Random) -> tuple[str, str, str]:
+    texts = [f"{draw.choice(['', 'x ', 'a, '])}{dated(it)}{draw.choice(['', ' up', ',b'])}" for it in range(draw.randrange(1, 4))]
+    if draw.random() < 0.5:
+        pairs = [(draw.choice(NAMES[:4]), it) for it in texts]
+        line, name = json.dumps(dict(pairs)), draw.choice(NAMES[:4])
+        return f"field|{name}|rfc3339", line, found(line, str(json.loads(line).get(name, "")))
+    out, separator, number = io.StringIO(), draw.choice(",;"), draw.randrange(1, 4)
+    csv.writer(out, delimiter=separator, lineterminator="").writerow(texts)
+    row = next(csv.reader([out.getvalue()], delimiter=separator, strict=True))
+    return f"column|{number}|separator|{separator}|rfc3339", out.getvalue(), found(out.getvalue(), row[number - 1] if number <= len(row) else "")
+
+
+SAMPLES = {"members": members, "columns": columns, "dates": dates}
+
+
 def main() -> None:
     what, count, seed = sys.argv[1], int(sys.argv[2]), int(sys.argv[3])
     draw = random.Random(seed)
     for _ in range(count):
-        print("\t".join(repr(part) for part in (members if what == "members" else columns)(draw)))
+        print("\t".join(repr(part) for part in SAMPLES[what](draw)))
 
 
 if __name__ == "__main__":

@@ -5,6 +5,7 @@ from collections.abc import Sequence
 from typing import NamedTuple
 
 from sample_dates import MONTHS, WAYS, Way, some_moment
+from sample_parts import in_part
 from sample_words import Words
 from sample_zones import Clock, clock_of
 
@@ -147,6 +148,8 @@ def some_stream(rng: random.Random, asked: Words, count: int) -> bytes:
     """Returns so many lines for a run's words as one stream, of which the last now and then has no line feed."""
     drawn = Drawn(asked.ways, clock_of(rng, asked.zone, asked.year))
     lines = [some_line(rng, drawn, asked.limit, asked.words[:1] == ("explain",)) for _ in range(count)]
+    if asked.part:
+        lines = [in_part(rng, asked.part, it) for it in lines]
     if rng.random() < 0.05:
         lines = [it + b"\r" for it in lines]
     return b"\n".join(lines) + (b"" if rng.random() < 0.3 else b"\n")

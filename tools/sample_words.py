@@ -5,6 +5,7 @@ from typing import NamedTuple
 
 from model.words import SYNONYMS
 from sample_dates import WAYS, Way, of, some_letters, some_way
+from sample_parts import PartWords, some_part
 from sample_zones import ODD as ODD_ZONES
 from sample_zones import WORDS as ZONES
 
@@ -62,13 +63,14 @@ PATTERNS = {
 
 
 class Words(NamedTuple):
-    """The words of a run, the ways of its sources, its limit, the word for its zone, and its year, where they are there."""
+    """The words of a run, the ways of its sources, its limit, the word for its zone, its year and its part, where they are there."""
 
     words: tuple[str, ...]
     ways: tuple[Way, ...]
     limit: int
     zone: str | None = None
     year: int | None = None
+    part: PartWords | None = None
 
 
 def offset_of(rng: random.Random, is_needed: bool) -> str:
@@ -113,8 +115,9 @@ def sources(rng: random.Random) -> list[Way]:
 NAMED = named_formats()
 
 
-def right_words(rng: random.Random, zones: float) -> Words:
-    """Returns words that are accepted, and mostly with all that their sources lack; so many of them name a zone."""
+def right_words(rng: random.Random, zones: float, parts: float) -> Words:
+    """Returns words that are accepted, and mostly with all that their sources lack; so many of them name a zone, and so many a part of
+    lines."""
     ways, mode = sources(rng), rng.choice(MODES)
     lacks = {it for way in ways for it in way.lacks} if rng.random() < 0.97 else set()
     zone = rng.choice(ZONES) if rng.random() < zones else None
@@ -128,17 +131,19 @@ def right_words(rng: random.Random, zones: float) -> Words:
         words += ["year", rng.choice(YEARS[:3] if rng.random() < 0.8 else YEARS)]
     if "time" in lacks or rng.random() < 0.06:
         words += ["time", rng.choice(TIMES)]
+    part = some_part(rng) if mode != "explain" and rng.random() < parts else None
+    words += part.words if part else ()
     if mode in ("key", "carry") and rng.random() < 0.15:
         words += ["label", rng.choice(LABELS)]
     year = named(words, "year")
     words += [it for way in ways for it in way.words]
     limit = int(settings[2]) if len(settings) == 3 else 1_048_576
-    return Words(tuple(words), tuple(ways), limit, zone if len(settings) > 1 else None, year)
+    return Words(tuple(words), tuple(ways), limit, zone if len(settings) > 1 else None, year, part)
 
 
 ODD = [
     "", "-", "+", "+00:0", "+24:00", "-23:60", "+0200", "*02:00", "z", "utc", "UTC+1", "Z", "0", "1", "1048576", "1048577", "00000001",
-    "12x", "-1", "year", "time", "10000", "2024",
+    "12x", "-1", "year", "time", "field", "column", "separator", "tab", ";", "10000", "2024",
     "12:60", "24:00", "1:00", "rfc3339", "rfc2822", "iso8601", "RFC3339", "rfc3339.log", "/var/log/app", "./a", "v1", "v2", "v3", "v4",
     "strftime", "%F %T", "%T", "%Z", "%",
     "%-", "%Ey", "%^b", "%f", "%\u00e9x", "%3S", "%_", "[year]", "[year", "[]", "[ ]", "[yaer]", "[year repr]", "[year repr:]",
@@ -157,7 +162,7 @@ ODD = [
 
 def wrong_words(rng: random.Random) -> Words:
     """Returns words of which most are wrong: right ones with some changed, left out, put in, or exchanged."""
-    words = list(right_words(rng, 0.25).words)
+    words = list(right_words(rng, 0.25, 0.25).words)
     for _ in range(rng.choice([1, 1, 1, 2, 3])):
         at, kind = rng.randrange(len(words) + 1), rng.randrange(4)
         if kind == 0:

@@ -26,6 +26,8 @@ ROWS = (
     ("instants-lines key +00:00 - 64 year 2024 rfc3339 ", "syslog v3", "key 64"),
     ("instants-lines key v3 ", "", "rfc3339 key"),
     ("instants-lines key year ", "", "rfc3339 key"),
+    ("instants-lines key column ", "", "rfc3339 key"),
+    ("instants-lines key column 2 ", "separator rfc3339", "key"),
     ("instants +00:00 ", "- +00:00", "rfc3339"),
     ("instants +00:00 - ", "100 1048576", "rfc3339"),
     ("instants +00:00 - 100 rfc3339 ", "rfc2822 strftime", "syslog"),

@@ -1,13 +1,14 @@
 #!/usr/bin/env python3
 """Compares the program `instants-lines` with a model of it (tools/model_lines.py) on lines that are made at random.
 
-    tools/try_model.py [--lines N] [--seed S] [--program PATH] [--block N] [--processes N] [--zones 0.25]
+    tools/try_model.py [--lines N] [--seed S] [--program PATH] [--block N] [--processes N] [--zones 0.25] [--parts 0.25]
     tools/try_model.py --only SEED [..]    the run of one seed, as a difference names it
     tools/try_model.py --rows              the model beside the stored rows of dated lines (crates/rows), without the program
 
 Each run has words of its own: a mode, offsets, a limit, a year, a time of day and sources, among them descriptions that are made at
 random, and a stream of lines with dates of all kinds, changed bytes and odd ends. One run in four names a zone (--zones), and most
-of its dates are near a change of that clock; model and program read the zones of this machine. One run in twenty has words that are wrong. Output,
+of its dates are near a change of that clock; model and program read the zones of this machine. One in four looks for dates in a field
+or a column (--parts). One run in twenty has words that are wrong. Output,
 status and the sentence on standard error have to be the same, byte by byte. Of the first run that differs the words are printed, the
 first line that is answered differently, and both outputs; the status is 1 then.
 
@@ -42,7 +43,7 @@ ROWS, DATED = ROOT / "crates" / "rows" / "stdout", "\n## Dated lines\n"
 OF_TRIAL = b"instants-lines: what follows is of a trial"
 NOTES = (b"instants-lines: the program is not built", b"instants-lines: the program that is built is older", OF_TRIAL, b"instants-lines: hint: ")
 WARNING = re.compile(rb"instants-lines: warning: (?:.*? names no component, as|no line has a date that) [^\n]*\n", re.DOTALL)
-PROCESSES, ZONES = 2, 0.25
+PROCESSES, ZONES, PARTS = 2, 0.25, 0.25
 # A list of wrong words costs a run of its own, which takes as long as so many lines.
 LINES_OF_A_LIST, WRONG = 10, 2
 # After how many lines it is told that the trial goes on.
@@ -100,20 +101,22 @@ def compare(program: str, words: Sequence[str], stream: bytes) -> Answer:
 
 
 class Task(NamedTuple):
-    """A run to compare: how many lines it has, and of how many runs one names a zone."""
+    """A run to compare: how many lines it has, and which share of runs names a zone, and which a part of lines."""
 
     program: str
     seed: int
     lines: int
     zones: float
+    parts: float
 
 
 class Compared(NamedTuple):
-    """The mode of a run, how many lines were compared, of these with a zone, and how many lists of wrong words."""
+    """The mode of a run, how many lines were compared, of these with a zone and by a part, and how many lists of wrong words."""
 
     mode: str
     lines: int
     in_zones: int
+    in_parts: int
     wrong: int
 
 
@@ -122,12 +125,12 @@ def compare_block(task: Task) -> Compared:
     rng = random.Random(task.seed)
     if rng.random() < 0.05:
         lists = [sample_words.wrong_words(rng) for _ in range(task.lines // LINES_OF_A_LIST + 1)]
-        return Compared("", 0, 0, sum(compare(task.program, it.words, b"")[2] == WRONG for it in lists))
-    asked = sample_words.right_words(rng, task.zones)
+        return Compared("", 0, 0, 0, sum(compare(task.program, it.words, b"")[2] == WRONG for it in lists))
+    asked = sample_words.right_words(rng, task.zones, task.parts)
     stream = sample_lines.some_stream(rng, asked, task.lines)
     status = compare(task.program, asked.words, stream)[2]
     lines = task.lines if status == 0 else 0
-    return Compared(asked.words[0], lines, lines if asked.zone else 0, int(status == WRONG))
+    return Compared(asked.words[0], lines, lines if asked.zone else 0, lines if asked.part else 0, int(status == WRONG))
 
 
 # ---- the stored rows
@@ -179,9 +182,9 @@ def compared(task: Task) -> Compared | str:
 def compare_many(asked: argparse.Namespace) -> int:
     """Compares runs until so many lines are compared, and returns the status."""
     runs = (asked.lines + asked.block - 1) // asked.block
-    tasks = (Task(asked.program, asked.seed * 1_000_000 + it, asked.block, asked.zones) for it in range(runs * 2))
+    tasks = (Task(asked.program, asked.seed * 1_000_000 + it, asked.block, asked.zones, asked.parts) for it in range(runs * 2))
     by_mode: dict[str, int] = {}
-    lines, in_zones, wrong, began = 0, 0, 0, time.monotonic()
+    lines, in_zones, in_parts, wrong, began = 0, 0, 0, 0, time.monotonic()
     with multiprocessing.Pool(asked.processes) as pool:
         for said in pool.imap(compared, tasks):
             if isinstance(said, str):
@@ -190,12 +193,13 @@ def compare_many(asked: argparse.Namespace) -> int:
             if (lines + said.lines) // SIGN_OF_LIFE > lines // SIGN_OF_LIFE:
                 print(f"{lines + said.lines} lines so far", file=sys.stderr, flush=True)
             lines, in_zones, wrong = lines + said.lines, in_zones + said.in_zones, wrong + said.wrong
+            in_parts += said.in_parts
             by_mode[said.mode] = by_mode.get(said.mode, 0) + said.lines
             if lines >= asked.lines:
                 break
         pool.terminate()
     told = ", ".join(f"{count} in mode {mode}" for mode, count in sorted(by_mode.items()) if count)
-    print(f"{lines} lines without a difference in {time.monotonic() - began:.0f} s: {told}; {in_zones} with a zone; and {wrong} lists of words that are wrong")
+    print(f"{lines} lines without a difference in {time.monotonic() - began:.0f} s: {told}; {in_zones} with a zone, {in_parts} in parts; and {wrong} lists of words that are wrong")
     return 0
 
 
@@ -206,14 +210,15 @@ def main() -> int:
     parser.add_argument("--program", default=str(BUILT if os.access(BUILT, os.X_OK) else ROOT / "instants-lines"))
     parser.add_argument("--block", type=int, default=200, help="lines of a run")
     parser.add_argument("--processes", type=int, default=PROCESSES)
-    parser.add_argument("--zones", type=float, default=ZONES, help="of how many runs one names a zone")
+    parser.add_argument("--zones", type=float, default=ZONES, help="which share of runs names a zone")
+    parser.add_argument("--parts", type=float, default=PARTS, help="which share of runs looks for dates in a field or a column")
     parser.add_argument("--only", type=int, help="compare the run of this seed alone")
     parser.add_argument("--rows", action="store_true", help="compare the model with the stored rows")
     asked = parser.parse_args()
     if asked.rows:
         return 1 if compare_rows() else 0
     if asked.only is not None:
-        said = compared(Task(asked.program, asked.only, asked.block, asked.zones))
+        said = compared(Task(asked.program, asked.only, asked.block, asked.zones, asked.parts))
         print(said if isinstance(said, str) else "no difference")
         return 1 if isinstance(said, str) else 0
     return compare_many(asked)

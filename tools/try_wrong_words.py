@@ -26,9 +26,11 @@ import pytest
 from program import ROOT
 
 SOURCES = "rfc3339, rfc2822, iso8601, v1, v2, v3, strftime, and the names of --help"
+NO_COLUMN = "no column; modes key, carry, replace and locate take one from 1 to 1048576, where no field is named"
+NO_SEPARATOR = "no separator; after a column it must be one byte and no quotation mark, or tab"
 # Arguments, and the sentence after the program's name.
 ROWS = (
-    ("", "usage: instants-lines MODE [TARGET [ASSUMED [LIMIT]]] [year N] [time HH:MM] [label TEXT] SOURCE..."),
+    ("", "usage: instants-lines MODE [TARGET [ASSUMED [LIMIT]]] [year N] [time HH:MM] [field NAME | column N [separator S]] [label TEXT] SOURCE..."),
     ("keys rfc3339", '"keys": no such mode; there are key, carry, replace, explain, locate'),
     ("key", f"no source is named; there are {SOURCES}"),
     ("key +24:00 rfc3339", '"+24:00": no target offset; it must be +HH:MM, -HH:MM, Z or UTC'),
@@ -36,6 +38,12 @@ ROWS = (
     ("key Z - 0 rfc3339", '"0": no limit; it must be a number from 1 to 1048576'),
     ("key year 24x rfc3339", '"24x": no year; it must be four digits, as 2024'),
     ("key time 25:00 rfc3339", '"25:00": no time of day; it must be HH:MM'),
+    ("explain field a rfc3339", '"a": no field; modes key, carry, replace and locate take one'),
+    ("key column 0 rfc3339", f'"0": {NO_COLUMN}'),
+    ("key field a column 2 rfc3339", f'"2": {NO_COLUMN}'),
+    ("explain column 2 rfc3339", f'"2": {NO_COLUMN}'),
+    ("key column 2 separator ;; rfc3339", f'";;": {NO_SEPARATOR}'),
+    ("key field a separator ; rfc3339", f'";": {NO_SEPARATOR}'),
     ("key Z - 9 RFC3339", f'source 1: "RFC3339": no such source; there are {SOURCES}'),
     ("key rfc3339 app.log", 'source 2: "app.log": no such source; files are read from standard input: instants-lines .. < FILE'),
     ("key strftime", 'source 1: "strftime" needs a description in the next argument'),
@@ -44,6 +52,7 @@ ROWS = (
 
 
 Answer = tuple[int, str | None, str]
+ORDER = "year N, time HH:MM, field NAME or column N separator S, and label TEXT stand in this order before the sources"
 NO_YEAR = "instants-lines: hint: give that of the first line before the sources: year 2024\n"
 UNDATED = "instants-lines: warning: no line has a date that these sources read: try instants-lines guess < FILE\n"
 
@@ -71,7 +80,9 @@ def test_refused(instants_lines: pathlib.Path, words: str, sentence: str) -> Non
         ("key docker", "there is a source docker-json"),
         ("key rfc3339 RFC-2822", "there is a source rfc2822"),
         ("key year syslog rfc3339", "the year of the first line stands after year, as year 2024"),
-        ("key time 00:00 year 2024 syslog", "year N, time HH:MM and label TEXT stand in this order before the sources"),
+        ("key time 00:00 year 2024 syslog", ORDER),
+        ("key field a field b rfc3339", ORDER),
+        ("key column 2 column 3 rfc3339", ORDER),
         ("key +00:00 Z syslog", "give that of the first line before the sources: year 2024"),
         ("key +00:00 Z date", "give one before the sources: time 00:00"),
         ("key mysql", "give one after the target: +00:00 +02:00"),

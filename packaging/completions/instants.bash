@@ -19,16 +19,16 @@ _instants()
                 *) compopt -o default 2> /dev/null ;;
             esac
             ;;
-        # (a description stands here, or a year, a time or a label)
-        *:v[123]:* | *:strftime:* | *:year:* | *:time:* | *:label:*) ;;
+        # (a description stands here, or what follows a name as year)
+        *:v[123]:* | *:strftime:* | *:year:* | *:time:* | *:field:* | *:column:* | *:separator:* | *:label:*) ;;
         instants:*:1:*) words='+00:00' ;;
         instants:*:2:*) words='- +00:00' ;;
         instants:*:3:*) words='100 1048576' ;;
         instants:*) words='rfc3339 rfc2822 iso8601 v1 v2 v3 strftime' ;;
         *:1:* | *:-q:* | *:--count:*) words='key carry replace locate explain guess -q --count --help --version' ;;
         *:3:[[:upper:]]*) words=$(grep -v '^#' "${TZDIR:-/usr/share/zoneinfo}/zone.tab" 2> /dev/null | cut -f3) ;;
-        *:[2345]:*) words='+00:00 - 64 1048576 year time label rfc3339 rfc2822 iso8601 v1 v2 v3 strftime access-log go-time serilog jenkins psql git-log twitter docker-json json-time auditd haproxy apache-error python-logging postgres go-log tomcat redis suricata erlang glog java-logging mdy-am-pm windows-events dmy-dots dmy mdy ctime date-utc cloudfront apt mysql mariadb nginx-error php oracle cisco-asa openssl pacman unix-fraction unix-nanos unix-micros unix-millis unix-time klog logcat snort syslog-fraction syslog spark dmy-short ledger date' ;;
-        *) words='year time label rfc3339 rfc2822 iso8601 v1 v2 v3 strftime access-log go-time serilog jenkins psql git-log twitter docker-json json-time auditd haproxy apache-error python-logging postgres go-log tomcat redis suricata erlang glog java-logging mdy-am-pm windows-events dmy-dots dmy mdy ctime date-utc cloudfront apt mysql mariadb nginx-error php oracle cisco-asa openssl pacman unix-fraction unix-nanos unix-micros unix-millis unix-time klog logcat snort syslog-fraction syslog spark dmy-short ledger date' ;;
+        *:[2345]:*) words='+00:00 - 64 1048576 year time field column separator label rfc3339 rfc2822 iso8601 v1 v2 v3 strftime access-log go-time serilog jenkins psql git-log twitter docker-json json-time auditd haproxy apache-error python-logging postgres go-log tomcat redis suricata erlang glog java-logging mdy-am-pm windows-events dmy-dots dmy mdy ctime date-utc cloudfront apt mysql mariadb nginx-error php oracle cisco-asa openssl pacman unix-fraction unix-nanos unix-micros unix-millis unix-time klog logcat snort syslog-fraction syslog spark dmy-short ledger date' ;;
+        *) words='year time field column separator label rfc3339 rfc2822 iso8601 v1 v2 v3 strftime access-log go-time serilog jenkins psql git-log twitter docker-json json-time auditd haproxy apache-error python-logging postgres go-log tomcat redis suricata erlang glog java-logging mdy-am-pm windows-events dmy-dots dmy mdy ctime date-utc cloudfront apt mysql mariadb nginx-error php oracle cisco-asa openssl pacman unix-fraction unix-nanos unix-micros unix-millis unix-time klog logcat snort syslog-fraction syslog spark dmy-short ledger date' ;;
     esac
     mapfile -t COMPREPLY < <(compgen -W "$words" -- "$word")
     if declare -F __ltrim_colon_completions > /dev/null; then

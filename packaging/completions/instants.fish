@@ -11,7 +11,7 @@ function __instants_words
             return
         case 'instants-merge:-f:*'
             set found guess rfc3339 rfc2822 iso8601 v1 v2 v3 strftime access-log go-time serilog jenkins psql git-log twitter docker-json json-time auditd haproxy apache-error python-logging postgres go-log tomcat redis suricata erlang glog java-logging mdy-am-pm windows-events dmy-dots dmy mdy ctime date-utc cloudfront apt mysql mariadb nginx-error php oracle cisco-asa openssl pacman unix-fraction unix-nanos unix-micros unix-millis unix-time klog logcat snort syslog-fraction syslog spark dmy-short ledger date
-        case '*:v1:*' '*:v2:*' '*:v3:*' '*:strftime:*' '*:year:*' '*:time:*' '*:label:*'
+        case '*:v1:*' '*:v2:*' '*:v3:*' '*:strftime:*' '*:year:*' '*:time:*' '*:field:*' '*:column:*' '*:separator:*' '*:label:*'
             return
         case 'instants:*:1'
             set found +00:00
@@ -24,14 +24,14 @@ function __instants_words
         case '*:1' '*:-q:*' '*:--count:*'
             set found key carry replace locate explain guess -q --count --help --version
         case '*:2' '*:3' '*:4' '*:5'
-            set found +00:00 - 64 1048576 year time label rfc3339 rfc2822 iso8601 v1 v2 v3 strftime access-log go-time serilog jenkins psql git-log twitter docker-json json-time auditd haproxy apache-error python-logging postgres go-log tomcat redis suricata erlang glog java-logging mdy-am-pm windows-events dmy-dots dmy mdy ctime date-utc cloudfront apt mysql mariadb nginx-error php oracle cisco-asa openssl pacman unix-fraction unix-nanos unix-micros unix-millis unix-time klog logcat snort syslog-fraction syslog spark dmy-short ledger date
+            set found +00:00 - 64 1048576 year time field column separator label rfc3339 rfc2822 iso8601 v1 v2 v3 strftime access-log go-time serilog jenkins psql git-log twitter docker-json json-time auditd haproxy apache-error python-logging postgres go-log tomcat redis suricata erlang glog java-logging mdy-am-pm windows-events dmy-dots dmy mdy ctime date-utc cloudfront apt mysql mariadb nginx-error php oracle cisco-asa openssl pacman unix-fraction unix-nanos unix-micros unix-millis unix-time klog logcat snort syslog-fraction syslog spark dmy-short ledger date
             # (a zone begins with a capital letter)
             if test $place = 3; and string match -qr '^[A-Z]' -- (commandline -ct)
                 set -q TZDIR; or set -l TZDIR /usr/share/zoneinfo
                 set found (cat $TZDIR/zone.tab 2> /dev/null | string match -v '#*' | cut -f3)
             end
         case '*'
-            set found year time label rfc3339 rfc2822 iso8601 v1 v2 v3 strftime access-log go-time serilog jenkins psql git-log twitter docker-json json-time auditd haproxy apache-error python-logging postgres go-log tomcat redis suricata erlang glog java-logging mdy-am-pm windows-events dmy-dots dmy mdy ctime date-utc cloudfront apt mysql mariadb nginx-error php oracle cisco-asa openssl pacman unix-fraction unix-nanos unix-micros unix-millis unix-time klog logcat snort syslog-fraction syslog spark dmy-short ledger date
+            set found year time field column separator label rfc3339 rfc2822 iso8601 v1 v2 v3 strftime access-log go-time serilog jenkins psql git-log twitter docker-json json-time auditd haproxy apache-error python-logging postgres go-log tomcat redis suricata erlang glog java-logging mdy-am-pm windows-events dmy-dots dmy mdy ctime date-utc cloudfront apt mysql mariadb nginx-error php oracle cisco-asa openssl pacman unix-fraction unix-nanos unix-micros unix-millis unix-time klog logcat snort syslog-fraction syslog spark dmy-short ledger date
     end
     printf '%s\n' $found
 end

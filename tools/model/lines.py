@@ -1,8 +1,8 @@
 """What a run writes: for its words and a stream the output, the sentence on standard error, and the status."""
 
-from . import calendar, edges
+from . import calendar, edges, parts
 from .faults import Refused, WrongWords
-from .found import Date, Doubtful, Given, found
+from .found import Candidate, Date, Doubtful, Given, found
 from .sources import Source
 from .words import Asked, asked_by
 
@@ -24,7 +24,7 @@ class Run:
         """Returns the text for a line in a mode that finds dates, and goes on below it. In mode `carry` a line that begins deeper than
         the last one with a date has none of its own."""
         is_below = self.asked.mode == "carry" and self.indent is not None and depth(line) > self.indent
-        date = None if is_below else found(self.asked.limit, self.given, self.asked.sources, line)
+        date = None if is_below else self.date_in(line)
         text = MODES[self.asked.mode](self, line, date)
         if self.asked.mode == "carry":
             self.key = self.key_of(date)
@@ -32,6 +32,23 @@ class Run:
         if isinstance(date, Date):
             self.given = self.given.below(date.moment)
         return text
+
+    def date_in(self, line: bytes) -> Date | Doubtful | None:
+        if self.asked.part is None:
+            return found(self.asked.limit, self.given, self.asked.sources, line)
+        return self.date_in_part(self.asked.part, line)
+
+    def date_in_part(self, part: parts.Part, line: bytes) -> Date | Doubtful | None:
+        """Returns what is found in the part alone, by the places of the line. An escape in a date or near behind it puts it in doubt."""
+        place = parts.place_of(part, line)
+        if place is None:
+            return None
+        text = line[place.start : place.end]
+        date = found(self.asked.limit, self.given, self.asked.sources, text)
+        if isinstance(date, Date):
+            there = moved(place.start, date)
+            return Doubtful((Candidate(there, 0, "escape"),)) if parts.has_escape(part, text, date.start, date.end) else there
+        return date and Doubtful(tuple(it._replace(date=moved(place.start, it.date)) for it in date.read))
 
     def key_of(self, date: Date | Doubtful | None) -> bytes:
         if date is None:
@@ -50,7 +67,12 @@ class Run:
         return line[: date.start] + calendar.moment_text(shown) + line[date.end :] if shown else line
 
     def located(self, line: bytes, date: Date | Doubtful | None) -> bytes:
-        """The key of the date, the source's number and where the date is; of a date in doubt the same of each source, and why."""
+        """The key of the date, the source's number and where the date is; of a date in doubt the same of each source, and why. Last that
+        another member of the name follows."""
+        place = parts.place_of(self.asked.part, line) if self.asked.part else None
+        return self.read_in(date) + (b"\tfirst of several" if place and place.repeats else b"")
+
+    def read_in(self, date: Date | Doubtful | None) -> bytes:
         if isinstance(date, Doubtful):
             return b"\t".join((DOUBT, *(place_of(it.date) + b"\t" + (it.doubt or "").encode() for it in date.read)))
         return NONE if date is None else self.key_of(date) + b"\t" + place_of(date)
@@ -76,7 +98,7 @@ class Run:
         """Returns what is written for a line, with what ends it. Of a line longer than is looked at its first bytes decide."""
         if self.asked.mode == "explain":
             return (LONG if len(line) > self.asked.limit else self.explained(line)) + (end or b"\n")
-        near = self.asked.limit + edges.WINDOW + 64 + 1
+        near = 1 + (parts.LONGEST if self.asked.part else self.asked.limit + edges.WINDOW + 64)
         last_end = b"" if self.asked.mode == "replace" else b"\n"
         rest = b"" if self.asked.mode == "locate" else line[near:]
         return self.dated(line[:near]) + rest + (end or last_end)
@@ -87,6 +109,11 @@ def depth(line: bytes) -> int:
     white = line[: edges.WINDOW]
     white = white[: len(white) - len(white.lstrip(b" \t"))]
     return (white.count(b" ") + 8 * white.count(b"\t")) // 2
+
+
+def moved(at: int, date: Date) -> Date:
+    """Returns a date by the places of a line in which its part begins at a place."""
+    return date._replace(start=at + date.start, end=at + date.end)
 
 
 def place_of(date: Date) -> bytes:

@@ -8,6 +8,7 @@ from typing import NamedTuple, TypeVar
 from . import descriptions, strftime
 from .components import Items
 from .faults import Faulty, WrongWords
+from .parts import Part
 from .pieces import number_said, offset_said, time_said, year_said
 from .sources import Source
 from .zones import Zone, zone_named
@@ -24,11 +25,14 @@ LANGUAGES: dict[bytes, Callable[[bytes], Items]] = {
     b"strftime": strftime.items_of,
 }
 # What may stand before the sources, in this order, each after its name.
-NAMED = (b"year", b"time", b"label")
+NAMED = (b"year", b"time", b"field", b"column", b"separator", b"label")
 SOURCES = b", ".join((*FORMATS, *LANGUAGES)) + b", and the names of --help"
-USAGE = b"usage: instants-lines MODE [TARGET [ASSUMED [LIMIT]]] [year N] [time HH:MM] [label TEXT] SOURCE..."
+USAGE = b"usage: instants-lines MODE [TARGET [ASSUMED [LIMIT]]] [year N] [time HH:MM] [field NAME | column N [separator S]] [label TEXT] SOURCE..."
 NO_ASSUMED = b"no assumed offset; it must be +HH:MM, -HH:MM, Z, UTC or -, or a zone, as +02:00 or Europe/Berlin"
 NO_ZONE = b"no zone; modes key, carry, replace and locate take one by its name, as Europe/Berlin or :CET"
+NO_FIELD = b"no field; modes key, carry, replace and locate take one"
+NO_COLUMN = b"no column; modes key, carry, replace and locate take one from 1 to 1048576, where no field is named"
+NO_SEPARATOR = b"no separator; after a column it must be one byte and no quotation mark, or tab"
 NO_FILES = b"no such source; files are read from standard input: instants-lines .. < FILE"
 
 
@@ -57,6 +61,7 @@ class Asked(NamedTuple):
     limit: int
     year: int | None
     minutes: int | None  # of the day
+    part: Part | None
     label: bytes | None
     sources: tuple[Source, ...]
 
@@ -73,6 +78,22 @@ def said(word: bytes, reading: Callable[[bytes], Value | None], wrong: bytes) ->
 
 def label_said(mode: bytes, word: bytes) -> bytes | None:
     return word if mode in LABELLED and b"\t" not in word and b"\n" not in word else None
+
+
+def separator_said(word: bytes) -> bytes | None:
+    if word == b"tab":
+        return b"\t"
+    return word if len(word) == 1 and word not in b'"\n\r' else None
+
+
+def part_said(mode: bytes, field: bytes | None, column: bytes | None, separator: bytes | None) -> Part | None:
+    """Returns the part that the words for a field, a column and a separator say, or None."""
+    takes_one = mode != b"explain"
+    if column is not None:
+        number = said(column, lambda it: number_said(1, 1_048_576, 7, it) if takes_one and field is None else None, NO_COLUMN)
+        return Part(None, number, said(separator if separator is not None else b",", separator_said, NO_SEPARATOR))
+    maybe_said(separator, lambda it: None, NO_SEPARATOR)
+    return maybe_said(field, lambda it: Part(it.decode()) if takes_one else None, NO_FIELD)
 
 
 def maybe_said(word: bytes | None, reading: Callable[[bytes], Value | None], wrong: bytes) -> Value | None:
@@ -194,10 +215,11 @@ def asked_by(words: list[bytes]) -> Asked:
     target, assumed, limit, zone_name = settings_said(words[0], settings)
     year = maybe_said(named[b"year"], year_said, b"no year; it must be four digits, as 2024")
     minutes = maybe_said(named[b"time"], time_said, b"no time of day; it must be HH:MM")
+    part = part_said(words[0], named[b"field"], named[b"column"], named[b"separator"])
     label = maybe_said(named[b"label"], lambda it: label_said(words[0], it), b"no label; modes key and carry take one, without tabs and line feeds")
     named_sources = sources_said(rest, len(settings) == 3)
     zone = None if zone_name is None else zone_named(zone_name)
     sources = tuple(source_made(place, *it) for place, it in enumerate(named_sources, 1))
-    asked = Asked(words[0].decode(), target, assumed, zone, limit, year, minutes, label, sources)
+    asked = Asked(words[0].decode(), target, assumed, zone, limit, year, minutes, part, label, sources)
     refuse_lacking(asked)
     return asked

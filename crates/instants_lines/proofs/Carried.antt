@@ -57,7 +57,7 @@ none_deeper (Some above) = grind (arith, nat_tests)
 
 module _ (going : Going) (line : List ℕ) (others : List (List ℕ)) (finding : Finding) (carries : going.mode ≡ Carry) (margin : depth line ≡ 0) (e : date_in going.search line ≡ Some finding) where
   abbrev many : ℕ
-  many = near going.mode going.search.limit
+  many = near going.mode going.search
 
   hands : is_explain going.mode ≡ false
   hands = ap is_explain carries

@@ -1,5 +1,7 @@
 pub mod Turns
 pub mod Outside
+pub mod Parts
+mod Beside
 pub mod Digits
 pub mod Explaining
 pub mod Keyed

@@ -20,7 +20,7 @@ use Rattle.instants_lines.specs.Going.{Going, below, is_explain, near, text_in, 
 use Rattle.instants_lines_words.specs.declared.mode.Mode.{Mode}
 use Rattle.instants_lines_words.specs.declared.mode.Mode.TheVariants.{Replace}
 use Rattle.instants_lines.proofs.Fields.{field_free, moment_field}
-use Rattle.instants_lines.proofs.Handed.{handed_said, handed_next, near_is, opened_is}
+use Rattle.instants_lines.proofs.Handed.{handed_said, handed_next, opened_is}
 use Rattle.instants_lines.proofs.States.{after_lines}
 use Rattle.instants_lines.proofs.WithoutKeys.{Frees, whole_free}
 
@@ -57,7 +57,7 @@ text_of going line e = ap (λ (mode : Mode). text_in mode going line) e
 
 -- as many whole lines are written as there are, and nothing after them
 written_whole : (going : Going) (some : List (List ℕ)) → going.mode ≡ Replace → Frees some
-    → (last_part (written lines_steps (near going.mode going.search.limit) going some) ≡ []) × (length (whole_lines (written lines_steps (near going.mode going.search.limit) going some)) ≡ length some)
+    → (last_part (written lines_steps (near going.mode going.search) going some) ≡ []) × (length (whole_lines (written lines_steps (near going.mode going.search) going some)) ≡ length some)
 unfolding written
 written_whole going [] e free = (last_part_of_none, ap length whole_lines_none)
 written_whole going (line ∷ others) e free =
@@ -67,21 +67,21 @@ written_whole going (line ∷ others) e free =
     let end : last_part (text ++ line_feed ∷ []) ≡ [] = last_part-line [] text text_free in
     let first : whole_lines (text ++ line_feed ∷ []) ≡ text ∷ [] = whole_lines-line [] text text_free ∙ rw (whole_lines_none, last_part_of_none) refl in
     let rest = written_whole (below going line) others e free.1 in
-    let more = written lines_steps (near going.mode going.search.limit) (below going line) others in
+    let more = written lines_steps (near going.mode going.search) (below going line) others in
     rw (handed_said going line whole, handed_next going line whole, text_of going line e) (
       last_part-append (text ++ line_feed ∷ []) more end ∙ rest.0,
       ap length (whole_lines-append (text ++ line_feed ∷ []) more end ∙ ap (λ (ls : List (List ℕ)). ls ++ whole_lines more) first) ∙ ap suc rest.1,
     )
 
 -- the last line, which has no line feed, gets none
-last_is : (going : Going) (part : List ℕ) → going.mode ≡ Replace → last_part_said lines_steps (near going.mode going.search.limit) going part ≡ if_any part (replaced going.search part)
+last_is : (going : Going) (part : List ℕ) → going.mode ≡ Replace → last_part_said lines_steps (near going.mode going.search) going part ≡ if_any part (replaced going.search part)
 unfolding last_part_said state_within
-last_is going [] e = rw (is_no_longer (near going.mode going.search.limit) 0 (omega arith)) refl
+last_is going [] e = rw (is_no_longer (near going.mode going.search) 0 (omega arith)) refl
 last_is going (byte ∷ bytes) e =
-    rw (near_is going.mode going.search.limit (ap is_explain e)) (elim (cases_lt (going.search.limit + 256 + 64) (length (byte ∷ bytes))) [
+    elim (cases_lt (near going.mode going.search) (length (byte ∷ bytes))) [
       | inl longer ↦ rw (is_longer _ _ longer, opened_is going (byte ∷ bytes) (ap is_explain e) longer, text_of going (byte ∷ bytes) e, e) (append-nil _)
       | inr fits ↦ rw (is_no_longer _ _ fits, text_of going (byte ∷ bytes) e, e) (append-nil _)
-    ])
+    ]
 
 part_stays : (search : Search) (part : List ℕ) → HasNoLineFeed part → HasNoLineFeed (if_any part (replaced search part)) × ((if_any part (replaced search part) ≡ []) ↔ (part ≡ []))
 part_stays search [] free = (free, (λ e. refl, λ e. refl))
@@ -89,12 +89,12 @@ part_stays search (byte ∷ bytes) free =
     let stays = line_stays search (byte ∷ bytes) free in
     (stays.0, (λ none. absurd (omega (arith, stays.1 (omega arith), ap length none)), λ none. absurd cc))
 
-pub lines_stay : (going : Going) (stream : List ℕ) → going.mode ≡ Replace → (let text = output lines_steps going (near going.mode going.search.limit) stream in (length (whole_lines text) ≡ length (whole_lines stream)) × ((last_part text ≡ []) ↔ (last_part stream ≡ [])))
+pub lines_stay : (going : Going) (stream : List ℕ) → going.mode ≡ Replace → (let text = output lines_steps going (near going.mode going.search) stream in (length (whole_lines text) ≡ length (whole_lines stream)) × ((last_part text ≡ []) ↔ (last_part stream ≡ [])))
 unfolding output
 lines_stay going stream e =
-    let many = near going.mode going.search.limit in
+    let many = near going.mode going.search in
     let later = after lines_steps many going (whole_lines stream) in
-    let P : Going → Type 0 = λ one. (one.mode ≡ Replace) × (near one.mode one.search.limit ≡ near going.mode going.search.limit) in
+    let P : Going → Type 0 = λ one. (one.mode ≡ Replace) × (near one.mode one.search ≡ near going.mode going.search) in
     let kept = after_lines P (λ one line p. elim (is_explain one.mode) as (λ explains. P (if explains then one else below one line)) [ true ↦ p | false ↦ p ]) many going (whole_lines stream) (e, refl) in
     let last = rw kept.1 at (last_is later (last_part stream) kept.0) in
     let whole = written_whole going (whole_lines stream) e (whole_free stream) in

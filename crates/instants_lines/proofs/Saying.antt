@@ -19,9 +19,10 @@ use Rattle.instants_lines_words.specs.Asked.{Asking}
 use Rattle.instants_lines_words.specs.Words.{mode_words_said}
 use Rattle.instants_lines.specs.Asked.{begins_by, given_by, zone_lacking}
 use Rattle.instants_lines.specs.Dates.{Search}
-use Rattle.instants_lines.specs.Going.{beginning, lines_steps, near}
+use Rattle.instants_lines.specs.Going.{beginning, lines_steps, reach, room}
 use Rattle.instants_lines.specs.Program.{AsksFor, run_of, writing}
-use Rattle.instants_lines.specs.Showing.{limit_in, search_in, setting_in}
+use Rattle.instants_lines.specs.Showing.{limit_in, part_in, search_in, setting_in}
+use Rattle.instants_lines_words.specs.Part.{PartSaid}
 use Rattle.instants_lines.specs.declared.date_sources.DateSources.{DateSources}
 use Rattle.instants_lines.specs.declared.lines_fault.LinesFault.TheVariants as lines
 
@@ -43,17 +44,19 @@ asks_so said others asked right theirs own zone has setting limit a =
 
 module _ (asked : Asking) (zone : Option (Bor Zone)) (setting : Setting) (limit : ℕ) where
   -- what dates are looked for by
-  pub same_search : (dates : DateSources) (given : Given) → setting_in dates ≡ setting → limit_in dates ≡ limit → given ≡ given_by asked zone setting → search_in dates given ≡ (begins_by asked zone setting limit).search
-  same_search dates given s l g =
-      ap (λ (one : Setting). record { setting = one; limit = limit_in dates; given = given }) s
-      ∙ ap (λ (one : ℕ). record { setting = setting; limit = one; given = given }) l
-      ∙ ap (λ (one : Given). record { setting = setting; limit = limit; given = one }) g
+  pub same_search : (dates : DateSources) (given : Given) → setting_in dates ≡ setting → part_in dates ≡ asked.part → limit_in dates ≡ limit → given ≡ given_by asked zone setting → search_in dates given ≡ (begins_by asked zone setting limit).search
+  same_search dates given s p l g =
+      ap (λ (one : Setting). record { setting = one; part = part_in dates; limit = limit_in dates; given = given }) s
+      ∙ ap (λ (one : Option PartSaid). record { setting = setting; part = one; limit = limit_in dates; given = given }) p
+      ∙ ap (λ (one : ℕ). record { setting = setting; part = asked.part; limit = one; given = given }) l
+      ∙ ap (λ (one : Given). record { setting = setting; part = asked.part; limit = limit; given = one }) g
 
   -- what holds of what is written by that holds of what they ask for
-  pub written_so : (P : Writing → Type 0) (search : Search) → search ≡ (begins_by asked zone setting limit).search → P (by_steps lines_steps (beginning asked.mode asked.label search) (near asked.mode limit)) → P (writing (begins_by asked zone setting limit))
-  written_so P search e h =
-      let F : Search → Type 0 = λ one. P (by_steps lines_steps (beginning asked.mode asked.label one) (near asked.mode limit)) in
-      subst F e h
+  pub written_so : (P : Writing → Type 0) (search : Search) (most : ℕ) → search ≡ (begins_by asked zone setting limit).search → most ≡ room asked.part limit
+      → P (by_steps lines_steps (beginning asked.mode asked.label search) (reach asked.mode search.part most)) → P (writing (begins_by asked zone setting limit))
+  written_so P search most e m h =
+      let F : Search → ℕ → Type 0 = λ one many. P (by_steps lines_steps (beginning asked.mode asked.label one) (reach asked.mode one.part many)) in
+      subst (λ one. F one (room asked.part limit)) e (subst (F search) m h)
 
 -- how a run ended is how the program did
 pub ended_so : (P Q : Result (Unit {0}) RunFault → Type 0) → ((ended : Result (Unit {0}) RunFault) → P ended → Q ended) → (fault : RunsFault) → IfSome (ended_of (Err fault)) P → IfSome (run_of (Err (lines.Program (of_runs fault)))) Q

@@ -222,16 +222,16 @@ all_looked_at limit grammar line text =
     take_all (limit + 256 + 64) line (omega (arith, few, length-take 256 line))
 
 pub key_alone : (going : Going) (grammar : Grammar) (line : List ℕ) (moment : Shown) → AgreeOn rfc3339.direct reads_rfc3339 line → AgreeOn rfc2822.direct reads_rfc2822 line
-    → going.search.setting.sources ≡ grammar ∷ [] → goes_on going.mode going.indent line ≡ false → named None grammar line ≡ Ok moment → named going.search.setting.assumed grammar line ≡ Ok moment → 0 < going.search.limit → 0 < length line
+    → going.search.part ≡ None → going.search.setting.sources ≡ grammar ∷ [] → goes_on going.mode going.indent line ≡ false → named None grammar line ≡ Ok moment → named going.search.setting.assumed grammar line ≡ Ok moment → 0 < going.search.limit → 0 < length line
     → text_for grammar line ≡ line → may_begin grammar line ≡ true → is_likely (record_at grammar line).unix_timestamp_nanos ≡ true → (lengths grammar line []).begins ≡ 0
     → key_of_line going line ≡ answer_to going.search.setting line
 unfolding place_of_date answer_to place_of found record_at
-key_alone going grammar line moment of_rfc3339 of_rfc2822 alone own e assumed some long text may likely first =
+key_alone going grammar line moment of_rfc3339 of_rfc2822 none alone own e assumed some long text may likely first =
     let search = going.search in
     let setting = search.setting in
     let whole_is = read_whole search.given grammar line moment of_rfc3339 of_rfc2822 e (rw text at likely) in
     let at = at_first search.given grammar line moment text may whole_is first in
     let is = ap (found_in search.limit search.given setting.sources) (all_looked_at search.limit grammar line text)
     ∙ ap (λ (sources : List Grammar). found_in search.limit search.given sources line) alone ∙ found_in_first search.limit search.given (grammar ∷ []) line _ some long at in
-    rw own (ap (key_or setting going.key) is)
+    rw (own, none) (ap (key_or setting going.key) is)
     ∙ ap (λ (n : Result Shown Fault). place_text (shown_or_refused setting.target n)) (sym (alone_named setting grammar line moment alone assumed))

@@ -124,11 +124,11 @@ module _ (label : Option (List ℕ)) (is_label : IsLabel label) where
             ∙ ap (λ (ls : List (List ℕ)). line ∷ ls) rest.are;
       }
 
-written_lines : (going : Going) → IsKeyed going.mode → IsLabel going.label → is_field going.key ≡ true → (some : List (List ℕ)) → Frees some → AreLines going.label (written lines_steps (near going.mode going.search.limit) going some) some
+written_lines : (going : Going) → IsKeyed going.mode → IsLabel going.label → is_field going.key ≡ true → (some : List (List ℕ)) → Frees some → AreLines going.label (written lines_steps (near going.mode going.search) going some) some
 unfolding written
 written_lines going keys is_label is [] free = none_are going.label [] refl
 written_lines going keys is_label is (line ∷ others) free =
-    let many : ℕ = near going.mode going.search.limit in
+    let many : ℕ = near going.mode going.search in
     let key_is = line_field going line is in
     let rest = written_lines (below going line) keys is_label (either_field (is_carry going.mode) going.key (key_of_line going line) is key_is) others free.1 in
     let hands = not_explained going.mode keys in
@@ -136,6 +136,6 @@ written_lines going keys is_label is (line ∷ others) free =
     (rw (handed_said going line hands, handed_next going line hands, text_of going.mode keys going line) refl) rest
 
 pub without_keys : (going : Going) (stream : List ℕ) → IsKeyed going.mode → IsLabel going.label → is_field going.key ≡ true
-    → map (without_fields going.label) (lines (output lines_steps going (near going.mode going.search.limit) stream)) ≡ lines stream
+    → map (without_fields going.label) (lines (output lines_steps going (near going.mode going.search) stream)) ≡ lines stream
 without_keys going stream keys is_label is =
-    ap (λ (text : List ℕ). map (without_fields going.label) (lines text)) (output_is (near going.mode going.search.limit) going keys stream) ∙ (written_lines going keys is_label is (lines stream) (lines_free stream)).are
+    ap (λ (text : List ℕ). map (without_fields going.label) (lines text)) (output_is (near going.mode going.search) going keys stream) ∙ (written_lines going keys is_label is (lines stream) (lines_free stream)).are

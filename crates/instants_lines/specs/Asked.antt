@@ -30,4 +30,4 @@ given_by asked zone setting = record { offset = setting.assumed; zone = zone_ask
 
 -- what lines are written by at the beginning, with a setting and a limit
 abbrev pub begins_by : Asking → Option (Bor Zone) → Setting → ℕ → Going
-begins_by asked zone setting limit = beginning asked.mode asked.label (record { setting = setting; limit = limit; given = given_by asked zone setting })
+begins_by asked zone setting limit = beginning asked.mode asked.label (record { setting = setting; part = asked.part; limit = limit; given = given_by asked zone setting })

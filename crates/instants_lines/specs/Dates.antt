@@ -9,16 +9,32 @@ use Rattle.instants_found.specs.declared.found.Finding.{Finding}
 use Rattle.instants_found.specs.declared.found.Finding.TheVariants.{Doubtful, There}
 use Rattle.instants_faults.specs.Refusal.{Refusal}
 use Rattle.instants_timeline.specs.Place.{Setting, shown_or_refused, place_text}
+use Rattle.instants_fields.specs.declared.json.Member.{Member}
+use Rattle.instants_lines.specs.Parts.{PartSaid, found_at, place_of_part, text_at}
 
--- what a search goes by: the sources and the target, the number of places of a line at which a date may begin, and what is given for dates that lack it
+-- what a search goes by: the sources and the target, the part of each line in which it looks, if not in the whole line, the number of places of that at which a date may begin, and what is given for dates that lack it
 pub record Search : Type 0 where
   pub setting : Setting
+  pub part : Option PartSaid
   pub limit : ℕ
   pub given : Given
 
+-- what is found in a text, which is a whole line or a part of one
+abbrev pub found_by : Search → List ℕ → Option Finding
+found_by search text = found search.limit search.given search.setting.sources text
+
+-- what is found in a part of a line, where the line has such a part
+abbrev pub date_at : Search → PartSaid → List ℕ → Option Member → Option Finding
+date_at search part line None = None
+date_at search part line (Some place) = found_at place.start part (text_at place line) (found_by search (text_at place line))
+
+abbrev pub date_by : Search → List ℕ → Option PartSaid → Option Finding
+date_by search line None = found_by search line
+date_by search line (Some part) = date_at search part line (place_of_part part line)
+
 -- the date of a line, where a source reads one
 abbrev pub date_in : Search → List ℕ → Option Finding
-date_in search line = found search.limit search.given search.setting.sources line
+date_in search line = date_by search line search.part
 
 -- a date's place on the timeline: its moment at the target, or that its year there is not written
 unfoldable pub place_of_date : Setting → Found → Result Shown Refusal

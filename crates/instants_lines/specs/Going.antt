@@ -12,6 +12,8 @@ use Rattle.instants_prefixes.specs.declared.given.Years.TheVariants.{Unknown, In
 use Rattle.instants_found.specs.declared.found.Finding.{Finding}
 use Rattle.instants_found.specs.declared.found.Finding.TheVariants.{Doubtful, There}
 use Rattle.instants_stream.specs.Steps.{Steps}
+use Rattle.instants_fields.specs.Members.{longest}
+use Rattle.instants_lines_words.specs.Part.{PartSaid}
 use Rattle.instants_lines.specs.Dates.{Search, date_in, key_or, replaced}
 use Rattle.instants_lines.specs.Explained.{explained}
 use Rattle.instants_lines.specs.Located.{located}
@@ -117,9 +119,18 @@ next_in mode going line = if is_explain mode then going else below going line
 
 -- ---- long lines
 
--- how many bytes of a line are looked at, beside one more: a date that begins at one of the first places, and what stands after it; a line is explained whole or not at all
-abbrev pub near : Mode → ℕ → ℕ
-near mode limit = if is_explain mode then limit else limit + window + 64
+-- the greatest length of lines for which there is room, beside what stands after a date: the limit, or that of lines which have a part
+abbrev pub room : Option PartSaid → ℕ → ℕ
+room None limit = limit
+room (Some part) limit = longest
+
+-- how many bytes of a line are looked at, beside one more: where there is room for so many, a date that begins at one of them, and what stands after it; a line is explained whole or not at all, and the part of one is too
+abbrev pub reach : Mode → Option PartSaid → ℕ → ℕ
+reach mode None most = if is_explain mode then most else most + window + 64
+reach mode (Some part) most = most
+
+abbrev pub near : Mode → Search → ℕ
+near mode search = reach mode search.part (room search.part search.limit)
 
 -- the text for the first bytes of a longer line
 abbrev pub begun_in : Mode → Going → List ℕ → List ℕ

@@ -1,3 +1,4 @@
+pub mod Parts
 pub mod Dates
 pub mod Explained
 pub mod Located

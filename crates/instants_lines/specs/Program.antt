@@ -85,4 +85,4 @@ IsReportedAs words (lines.Program _) = ⊥
 
 -- what is written for a stream, from this beginning on
 abbrev pub writing : Going → Writing
-writing going = by_steps lines_steps going (near going.mode going.search.limit)
+writing going = by_steps lines_steps going (near going.mode going.search)

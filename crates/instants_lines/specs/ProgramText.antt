@@ -27,7 +27,7 @@ abbrev pub sentence : LinesFault → List ℕ
 sentence (lines.Words wrong) = codes "instants-lines: " ++ wrong_text (wrong_of wrong)
 sentence (lines.Zone name) = codes "instants-lines: \"" ++ (name.now ++ codes "\": there is no such zone")
 sentence (lines.Lacks lacking) = codes "instants-lines: " ++ lacking_text lacking
-sentence (lines.Program fault) = codes "instants-lines" ++ text_of (codes "instants-lines MODE [TARGET [ASSUMED [LIMIT]]] [year N] [time HH:MM] [label TEXT] SOURCE...") fault
+sentence (lines.Program fault) = codes "instants-lines" ++ text_of (codes "instants-lines MODE [TARGET [ASSUMED [LIMIT]]] [year N] [time HH:MM] [field NAME | column N [separator S]] [label TEXT] SOURCE...") fault
 
 -- 2 where the words or a description among them are wrong, the zone is not there or a source names no moment, 1 where memory, reading or writing failed
 abbrev pub status_of : LinesFault → ℕ

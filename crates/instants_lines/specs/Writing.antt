@@ -2,15 +2,15 @@
 use Rattle.std.specs.Prelude.{ℕ, option_map}
 use Rattle.instants_stream.specs.Steps.{by_steps}
 use Rattle.instants_stream.specs.Writing.{Writing}
-use Rattle.instants_lines.specs.Showing.{given_of, search_in}
-use Rattle.instants_lines.specs.Going.{Going, beginning, lines_steps, near}
+use Rattle.instants_lines.specs.Showing.{given_of, part_in, search_in}
+use Rattle.instants_lines.specs.Going.{Going, beginning, lines_steps, reach}
 use Rattle.instants_lines.specs.declared.line_writer.LineWriter.{LineWriter}
 use Rattle.instants_lines.specs.declared.program.LinesAsked.{LinesAsked}
 
 abbrev pub going_of : LineWriter → Going
 going_of writer = record { mode = writer.mode; search = search_in writer.dates.now (given_of writer.known writer.zone); label = option_map (λ text. text.now) writer.label; key = writer.key; indent = writer.indent }
 
--- what is written for lines under a limit as words ask
+-- what is written as words ask, where there is room for lines of so many bytes
 abbrev pub writing_for : LinesAsked → ℕ → Writing
-writing_for lines limit =
-    by_steps lines_steps (beginning lines.asked.mode (option_map (λ text. text.now) lines.asked.label) (search_in lines.dates (given_of lines.known lines.zone))) (near lines.asked.mode limit)
+writing_for lines most =
+    by_steps lines_steps (beginning lines.asked.mode (option_map (λ text. text.now) lines.asked.label) (search_in lines.dates (given_of lines.known lines.zone))) (reach lines.asked.mode (part_in lines.dates) most)

@@ -22,6 +22,7 @@ ghost use Rattle.instants_lines.specs.Explained.{IsFirstToName, explained};
 ghost use Rattle.instants_lines.specs.Fields.{IsLabel, is_field, without_fields};
 ghost use Rattle.instants_lines.specs.Going.{Going, IsKeyed, below, beginning, depth, goes_on, is_explain, key_of_line, lines_steps, near, text_in};
 ghost use Rattle.instants_lines.specs.Joining.{AreJoined, IsEnded};
+ghost use Rattle.instants_lines.specs.Parts.{PartSaid, text_of_part};
 ghost use Rattle.instants_lines_words.specs.declared.mode.Mode.{Mode};
 ghost use Rattle.instants_lines_words.specs.declared.mode.Mode.TheVariants.{Carry, Replace, Explain};
 
@@ -61,11 +62,12 @@ pub fn replaced_twice()
 {}
 
 /// A line for which its one source names a moment, whether the offset is assumed or not, has its answer as its key: where
-/// what the source is given of the line is all of it, and its date begins where the line does. A number of Unix time has to
-/// be likely for it, and a line of RFC 2822 to begin with its weekday or its day. In mode `carry` the line does not go on with the one
-/// above.
+/// dates are looked for in whole lines, what the source is given of the line is all of it, and its date begins where the line does.
+/// A number of Unix time has to be likely for it, and a line of RFC 2822 to begin with its weekday or its day. In mode `carry` the line
+/// does not go on with the one above.
 pub fn whole_line()
     ensures { (going : Going) (grammar : Grammar) (line : List ℕ) (moment : Shown)
+        → going.search.part ≡ None
         → going.search.setting.sources ≡ grammar ∷ []
         → goes_on going.mode going.indent line ≡ false
         → named None grammar line ≡ Ok moment
@@ -78,6 +80,16 @@ pub fn whole_line()
     two_roads_of_rfc3339();
     two_roads_of_rfc2822();
 }
+
+/// Where dates are looked for in a part of each line, what stands beside that changes no key: lines whose parts have the same bytes
+/// have one key, and so have lines without such a part. In mode `carry` both or neither go on with the line above.
+pub fn beside_part()
+    ensures { (going : Going) (part : PartSaid) (one other : List ℕ)
+        → going.search.part ≡ Some part
+        → text_of_part part one ≡ text_of_part part other
+        → goes_on going.mode going.indent one ≡ goes_on going.mode going.indent other
+        → key_of_line going one ≡ key_of_line going other }
+{}
 
 /// Keys that are date-times at one target, from whatever sources and with whatever offset assumed, are ordered as bytes
 /// exactly as the instants that the dates name, and are equal exactly where these are.
@@ -109,7 +121,7 @@ pub fn joined_streams()
         → going.mode ≡ Carry → going.search.given.years ≡ Unknown → IsEnded first
         → lines second ≡ line ∷ others → depth line ≡ 0
         → date_in going.search line ≡ Some finding
-        → AreJoined going going (near going.mode going.search.limit) first second }
+        → AreJoined going going (near going.mode going.search) first second }
 {}
 
 /// Where a source names a moment for a line, mode `explain` gives the number of the first one that does, the least, and the
@@ -126,20 +138,20 @@ pub fn explained_answer()
 /// whole, and so is what is kept for the lines below it.
 pub fn handed_on()
     ensures said { (going : Going) (line : List ℕ) → is_explain going.mode ≡ false
-        → line_said lines_steps (near going.mode going.search.limit) going line
+        → line_said lines_steps (near going.mode going.search) going line
         ≡ text_in going.mode going line ++ line_feed ∷ [] }
     ensures next { (going : Going) (line : List ℕ) → is_explain going.mode ≡ false
-        → line_next lines_steps (near going.mode going.search.limit) going line
+        → line_next lines_steps (near going.mode going.search) going line
         ≡ below going line }
 {}
 
 /// In mode `replace` the output has as many line feeds as the stream, and a last line without one stays so.
 pub fn lines_stay()
     ensures fed { (going : Going) (stream : List ℕ) → going.mode ≡ Replace
-        → length (whole_lines (output lines_steps going (near going.mode going.search.limit) stream))
+        → length (whole_lines (output lines_steps going (near going.mode going.search) stream))
         ≡ length (whole_lines stream) }
     ensures last { (going : Going) (stream : List ℕ) → going.mode ≡ Replace
-        → (last_part (output lines_steps going (near going.mode going.search.limit) stream) ≡ [])
+        → (last_part (output lines_steps going (near going.mode going.search) stream) ≡ [])
         ↔ (last_part stream ≡ []) }
 {}
 
@@ -149,12 +161,12 @@ pub fn without_keys()
     ensures from_beginning { (mode : Mode) (label : Option (List ℕ)) (search : Search)
         (stream : List ℕ) → IsKeyed mode → IsLabel label
         → map (without_fields label)
-        (lines (output lines_steps (beginning mode label search) (near mode search.limit) stream))
+        (lines (output lines_steps (beginning mode label search) (near mode search) stream))
         ≡ lines stream }
     ensures from_anywhere { (going : Going) (stream : List ℕ)
         → IsKeyed going.mode → IsLabel going.label
         → is_field going.key ≡ true
         → map (without_fields going.label)
-        (lines (output lines_steps going (near going.mode going.search.limit) stream))
+        (lines (output lines_steps going (near going.mode going.search) stream))
         ≡ lines stream }
 {}

@@ -19,6 +19,7 @@ mod explained;
 mod known;
 mod lacking;
 pub mod laws;
+mod line_part;
 mod line_writer;
 mod lines_fault;
 mod located;

@@ -8,8 +8,8 @@ use std::alloc::AllocError;
 use std::fmt;
 
 // The words of the program after its name.
-const USAGE: &str =
-    "instants-lines MODE [TARGET [ASSUMED [LIMIT]]] [year N] [time HH:MM] [label TEXT] SOURCE...";
+const USAGE: &str = "instants-lines MODE [TARGET [ASSUMED [LIMIT]]] [year N] [time HH:MM] \
+     [field NAME | column N [separator S]] [label TEXT] SOURCE...";
 
 /// Why the program did not write its whole output. `Display` gives the sentence for standard error, without a line feed.
 #[derive(Clone, Copy, Debug, PartialEq, Eq)]

@@ -5,14 +5,18 @@ ghost use Rattle.instants_found.specs.Doubts.{doubt_of};
 ghost use Rattle.instants_found.specs.Found.{looked_at};
 ghost use Rattle.instants_found.specs.Within.{IsWithin};
 ghost use Rattle.instants_lines.specs.Showing.{search_in, setting_in};
-ghost use Rattle.instants_lines.specs.Located.{doubt_text, doubts_from, finding_text, read_text, reason};
+ghost use Rattle.instants_lines.specs.Located.{again, doubt_text, doubts_from, escaped_text, finding_text, part_text, read_text, reason};
+ghost use Rattle.instants_lines_words.specs.Part.{part_of};
 ghost use Rattle.instants_lines.specs.Wrote.{Wrote};
 
 use crate::date_sources::DateSources;
 use crate::decimals::push_decimal;
+use crate::line_part::has_escape;
 use crate::parts::{write_both, write_three};
 use instants_answers::Answer;
-use instants_found::{Doubt, Finding};
+use instants_fields::Member;
+use instants_found::{Doubt, Finding, Found};
+use instants_lines_words::LinePart;
 use instants_prefixes::{DateSource, Given};
 use instants_stream::{ByteWriter, DeviceFailed};
 use instants_timeline::answer_named;
@@ -53,21 +57,23 @@ fn reason(doubt: Doubt) -> &'static [u8]
 fn write_doubt<W: ByteWriter>(
     dates: &DateSources<'_>,
     given: &Given,
-    line: &[u8],
+    at: usize,
+    text: &[u8],
     place: usize,
     number: usize,
     writer: &mut W,
 ) -> Result<(), DeviceFailed>
     requires works { W.failed writer.old ≡ false }
     requires number { number + 1 < 2 ^ 64 }
-    requires place { place < length (looked_at (search_in dates.now given.now).limit line.now) }
+    requires place { place < length (looked_at (search_in dates.now given.now).limit text.now) }
+    requires room { at + length text.now + 1 < 2 ^ 64 }
     ensures { Wrote W.ByteWriter writer.old writer.new result
-        (doubt_text number (doubt_of (search_in dates.now given.now).limit given.now
-        (search_in dates.now given.now).setting.sources line.now place number)) }
+        (doubt_text at number (doubt_of (search_in dates.now given.now).limit given.now
+        (search_in dates.now given.now).setting.sources text.now place number)) }
 {
-    match dates.finder.doubt_of(given, line, place, number) {
+    match dates.finder.doubt_of(given, text, place, number) {
         Some(one) => {
-            let read = read_text(number, one.start, one.end);
+            let read = read_text(number, at + one.start, at + one.end);
             write_three(writer, read.as_bytes(), b"\t", reason(one.doubt))
         }
         None => Ok(()),
@@ -81,43 +87,47 @@ fn write_doubts<W: ByteWriter>(
     dates: &DateSources<'_>,
     sources: &[DateSource<'_>],
     given: &Given,
-    line: &[u8],
+    at: usize,
+    text: &[u8],
     place: usize,
     number: usize,
     writer: &mut W,
 ) -> Result<(), DeviceFailed>
     requires works { W.failed writer.old ≡ false }
     requires number { number + length sources.now < 2 ^ 64 }
-    requires place { place < length (looked_at (search_in dates.now given.now).limit line.now) }
+    requires place { place < length (looked_at (search_in dates.now given.now).limit text.now) }
+    requires room { at + length text.now + 1 < 2 ^ 64 }
     ensures { Wrote W.ByteWriter writer.old writer.new result
-        (doubts_from (search_in dates.now given.now) line.now place number (map grammar_in sources.now)) }
+        (doubts_from (search_in dates.now given.now) at text.now place number (map grammar_in sources.now)) }
 {
     let Some((_, others)) = sources.split_first() else {
         return Ok(());
     };
-    write_doubt(dates, given, line, place, number, writer)?;
-    write_doubts(dates, others, given, line, place, number + 1, writer)
+    write_doubt(dates, given, at, text, place, number, writer)?;
+    write_doubts(dates, others, given, at, text, place, number + 1, writer)
 }
 
-/// Writes the key of a line by its date, and what has read it.
+/// Writes the key of a line by what is found in a text, which begins at a place of the line, and what has read it.
 #[tactic(auto, using(crate::proofs::Turns::in_turn), unfolding(crate::specs::Dates::place_of_date))]
 pub(crate) fn write_finding<W: ByteWriter>(
     dates: &DateSources<'_>,
     given: &Given,
-    line: &[u8],
+    at: usize,
+    text: &[u8],
     finding: &Option<Finding>,
     writer: &mut W,
 ) -> Result<(), DeviceFailed>
     requires works { W.failed writer.old ≡ false }
     requires within { IfSome finding.now
-        (IsWithin (search_in dates.now given.now).limit line.now (length (setting_in dates.now).sources)) }
+        (IsWithin (search_in dates.now given.now).limit text.now (length (setting_in dates.now).sources)) }
+    requires room { at + length text.now + 1 < 2 ^ 64 }
     ensures { Wrote W.ByteWriter writer.old writer.new result
-        (finding_text (search_in dates.now given.now) line.now finding.now) }
+        (finding_text (search_in dates.now given.now) at text.now finding.now) }
 {
     match finding {
         Some(Finding::There(date)) => {
             let key = answer_named(dates.target, &date.moment);
-            let read = read_text(date.source, date.start, date.end);
+            let read = read_text(date.source, at + date.start, at + date.end);
             write_both(writer, key.as_bytes(), read.as_bytes())
         }
         Some(Finding::Doubtful(place)) => {
@@ -126,7 +136,8 @@ pub(crate) fn write_finding<W: ByteWriter>(
                 dates,
                 dates.finder.sources(),
                 given,
-                line,
+                at,
+                text,
                 *place,
                 0,
                 writer,
@@ -134,4 +145,77 @@ pub(crate) fn write_finding<W: ByteWriter>(
         }
         None => writer.write_all(b"! none"),
     }
+}
+
+// Writes the key of a line whose date has an escape in it or near behind it, and what has read it.
+fn write_escaped<W: ByteWriter>(at: usize, date: &Found, writer: &mut W) -> Result<(), DeviceFailed>
+    requires works { W.failed writer.old ≡ false }
+    requires start { at + date.now.start + 1 < 2 ^ 64 }
+    requires end { at + date.now.end < 2 ^ 64 }
+    requires source { date.now.source + 1 < 2 ^ 64 }
+    ensures { Wrote W.ByteWriter writer.old writer.new result (escaped_text at date.now) }
+{
+    let read = read_text(date.source, at + date.start, at + date.end);
+    write_three(writer, b"! doubt", read.as_bytes(), b"\tescape")
+}
+
+// Writes the key of a line by what is found in the text of a part, and what has read it.
+fn write_part_finding<W: ByteWriter>(
+    dates: &DateSources<'_>,
+    given: &Given,
+    part: &LinePart<'_>,
+    at: usize,
+    text: &[u8],
+    found: &Option<Finding>,
+    writer: &mut W,
+) -> Result<(), DeviceFailed>
+    requires works { W.failed writer.old ≡ false }
+    requires within { IfSome found.now
+        (IsWithin (search_in dates.now given.now).limit text.now (length (setting_in dates.now).sources)) }
+    requires room { at + length text.now + 1 < 2 ^ 64 }
+    ensures { Wrote W.ByteWriter writer.old writer.new result
+        (part_text (search_in dates.now given.now) (part_of part.now) at text.now found.now) }
+{
+    if let Some(Finding::There(date)) = found {
+        if has_escape(part, text, date) {
+            return write_escaped(at, date, writer);
+        }
+    }
+    write_finding(dates, given, at, text, found, writer)
+}
+
+// Writes that another member of a name follows, where one does.
+fn write_again<W: ByteWriter>(repeats: bool, writer: &mut W) -> Result<(), DeviceFailed>
+    requires { W.failed writer.old ≡ false }
+    ensures { Wrote W.ByteWriter writer.old writer.new result (again repeats) }
+{
+    if repeats {
+        writer.write_all(b"\tfirst of several")
+    } else {
+        Ok(())
+    }
+}
+
+/// Writes the key of a line by what is found in the text of a part, what has read it, and whether another member of the name
+/// follows.
+#[tactic(auto, using(crate::proofs::Turns::in_turn))]
+pub(crate) fn write_part<W: ByteWriter>(
+    dates: &DateSources<'_>,
+    given: &Given,
+    part: &LinePart<'_>,
+    place: &Member,
+    text: &[u8],
+    found: &Option<Finding>,
+    writer: &mut W,
+) -> Result<(), DeviceFailed>
+    requires works { W.failed writer.old ≡ false }
+    requires within { IfSome found.now
+        (IsWithin (search_in dates.now given.now).limit text.now (length (setting_in dates.now).sources)) }
+    requires room { place.now.start + length text.now + 1 < 2 ^ 64 }
+    ensures { Wrote W.ByteWriter writer.old writer.new result
+        (part_text (search_in dates.now given.now) (part_of part.now) place.now.start text.now found.now
+        ++ again place.now.repeats) }
+{
+    write_part_finding(dates, given, part, place.start, text, found, writer)?;
+    write_again(place.repeats, writer)
 }

@@ -10,10 +10,11 @@ ghost use Rattle.instants_timeline.specs.Sources.{IsRefusal};
 ghost use Rattle.instants_faults.specs.declared.new_fault.NewFault.{NewFault};
 ghost use Rattle.instants_faults.specs.declared.program_fault.ProgramFault.{ProgramFault};
 ghost use Rattle.instants_lines_words.specs.Asked.{Asking, asking_of};
+ghost use Rattle.instants_lines_words.specs.Part.{part_of};
 ghost use Rattle.instants_lines_words.specs.Words.{mode_words_said};
 ghost use Rattle.instants_lines_words.specs.Wrong.{Wrong};
 ghost use Rattle.instants_lines.specs.Asked.{given_by, zone_asked, zone_lacking};
-ghost use Rattle.instants_lines.specs.Going.{Going, near};
+ghost use Rattle.instants_lines.specs.Going.{Going, reach, room};
 ghost use Rattle.instants_lines.specs.Lacking.{lacking_in};
 ghost use Rattle.instants_lines.specs.Showing.{given_of, search_in};
 ghost use Rattle.instants_lines.specs.Program.{AsksFor, IsBeforeRun, IsMemory, IsOfWords, IsReportedAs, run_of, writing, wrong_in};
@@ -22,10 +23,11 @@ ghost use Rattle.instants_lines.specs.declared.lacking.Lacking.{Lacking};
 use crate::date_sources::{DateSources, first_lacking};
 use crate::known::Known;
 use crate::lacking::Lacking;
+use crate::line_part::LONGEST;
 use crate::line_writer::LineWriter;
 use crate::lines_fault::LinesFault;
 use calendar::UtcOffset;
-use instants_lines_words::{Asked, Mode, read_mode_words};
+use instants_lines_words::{Asked, LinePart, Mode, read_mode_words};
 use instants_prefixes::Years;
 use instants_stream::write_lines;
 use instants_timeline::{ByteReader, ByteWriter, RunFault, RunsLines, asked_timeline, run_program};
@@ -74,7 +76,8 @@ impl RunsLines for LinesAsked<'_, '_, '_> {
     ) -> Result<(), RunFault> {
         let mode = self.asked.mode;
         let mut lines = LineWriter::new(mode, self.asked.label, &self.dates, self.known, self.zone);
-        write_lines(&mut lines, near(mode, limit), buffer, reader, writer)
+        let near = reach(mode, &self.dates.part, limit);
+        write_lines(&mut lines, near, buffer, reader, writer)
     }
 }
 
@@ -113,28 +116,42 @@ fn known_by(asked: &Asked<'_>, assumed: Option<UtcOffset>) -> Known
     }
 }
 
-// How many bytes of a line are looked at, beside one more.
-fn near(mode: Mode, limit: usize) -> usize
-    requires { limit + 320 < 2 ^ 64 }
-    ensures { result ≡ near mode limit }
+// The greatest length of lines for which there is room.
+fn room(part: &Option<LinePart<'_>>, limit: usize) -> usize
+    ensures room { result ≡ room (option_map part_of part.now) limit }
+    ensures few { limit ≤ 1_048_576 → result ≤ 1_048_576 }
 {
-    match mode {
-        Mode::Key | Mode::Carry | Mode::Replace | Mode::Locate => limit + 320,
-        Mode::Explain => limit,
+    match part {
+        None => limit,
+        Some(_) => LONGEST,
+    }
+}
+
+// How many bytes of a line are looked at, beside one more, where there is room for so many.
+fn reach(mode: Mode, part: &Option<LinePart<'_>>, most: usize) -> usize
+    requires { most + 320 < 2 ^ 64 }
+    ensures reach { result ≡ reach mode (option_map part_of part.now) most }
+    ensures few { result ≤ most + 320 }
+{
+    match (part, mode) {
+        (Some(_), _) | (None, Mode::Explain) => most,
+        (None, Mode::Key | Mode::Carry | Mode::Replace | Mode::Locate) => most + 320,
     }
 }
 
 /// Writes for each line that the reader gives what the words say, hands it on before each read, and flushes the writer at
 /// the end.
 ///
-/// The words are `MODE [TARGET [ASSUMED [LIMIT]]] [year N] [time HH:MM] [label TEXT] SOURCE...`, where `MODE` is `key`, `carry`,
-/// `replace`, `explain` or `locate`, and the others are those of `instants`. `TARGET`, `ASSUMED` and `LIMIT` begin with a sign or a
-/// digit, or are `Z` or `UTC`, which say `+00:00`; those that are left out are `+00:00`, `-` and `1048576`. `year` gives the year, 0
-/// to 9999, of the first date of lines that say none, and `time` the time of day, 00:00 to 23:59, of dates without one. `label`
-/// gives a text that stands between the key of a line and the line, in modes `key` and `carry`. The name of a format is a source
-/// too, and says its language and its description. `ASSUMED` may also name a zone, as `Europe/Berlin` or `:CET`: then `zone` is its
-/// clock, on which each date is that says no offset. All words are looked at, and all memory is taken, before anything is read.
-/// The first device that fails ends the run; after a failed read what was written is flushed.
+/// The words are `MODE [TARGET [ASSUMED [LIMIT]]] [year N] [time HH:MM] [field NAME | column N [separator S]] [label TEXT] SOURCE...`,
+/// where `MODE` is `key`, `carry`, `replace`, `explain` or `locate`, and the others are those of `instants`. `TARGET`, `ASSUMED` and
+/// `LIMIT` begin with a sign or a digit, or are `Z` or `UTC`, which say `+00:00`; those that are left out are `+00:00`, `-` and
+/// `1048576`. `year` gives the year, 0 to 9999, of the first date of lines that say none, and `time` the time of day, 00:00 to 23:59,
+/// of dates without one. `field` names the member of a line that is an object in JSON, and `column` gives the number of a column,
+/// from 1, in whose bytes alone the date of a line is looked for; `separator` gives the byte between columns, or `tab`, and is a comma
+/// where it is left out. `label` gives a text that stands between the key of a line and the line, in modes `key` and `carry`. The name
+/// of a format is a source too, and says its language and its description. `ASSUMED` may also name a zone, as `Europe/Berlin` or
+/// `:CET`: then `zone` is its clock, on which each date is that says no offset. All words are looked at, and all memory is taken,
+/// before anything is read. The first device that fails ends the run; after a failed read what was written is flushed.
 pub fn run_words<'a, R: ByteReader, W: ByteWriter>(
     alloc: Global,
     words: &[&'a str],
@@ -188,7 +205,8 @@ pub fn run_words<'a, R: ByteReader, W: ByteWriter>(
     };
     let (timeline, limit) = asked_timeline(alloc, filled.as_slice())?;
     let known = known_by(&asked, timeline.assumed());
-    let dates = DateSources::of_timeline(alloc, timeline, limit)?;
+    let dates = DateSources::of_timeline(alloc, timeline, limit, asked.part)?;
+    let most = room(&dates.part, limit);
     let lines = LinesAsked {
         asked,
         known,
@@ -198,6 +216,6 @@ pub fn run_words<'a, R: ByteReader, W: ByteWriter>(
     if let Some(lacking) = lines.lacking() {
         return Err(LinesFault::Lacks(lacking));
     }
-    run_program(&lines, alloc, limit, reader, writer)?;
+    run_program(&lines, alloc, most, reader, writer)?;
     Ok(())
 }

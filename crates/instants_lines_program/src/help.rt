@@ -7,7 +7,8 @@ pub(crate) const VERSION: &str = "instants-lines 0.1.0";
 
 pub(crate) const HELP: &str = "\
 instants-lines [-q] [--count] MODE [TARGET [ASSUMED [LIMIT]]] [year N]
-               [time HH:MM] [label TEXT] SOURCE...
+               [time HH:MM] [field NAME | column N [separator S]]
+               [label TEXT] SOURCE...
     reads lines from standard input, finds the date-time of each, and writes
     the line to standard output with that at one offset
 instants-lines guess
@@ -41,6 +42,13 @@ instants-lines guess
              or one near it where lines say its last two
     time HH:MM
              the time of day of dates without one, 00:00 to 23:59
+    field NAME
+             the member of lines in JSON in whose value the date-time is looked
+             for, and nowhere else
+    column N
+             the column of lines in which it is looked for, counted from 1
+    separator S
+             the byte between columns, or tab; a comma where it is left out
     label TEXT
              in the modes key and carry, what stands after the key and a tab,
              with a tab after it

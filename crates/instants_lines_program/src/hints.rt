@@ -63,12 +63,13 @@ fn hint_on_mode(word: &str) -> Option<Hint> {
     }
 }
 
+const ORDER: &str =
+    "year N, time HH:MM, field NAME or column N separator S, and label TEXT stand in this \
+                     order before the sources";
+
 fn hint_on_source(word: &str) -> Option<Hint> {
     match word {
-        "year" | "time" | "label" => {
-            let order = "year N, time HH:MM and label TEXT stand in this order before the sources";
-            Some(Hint::Do(order))
-        }
+        "year" | "time" | "field" | "column" | "separator" | "label" => Some(Hint::Do(ORDER)),
         _ if is_zone(word) => Some(Hint::Do(
             "a zone stands after the target: +00:00 Europe/Berlin",
         )),

@@ -1,5 +1,5 @@
-//! `instants-lines [-q] [--count] MODE [TARGET [ASSUMED [LIMIT]]] [year N] [time HH:MM] SOURCE...`: reads lines with dates in
-//! them from standard input, and writes each to standard output: after the date-time at the target offset, or with that in
+//! `instants-lines [-q] [--count] MODE [TARGET [ASSUMED [LIMIT]]] [year N] [time HH:MM] [field NAME | column N [separator S]]
+//! [label TEXT] SOURCE...`: reads lines with dates in them from standard input, and writes each to standard output: after the date-time at the target offset, or with that in
 //! place of its date. `instants-lines guess`: writes which formats date the lines of standard input.
 #![tactic(auto)]
 

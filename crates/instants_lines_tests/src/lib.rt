@@ -9,6 +9,8 @@ mod edges;
 #[cfg(test)]
 mod found;
 #[cfg(test)]
+mod parts;
+#[cfg(test)]
 mod prefixes;
 #[cfg(test)]
 mod runs;

@@ -1,7 +1,12 @@
--- What the word for a time of day says.
-use Rattle.std.proofs.Common.{◌≡◌, ℕ, List, [], ◌∷◌, length, get_or, refl, arith}
+-- What the words for a time of day and for a separator say.
+use Rattle.std.proofs.Common.{◌≡◌, ◌≢◌, ℕ, true, false, Option, None, Some, List, [], ◌∷◌, length, get_or, refl, ap, arith}
+use Rattle.std.specs.Prelude.{◌↔◌, IsSome, IfSome, codes, if◌then◌else◌}
+use Rattle.std.specs.Str.{bytes_eq}
+use Rattle.std.proofs.lemmas.Bool.Decides.{nat_tests}
+use Rattle.std.proofs.lemmas.Slice.Eq.{bytes_eq-Decides}
+use Rattle.instants_fields.specs.Columns.{IsSeparator}
 use Rattle.instants_words.specs.Pieces.{number_said}
-use Rattle.instants_lines_words.specs.Words.{clock_minutes, time_said}
+use Rattle.instants_lines_words.specs.Words.{clock_minutes, is_separator, separator_said, time_said}
 
 -- what a word of five bytes with a colon in the middle says
 pub time_five : (word : List ℕ) → length word ≡ 5 → get_or word 2 0 ≡ 58
@@ -9,3 +14,48 @@ pub time_five : (word : List ℕ) → length word ≡ 5 → get_or word 2 0 ≡ 
 unfolding time_said
 time_five (a ∷ b ∷ c ∷ d ∷ e ∷ []) five colon = rw colon refl
 time_five word five colon = absurd (omega arith)
+
+-- ---- what stands between columns
+
+-- a byte that may stand there
+bytes_of : (byte : ℕ) → is_separator byte ≡ true → IsSeparator byte
+bytes_of byte is = record { mark = grind (arith, nat_tests); line_feed = grind (arith, nat_tests); carriage_return = grind (arith, nat_tests) }
+
+no_byte_of : (byte : ℕ) → is_separator byte ≡ false → IsSeparator byte → ⊥
+no_byte_of byte is one = grind (arith, nat_tests, one.mark, one.line_feed, one.carriage_return)
+
+there : (byte : ℕ) (result : Option ℕ) → IsSome result → IfSome result (λ separator. separator ≡ byte) → result ≡ Some byte
+there byte (Some separator) some is = ap (λ one. Some one) is
+there byte None some is = absurd cc
+
+none : (result : Option ℕ) → (IsSome result → ⊥) → result ≡ None
+none (Some separator) unsaid = absurd (unsaid refl)
+none None unsaid = refl
+
+-- the separator of a byte
+made : (byte : ℕ) (result : Option ℕ) → IsSome result ↔ IsSeparator byte → IfSome result (λ separator. separator ≡ byte) → result ≡ (if is_separator byte then Some byte else None)
+made byte result which value =
+    elim (is_separator byte) as (λ test. is_separator byte ≡ test → result ≡ (if test then Some byte else None)) [
+      | true ↦ λ e. there byte result (which.1 (bytes_of byte e)) value
+      | false ↦ λ e. none result (λ some. no_byte_of byte e (which.0 some))
+    ] refl
+
+-- a word of one byte
+pub separator_one : (word : List ℕ) (result : Option ℕ) → length word ≡ 1 → IsSome result ↔ IsSeparator (get_or word 0 0) → IfSome result (λ separator. separator ≡ get_or word 0 0) → result ≡ separator_said word
+unfolding separator_said
+separator_one (byte ∷ []) result one which value = made byte result which value
+separator_one word result one which value = absurd (omega arith)
+
+-- a tab by its name
+pub separator_tab : (word : List ℕ) (result : Option ℕ) → bytes_eq word (codes "tab") ≡ true → IsSome result ↔ IsSeparator 9 → IfSome result (λ separator. separator ≡ 9) → result ≡ separator_said word
+unfolding separator_said
+separator_tab word result is which value =
+    let named : word ≡ codes "tab" = (bytes_eq-Decides word (codes "tab")).0 is in
+    rw named (made 9 result which value)
+
+-- another word
+pub separator_none : (word : List ℕ) → length word ≢ 1 → bytes_eq word (codes "tab") ≡ false → separator_said word ≡ None
+unfolding separator_said
+separator_none [] other unnamed = refl
+separator_none (byte ∷ []) other unnamed = absurd (other refl)
+separator_none (byte ∷ next ∷ more) other unnamed = rw unnamed refl

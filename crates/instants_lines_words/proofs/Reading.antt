@@ -5,21 +5,21 @@ use Rattle.instants_words.specs.Sources.{SourceSaid}
 use Rattle.instants_words.specs.Words.{words_said}
 use Rattle.instants_words.proofs.TextLemmas.{said_four}
 use Rattle.instants_lines_words.specs.Asked.{Asking}
-use Rattle.instants_lines_words.specs.Filled.{target_in, assumed_in, limit_in, is_whole, zone_in, year_first, time_first, label_first}
+use Rattle.instants_lines_words.specs.Filled.{target_in, assumed_in, limit_in, is_whole, zone_in, year_first, time_first, field_first, column_first, separator_first, label_first}
 use Rattle.instants_lines_words.specs.Modes.{mode_said}
 use Rattle.instants_lines_words.specs.Spelled.{spelled_out}
-use Rattle.instants_lines_words.specs.Words.{asked_by, first_wrong, joined, mode_words_said, others_said, settings_said, some_of, sources_read}
+use Rattle.instants_lines_words.specs.Words.{asked_by, first_wrong, joined, mode_words_said, others_said, part_said, settings_said, some_of, sources_read}
 use Rattle.instants_lines_words.specs.declared.mode.Mode.{Mode}
 use Rattle.instants_lines_words.specs.Wrong.{Wrong}
 use Rattle.instants_lines_words.proofs.Spelling.{spelled, spelled_some}
 
 -- the parts after a mode
-pub by_parts : (all : List (List ℕ)) (word : List ℕ) (others : List (List ℕ)) (mode : Mode) (target assumed limit : List ℕ) (whole : Bool) (named year time label : Option (List ℕ)) (sources : List (List ℕ))
+pub by_parts : (all : List (List ℕ)) (word : List ℕ) (others : List (List ℕ)) (mode : Mode) (target assumed limit : List ℕ) (whole : Bool) (named year time field column separator label : Option (List ℕ)) (sources : List (List ℕ))
     → all ≡ word ∷ others → mode_said word ≡ Some mode → target ≡ target_in others → assumed ≡ assumed_in others → limit ≡ limit_in others → whole ≡ is_whole others
-    → named ≡ zone_in others → year ≡ (year_first others).0 → time ≡ (time_first others).0 → label ≡ (label_first others).0 → sources ≡ (label_first others).1
-    → mode_words_said all ≡ joined (some_of sources) (settings_said target assumed limit) (asked_by mode named year time label) (result_map_both (λ all. all) (first_wrong whole) (sources_read None 1 sources))
+    → named ≡ zone_in others → year ≡ (year_first others).0 → time ≡ (time_first others).0 → field ≡ (field_first others).0 → column ≡ (column_first others).0 → separator ≡ (separator_first others).0 → label ≡ (label_first others).0 → sources ≡ (label_first others).1
+    → mode_words_said all ≡ joined (some_of sources) (settings_said target assumed limit) (asked_by mode named year time (part_said mode field column separator) label) (result_map_both (λ all. all) (first_wrong whole) (sources_read None 1 sources))
 unfolding mode_words_said others_said
-by_parts all word others mode target assumed limit whole named year time label sources e m t a l w z y c b s = rw (e, m, t, a, l, w, z, y, c, b, s) refl
+by_parts all word others mode target assumed limit whole named year time field column separator label sources e m t a l w z y c f n p b s = rw (e, m, t, a, l, w, z, y, c, f, n, p, b, s) refl
 
 pub some_there : (sources : List (List ℕ)) → 0 < length sources → some_of sources ≡ Ok tt
 some_there [] some = absurd (omega arith)

@@ -11,7 +11,7 @@ use Rattle.instants_words.specs.declared.fault.WordsFault.{WordsFault}
 use Rattle.instants_words.specs.declared.fault.WordsFault.TheVariants as words
 use Rattle.instants_lines_words.specs.Spelled.{spelled_out}
 use Rattle.instants_lines_words.proofs.Spelling.{format_alone}
-use Rattle.instants_lines_words.specs.Filled.{has_sign_or_digit, is_utc, is_setting, as_offset, target_in, assumed_first, assumed_in, limit_in, year_first, time_first, label_first, filled}
+use Rattle.instants_lines_words.specs.Filled.{has_sign_or_digit, is_utc, is_setting, as_offset, target_in, assumed_first, assumed_in, limit_in, year_first, time_first, field_first, column_first, separator_first, label_first, filled}
 
 -- an offset begins with a sign, and is no name of UTC
 sign_first : (word : List ℕ) (offset : ℤ) → offset_said word ≡ Some offset → (has_sign_or_digit word ≡ true) × (is_utc word ≡ false)
@@ -86,10 +86,10 @@ spelled place (word ∷ next ∷ words) all e =
 
 -- three such words are the target, the assumed offset and the limit, where the next one is no name
 stays : (target assumed limit source : List ℕ) (others : List (List ℕ)) → is_setting target ≡ true → is_setting assumed ≡ true → is_setting limit ≡ true → as_offset target ≡ target → as_offset assumed ≡ assumed
-    → bytes_eq source (codes "year") ≡ false → bytes_eq source (codes "time") ≡ false → bytes_eq source (codes "label") ≡ false → spelled_out false (source ∷ others) ≡ source ∷ others
+    → bytes_eq source (codes "year") ≡ false → bytes_eq source (codes "time") ≡ false → bytes_eq source (codes "field") ≡ false → bytes_eq source (codes "column") ≡ false → bytes_eq source (codes "separator") ≡ false → bytes_eq source (codes "label") ≡ false → spelled_out false (source ∷ others) ≡ source ∷ others
     → filled (target ∷ assumed ∷ limit ∷ source ∷ others) ≡ target ∷ assumed ∷ limit ∷ source ∷ others
-unfolding filled target_in assumed_first assumed_in limit_in year_first time_first label_first
-stays target assumed limit source others t a l et ea y n b s = rw (t, a, a, l, et, ea, y, n, b, s) refl
+unfolding filled target_in assumed_first assumed_in limit_in year_first time_first field_first column_first separator_first label_first
+stays target assumed limit source others t a l et ea y n f c p b s = rw (t, a, a, l, et, ea, y, n, f, c, p, b, s) refl
 
 known : (t : Option ℤ) (a : Option (Option ℤ)) (l : Option ℕ) (sources : Result (List SourceSaid) WordsFault) (said : Words)
     → ((t or words.Target) >>= (λ x. (a or words.Assumed) >>= (λ y. (l or words.Limit) >>= (λ z. sources >>= (λ s. Ok (record { target = x; assumed = y; limit = z; sources = s })))))) ≡ Ok said
@@ -114,6 +114,9 @@ in_full (t ∷ a ∷ l ∷ source ∷ others) said e =
     (as_is t target.1) (as_is a assumed.1)
     (other_name source (codes "year") others said.sources (bytes_eq source (codes "year")) refl refl is.3 refl)
     (other_name source (codes "time") others said.sources (bytes_eq source (codes "time")) refl refl is.3 refl)
+    (other_name source (codes "field") others said.sources (bytes_eq source (codes "field")) refl refl is.3 refl)
+    (other_name source (codes "column") others said.sources (bytes_eq source (codes "column")) refl refl is.3 refl)
+    (other_name source (codes "separator") others said.sources (bytes_eq source (codes "separator")) refl refl is.3 refl)
     (other_name source (codes "label") others said.sources (bytes_eq source (codes "label")) refl refl is.3 refl)
     (spelled 1 (source ∷ others) said.sources is.3)
 in_full words said e = absurd (few words said (omega arith) e)

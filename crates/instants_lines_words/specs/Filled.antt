@@ -1,4 +1,4 @@
--- The words after the mode, with what is taken where some are left out: a target, an assumed offset or a zone in its place, and a limit, then a year, a time and a label, each after its name, and then the sources.
+-- The words after the mode, with what is taken where some are left out: a target, an assumed offset or a zone in its place, and a limit, then a year, a time, a field, a column, a separator and a label, each after its name, and then the sources.
 use Rattle.std.specs.Prelude.{ℕ, Bool, false, not, ◌||◌, ◌&&◌, ◌==◌, if◌then◌else◌, Option, None, Some, is_some, unwrap_or, List, [], ◌∷◌, codes}
 use Rattle.std.specs.Char.{is_ascii_digit}
 use Rattle.std.specs.List.{list_any}
@@ -109,9 +109,20 @@ year_first words = named_first (codes "year") (limit_first words).1
 unfoldable pub time_first : List (List ℕ) → Option (List ℕ) × List (List ℕ)
 time_first words = named_first (codes "time") (year_first words).1
 
+-- the name of a field, which stands after the word `field`, and the words after it
+unfoldable pub field_first : List (List ℕ) → Option (List ℕ) × List (List ℕ)
+field_first words = named_first (codes "field") (time_first words).1
+
+-- the number of a column, and what stands between columns, each after its name, and the words after it
+unfoldable pub column_first : List (List ℕ) → Option (List ℕ) × List (List ℕ)
+column_first words = named_first (codes "column") (field_first words).1
+
+unfoldable pub separator_first : List (List ℕ) → Option (List ℕ) × List (List ℕ)
+separator_first words = named_first (codes "separator") (column_first words).1
+
 -- the label, which stands after its name, and the sources, which are all words after these
 unfoldable pub label_first : List (List ℕ) → Option (List ℕ) × List (List ℕ)
-label_first words = named_first (codes "label") (time_first words).1
+label_first words = named_first (codes "label") (separator_first words).1
 
 -- all of it, as the words of `instants`: names of formats are spelled out
 unfoldable pub filled : List (List ℕ) → List (List ℕ)

@@ -2,6 +2,7 @@ pub mod Modes
 pub mod Wrong
 pub mod FileName
 pub mod WrongText
+pub mod Part
 pub mod Asked
 pub mod Spelled
 pub mod Filled

@@ -14,6 +14,9 @@ pub data Wrong : Type 0 where
   Zone : List ℕ → Wrong
   Year : List ℕ → Wrong
   Time : List ℕ → Wrong
+  Field : List ℕ → Wrong
+  Column : List ℕ → Wrong
+  Separator : List ℕ → Wrong
   Label : List ℕ → Wrong
   Source : ℕ → List ℕ → Wrong
   FirstSource : List ℕ → Wrong
@@ -30,6 +33,9 @@ wrong_of (words.Limit word) = Limit word.now
 wrong_of (words.Zone word) = Zone word.now
 wrong_of (words.Year word) = Year word.now
 wrong_of (words.Time word) = Time word.now
+wrong_of (words.Field word) = Field word.now
+wrong_of (words.Column word) = Column word.now
+wrong_of (words.Separator word) = Separator word.now
 wrong_of (words.Label word) = Label word.now
 wrong_of (words.Source place word) = Source place word.now
 wrong_of (words.FirstSource word) = FirstSource word.now

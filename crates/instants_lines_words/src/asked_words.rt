@@ -1,16 +1,19 @@
-//! The words that say a zone, a year, a time of day and a label.
-ghost use Rattle.std.specs.Prelude.{◌≡◌, ◌∷◌, ◌==◌, ◌||◌, not, [], option_map, true};
+//! The words that say a zone, a year, a time of day, a part of each line and a label.
+ghost use Rattle.std.specs.Prelude.{◌≡◌, ◌∷◌, ◌==◌, ◌||◌, not, [], codes, option_map, true, unwrap_or};
 ghost use Rattle.std.specs.Result.{result_map_both};
 ghost use Rattle.instants_words.specs.Pieces.{number_said};
 ghost use Rattle.instants_lines_words.specs.Asked.{asking_of};
-ghost use Rattle.instants_lines_words.specs.Words.{asked_by, clock_minutes, has_label, is_field, is_zone_name, label_said, read_by, takes_zone, time_said, year_said, zone_said};
+ghost use Rattle.instants_lines_words.specs.Part.{part_of};
+ghost use Rattle.instants_lines_words.specs.Words.{asked_by, clock_minutes, column_said, finds_dates, has_label, is_field, is_zone_name, label_said, number_of_column, part_said, read_by, separator_said, time_said, year_said, zone_said};
 ghost use Rattle.instants_lines_words.specs.Wrong.{Label, Time, Year, Zone, wrong_of};
 
 use crate::asked::Asked;
 use crate::filled::Parted;
+use crate::line_part::LinePart;
 use crate::mode::Mode;
 use crate::wrong_words::WrongWords;
-use instants_words::pieces::number;
+use instants_fields::Separator;
+use instants_words::pieces::{limit, number};
 
 const GREATEST_YEAR: u32 = 9999;
 
@@ -84,8 +87,8 @@ fn is_zone_name(word: &str) -> bool
 }
 
 // Whether dates are found in lines in a mode, and not each line read as a whole.
-fn takes_zone(mode: Mode) -> bool
-    ensures { result ≡ takes_zone mode }
+fn finds_dates(mode: Mode) -> bool
+    ensures { result ≡ finds_dates mode }
 {
     match mode {
         Mode::Explain => false,
@@ -99,8 +102,71 @@ fn read_zone<'a>(mode: Mode, name: Option<&'a str>) -> Result<Option<&'a str>, W
         ≡ read_by (zone_said mode) Zone (option_map (λ name. name.now) name.entry) }
 {
     match name {
-        Some(name) if !takes_zone(mode) || !is_zone_name(name) => Err(WrongWords::Zone(name)),
+        Some(name) if !finds_dates(mode) || !is_zone_name(name) => Err(WrongWords::Zone(name)),
         other => Ok(other),
+    }
+}
+
+// What stands between columns.
+#[tactic(auto, using(crate::proofs::AskedWords::separator_none))]
+fn separator(word: &str) -> Option<Separator>
+    ensures { result ≡ separator_said word.now }
+{
+    match word.as_bytes() {
+        [byte] => Separator::new(*byte),
+        _ if word == "tab" => Separator::new(b'\t'),
+        _ => None,
+    }
+}
+
+// The number of a column.
+fn column_number(mode: Mode, word: &str) -> Option<usize>
+    ensures { result ≡ number_of_column mode word.now }
+{
+    if finds_dates(mode) {
+        limit(word.as_bytes())
+    } else {
+        None
+    }
+}
+
+// The column that words say.
+fn read_column<'a>(
+    mode: Mode,
+    word: &'a str,
+    separator_word: &'a str,
+) -> Result<Option<LinePart<'a>>, WrongWords<'a>>
+    ensures { result_map_both (option_map part_of) wrong_of result
+        ≡ column_said mode word.now separator_word.now }
+{
+    let Some(number) = column_number(mode, word) else {
+        return Err(WrongWords::Column(word));
+    };
+    match separator(separator_word) {
+        Some(separator) => Ok(Some(LinePart::Column { number, separator })),
+        None => Err(WrongWords::Separator(separator_word)),
+    }
+}
+
+// The part that words say, where there are some.
+fn read_part<'a>(
+    mode: Mode,
+    field: Option<&'a str>,
+    column: Option<&'a str>,
+    separator: Option<&'a str>,
+) -> Result<Option<LinePart<'a>>, WrongWords<'a>>
+    ensures { result_map_both (option_map part_of) wrong_of result ≡ part_said mode
+        (option_map (λ word. word.now) field.entry)
+        (option_map (λ word. word.now) column.entry)
+        (option_map (λ word. word.now) separator.entry) }
+{
+    match (field, column, separator) {
+        (None, None, None) => Ok(None),
+        (Some(name), None, None) if finds_dates(mode) => Ok(Some(LinePart::Field(name))),
+        (Some(name), None, None) => Err(WrongWords::Field(name)),
+        (Some(_), Some(word), _) => Err(WrongWords::Column(word)),
+        (None, Some(word), separator) => read_column(mode, word, separator.unwrap_or(",")),
+        (_, None, Some(word)) => Err(WrongWords::Separator(word)),
     }
 }
 
@@ -134,12 +200,15 @@ fn read_label<'a>(mode: Mode, word: Option<&'a str>) -> Result<Option<&'a str>, 
     }
 }
 
-/// What is asked in a mode, with the zone, the year, the time and the label that words say.
+/// What is asked in a mode, with the zone, the year, the time, the part and the label that words say.
 pub fn read_asked<'a>(mode: Mode, parted: &Parted<'a, '_>) -> Result<Asked<'a>, WrongWords<'a>>
     ensures { result_map_both asking_of wrong_of result ≡ asked_by mode
         (option_map (λ word. word.now) parted.now.zone)
         (option_map (λ word. word.now) parted.now.year)
         (option_map (λ word. word.now) parted.now.time)
+        (part_said mode (option_map (λ word. word.now) parted.now.field)
+        (option_map (λ word. word.now) parted.now.column)
+        (option_map (λ word. word.now) parted.now.separator))
         (option_map (λ word. word.now) parted.now.label) }
 {
     let zone = match read_zone(mode, parted.zone) {
@@ -148,12 +217,17 @@ pub fn read_asked<'a>(mode: Mode, parted: &Parted<'a, '_>) -> Result<Asked<'a>, 
     };
     let year = read_year(parted.year)?;
     let time = read_time(parted.time)?;
+    let part = match read_part(mode, parted.field, parted.column, parted.separator) {
+        Ok(part) => part,
+        Err(wrong) => return Err(wrong),
+    };
     match read_label(mode, parted.label) {
         Ok(label) => Ok(Asked {
             mode,
             zone,
             year,
             time,
+            part,
             label,
         }),
         Err(wrong) => Err(wrong),

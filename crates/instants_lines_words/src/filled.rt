@@ -1,6 +1,6 @@
 //! The words after the mode, of which some may be left out.
 ghost use Rattle.std.specs.Prelude.{◌≡◌, ◌∷◌, false, map, option_map, IfOk};
-ghost use Rattle.instants_lines_words.specs.Filled.{assumed_after, assumed_by, assumed_in, as_offset, has_sign_or_digit, is_setting, is_utc, is_whole, label_first, limit_in, named_first, setting_first, target_in, time_first, year_first, zone_by, zone_in, zone_named};
+ghost use Rattle.instants_lines_words.specs.Filled.{assumed_after, assumed_by, assumed_in, as_offset, column_first, field_first, has_sign_or_digit, is_setting, is_utc, is_whole, label_first, limit_in, named_first, separator_first, setting_first, target_in, time_first, year_first, zone_by, zone_in, zone_named};
 ghost use Rattle.instants_lines_words.specs.Spelled.{spelled_out};
 
 use crate::spelled::spell_out;
@@ -24,9 +24,12 @@ pub struct Parted<'a, 'b> {
     pub is_whole: bool,
     /// The name of the zone that stands in place of the assumed offset.
     pub zone: Option<&'a str>,
-    /// The word after `year`, that after `time` and that after `label`.
+    /// The word after `year`, and those after the other names.
     pub year: Option<&'a str>,
     pub time: Option<&'a str>,
+    pub field: Option<&'a str>,
+    pub column: Option<&'a str>,
+    pub separator: Option<&'a str>,
     pub label: Option<&'a str>,
     /// The words of the sources, with names of formats.
     pub sources: &'b [&'a str],
@@ -143,7 +146,7 @@ fn named_first<'a, 'b>(name: &str, words: &'b [&'a str]) -> (Option<&'a str>, &'
 }
 
 /// Parts the words after the mode.
-#[tactic(auto, unfolding(crate::specs::Filled::target_in, crate::specs::Filled::assumed_first, crate::specs::Filled::assumed_in, crate::specs::Filled::zone_in, crate::specs::Filled::limit_in, crate::specs::Filled::is_whole, crate::specs::Filled::year_first, crate::specs::Filled::time_first, crate::specs::Filled::label_first))]
+#[tactic(auto, unfolding(crate::specs::Filled::target_in, crate::specs::Filled::assumed_first, crate::specs::Filled::assumed_in, crate::specs::Filled::zone_in, crate::specs::Filled::limit_in, crate::specs::Filled::is_whole, crate::specs::Filled::year_first, crate::specs::Filled::time_first, crate::specs::Filled::field_first, crate::specs::Filled::column_first, crate::specs::Filled::separator_first, crate::specs::Filled::label_first))]
 pub fn part<'a, 'b>(words: &'b [&'a str]) -> Parted<'a, 'b>
     ensures target { result.target.now ≡ target_in (map (λ word. word.now) words.now) }
     ensures assumed { result.assumed.now ≡ assumed_in (map (λ word. word.now) words.now) }
@@ -155,6 +158,12 @@ pub fn part<'a, 'b>(words: &'b [&'a str]) -> Parted<'a, 'b>
         ≡ (year_first (map (λ word. word.now) words.now)).0 }
     ensures time { option_map (λ word. word.now) result.time
         ≡ (time_first (map (λ word. word.now) words.now)).0 }
+    ensures field { option_map (λ word. word.now) result.field
+        ≡ (field_first (map (λ word. word.now) words.now)).0 }
+    ensures column { option_map (λ word. word.now) result.column
+        ≡ (column_first (map (λ word. word.now) words.now)).0 }
+    ensures separator { option_map (λ word. word.now) result.separator
+        ≡ (separator_first (map (λ word. word.now) words.now)).0 }
     ensures label { option_map (λ word. word.now) result.label
         ≡ (label_first (map (λ word. word.now) words.now)).0 }
     ensures sources { map (λ word. word.now) result.sources.now
@@ -165,7 +174,10 @@ pub fn part<'a, 'b>(words: &'b [&'a str]) -> Parted<'a, 'b>
     let (limit, after_limit) = setting_first(after_assumed);
     let (year, after_year) = named_first("year", after_limit);
     let (time, after_time) = named_first("time", after_year);
-    let (label, sources) = named_first("label", after_time);
+    let (field, after_field) = named_first("field", after_time);
+    let (column, after_column) = named_first("column", after_field);
+    let (separator, after_separator) = named_first("separator", after_column);
+    let (label, sources) = named_first("label", after_separator);
     Parted {
         target: as_offset(target.unwrap_or(TARGET)),
         assumed: assumed_by(assumed),
@@ -174,6 +186,9 @@ pub fn part<'a, 'b>(words: &'b [&'a str]) -> Parted<'a, 'b>
         zone: zone_by(assumed),
         year,
         time,
+        field,
+        column,
+        separator,
         label,
         sources,
     }

@@ -5,7 +5,7 @@
 //! let (asked, words) = read_mode_words(alloc, &words)?;
 //! ```
 //!
-//! - `Asked` is the mode, what is given for dates that lack it, and the label.
+//! - `Asked` is the mode, what is given for dates that lack it, the part of lines in which dates are, and the label.
 //! - `read_mode_words` gives it with the words of `instants` after it: those that are left out are filled in, and names of
 //!   formats are spelled out.
 //! - `zone_named` gives the name of the zone that stands in place of the assumed offset, whatever else is wrong.
@@ -17,6 +17,7 @@ mod asked_words;
 mod file_name;
 mod filled;
 pub mod laws;
+mod line_part;
 mod mode;
 mod spelled;
 mod words;
@@ -27,6 +28,7 @@ mod zone;
 
 pub use asked::Asked;
 pub use filled::zone_named;
+pub use line_part::LinePart;
 pub use mode::Mode;
 pub use words::read_mode_words;
 pub use words_fault::ModeWordsFault;

@@ -27,6 +27,13 @@ pub enum WrongWords<'a> {
     Year(&'a str),
     /// The word after `time` is not a time of day from 00:00 to 23:59.
     Time(&'a str),
+    /// A field is named, and the mode finds no dates.
+    Field(&'a str),
+    /// The word after `column` is not a number from 1 to 1048576, in one to seven digits, or a field is named too, or the mode
+    /// finds no dates.
+    Column(&'a str),
+    /// The word after `separator` is neither one byte that may stand between columns nor `tab`, or no column is asked for.
+    Separator(&'a str),
     /// The word after `label` has a tab or a line feed, or the mode writes no label.
     Label(&'a str),
     /// The source in this place, counted from 1, is not known.
@@ -54,6 +61,9 @@ impl fmt::Display for WrongWords<'_> {
             | WrongWords::Zone(word)
             | WrongWords::Year(word)
             | WrongWords::Time(word)
+            | WrongWords::Field(word)
+            | WrongWords::Column(word)
+            | WrongWords::Separator(word)
             | WrongWords::Label(word) => write!(f, "\"{word}\": {said}"),
             WrongWords::Source { place, word } => {
                 write!(f, "source {place}: \"{word}\": {said}")
@@ -72,7 +82,8 @@ fn said(wrong: &WrongWords<'_>) -> &'static str
 {
     match wrong {
         WrongWords::NoMode => {
-            "usage: instants-lines MODE [TARGET [ASSUMED [LIMIT]]] [year N] [time HH:MM] [label TEXT] SOURCE..."
+            "usage: instants-lines MODE [TARGET [ASSUMED [LIMIT]]] [year N] [time HH:MM] \
+             [field NAME | column N [separator S]] [label TEXT] SOURCE..."
         }
         WrongWords::UnknownMode(_) =>
             "no such mode; there are key, carry, replace, explain, locate",
@@ -89,6 +100,14 @@ fn said(wrong: &WrongWords<'_>) -> &'static str
         }
         WrongWords::Year(_) => "no year; it must be four digits, as 2024",
         WrongWords::Time(_) => "no time of day; it must be HH:MM",
+        WrongWords::Field(_) => "no field; modes key, carry, replace and locate take one",
+        WrongWords::Column(_) => {
+            "no column; modes key, carry, replace and locate take one from 1 to 1048576, \
+             where no field is named"
+        }
+        WrongWords::Separator(_) => {
+            "no separator; after a column it must be one byte and no quotation mark, or tab"
+        }
         WrongWords::Label(_) => {
             "no label; modes key and carry take one, without tabs and line feeds"
         }

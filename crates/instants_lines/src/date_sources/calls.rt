@@ -1,49 +1,102 @@
 //! What dates are found by, and how their moments are written.
-ghost use Rattle.std.specs.Prelude.{◌≡◌, ◌<◌, ◌≤◌, ◌+◌, ◌^◌, length, map, Ok, IfOk};
+ghost use Rattle.std.specs.Prelude.{◌≡◌, ◌<◌, ◌≤◌, ◌+◌, ◌^◌, length, map, option_map, Ok, IfOk, IfSome};
 ghost use Rattle.instants_prefixes.specs.DateSource.{grammar_in};
 ghost use Rattle.instants_timeline.specs.Place.{place_text, shown_or_refused};
 ghost use Rattle.instants_timeline.specs.Settings.{setting_of};
 ghost use Rattle.instants_lines.specs.Lacking.{first_lacking};
-ghost use Rattle.instants_lines.specs.Dates.{date_in};
-ghost use Rattle.instants_lines.specs.Showing.{given_of, limit_in, search_in, setting_in};
+ghost use Rattle.instants_found.specs.Within.{IsWithin};
+ghost use Rattle.instants_lines.specs.Dates.{date_at, date_in};
+ghost use Rattle.instants_lines.specs.Parts.{LiesIn, found_at, place_of_part};
+ghost use Rattle.instants_lines.specs.Showing.{limit_in, part_in, search_in, setting_in};
+ghost use Rattle.instants_lines_words.specs.Part.{part_of};
 
 use crate::date_sources::DateSources;
-use crate::known::Known;
 use crate::lacking::Lacking;
+use crate::line_part::{has_escape, moved, place_of_part};
 use datetime_types::OffsetDateTime;
 use instants_answers::{Answer, write_fields};
 use instants_found::{Finder, Finding};
+use instants_lines_words::LinePart;
 use instants_prefixes::{DateSource, Given};
 use instants_sources::Named;
 use instants_timeline::{Timeline, answer_moment};
 use std::alloc::{AllocError, Global};
-use zones_clock::Zone;
 
 impl<'a> DateSources<'a> {
-    /// Looks for the sources of a timeline, in order, at so many first places of a line, and shows moments as it does.
+    /// Looks for the sources of a timeline, in order, at so many first places of a line or of a part of it, and shows moments as it
+    /// does.
     pub(crate) fn of_timeline(
         alloc: Global,
         timeline: Timeline<'a>,
         limit: usize,
+        part: Option<LinePart<'a>>,
     ) -> Result<DateSources<'a>, AllocError>
         ensures setting { IfOk result (λ dates. setting_in dates ≡ setting_of timeline.entry) }
         ensures limit { IfOk result (λ dates. limit_in dates ≡ limit) }
+        ensures part { IfOk result (λ dates. part_in dates ≡ option_map part_of part.entry) }
     {
         let (target, assumed) = (timeline.target(), timeline.assumed());
         let finder = Finder::new(alloc, timeline.into_sources(), limit)?;
         Ok(DateSources {
             finder,
+            part,
             assumed,
             target,
         })
     }
 
-    /// The date of a line, with what is given on the clock of a zone.
-    pub(crate) fn find(&self, known: Known, zone: Option<&Zone>, line: &[u8]) -> Option<Finding>
-        ensures { result ≡ date_in (search_in self.now (given_of known zone.entry)) line.now }
+    /// What is found in the text of a part, by the places of a line in which that begins at this one.
+    pub(crate) fn found_at(
+        &self,
+        at: usize,
+        part: &LinePart<'_>,
+        text: &[u8],
+        found: Option<Finding>,
+    ) -> Option<Finding>
+        requires room { at + length text.now < 2 ^ 64 }
+        requires within { IfSome found
+            (IsWithin (limit_in self.now) text.now (length (setting_in self.now).sources)) }
+        ensures found { result ≡ found_at at (part_of part.now) text.now found }
+        ensures within { IfSome result
+            (LiesIn (at + length text.now) (length (setting_in self.now).sources)) }
     {
-        let given = known.on(zone);
-        self.finder.find(&given, line)
+        match found {
+            None => None,
+            Some(Finding::Doubtful(place)) => Some(Finding::Doubtful(at + place)),
+            Some(Finding::There(date)) => {
+                if has_escape(part, text, &date) {
+                    return Some(Finding::Doubtful(at + date.start));
+                }
+                Some(Finding::There(moved(at, date)))
+            }
+        }
+    }
+
+    // The date of a part of a line, where the line has one. A call of its own, beside what looks in whole lines.
+    #[inline(never)]
+    fn find_in_part(&self, given: &Given, part: &LinePart<'_>, line: &[u8]) -> Option<Finding>
+        ensures found { result ≡ date_at (search_in self.now given.now) (part_of part.now) line.now
+            (place_of_part (part_of part.now) line.now) }
+        ensures within { IfSome result
+            (LiesIn (length line.now) (length (setting_in self.now).sources)) }
+    {
+        let place = place_of_part(part, line)?;
+        let text = &line[place.start..place.end];
+        let found = self.finder.find(given, text);
+        self.found_at(place.start, part, text, found)
+    }
+
+    /// The date of a line, with what is given.
+    #[inline(always)]
+    pub(crate) fn find(&self, given: &Given, line: &[u8]) -> Option<Finding>
+        ensures found { result ≡ date_in (search_in self.now given.now) line.now }
+        ensures within { IfSome result
+            (LiesIn (length line.now) (length (setting_in self.now).sources)) }
+    {
+        match &self.part {
+            None => self.finder.find(given, line),
+            Some(part) => self.find_in_part(given, part, line),
+        }
     }
 
     // Writes a moment as an answer, in place of what that held. Of most dates the fields are written.

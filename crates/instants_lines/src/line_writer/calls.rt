@@ -1,27 +1,29 @@
 //! What is written for lines one after another.
-ghost use Rattle.std.specs.Prelude.{◌≡◌, ◌<◌, ◌≤◌, [], ◌∷◌, ◌++◌, length, option_map, if◌then◌else◌, false, Some, IfSome, IfNone, OnOk};
+ghost use Rattle.std.specs.Prelude.{◌≡◌, ◌<◌, ◌≤◌, [], ◌∷◌, ◌++◌, length, option_map, if◌then◌else◌, false, None, Some, IfSome, IfNone, OnOk};
 ghost use Rattle.base.specs.Bytes.{tab, line_feed};
 ghost use Rattle.instants_found.specs.Found.{looked_at};
 ghost use Rattle.instants_found.specs.Starts.{HasNoDate};
-ghost use Rattle.instants_found.specs.Within.{IsWithin};
 ghost use Rattle.instants_found.specs.declared.found.Finding.TheVariants.{Doubtful, There};
 ghost use Rattle.instants_lines.specs.Showing.{given_of, search_in};
 ghost use Rattle.instants_lines.specs.Dates.{doubt, key_of_date, key_or, replaced, with_date, with_date_time, place_of_date};
 ghost use Rattle.instants_lines.specs.Going.{below, below_by, beginning, depth, finding_in, given_below, goes_on, is_carry, keyed, label_prefix};
 ghost use Rattle.instants_lines.specs.Located.{located};
+ghost use Rattle.instants_lines.specs.Parts.{LiesIn};
+ghost use Rattle.instants_lines_words.specs.Part.{part_of};
 ghost use Rattle.instants_lines.specs.Writing.{going_of};
 ghost use Rattle.instants_lines.specs.Wrote.{Wrote};
 
 use crate::date_sources::DateSources;
 use crate::depth::depth;
 use crate::known::Known;
+use crate::line_part::place_of_part;
 use crate::line_writer::LineWriter;
-use crate::located::write_finding;
+use crate::located::{write_finding, write_part};
 use crate::parts::{tabbed, write_keyed, write_labelled, write_three};
 use calendar::UtcOffset;
 use instants_answers::{Answer, rfc3339_line};
 use instants_found::{Finding, Found};
-use instants_lines_words::Mode;
+use instants_lines_words::{LinePart, Mode};
 use instants_prefixes::{Given, Years};
 use instants_stream::{ByteWriter, DeviceFailed};
 use instants_timeline::shown_at;
@@ -105,7 +107,7 @@ impl<'a, 'b> LineWriter<'a, 'b> {
         if self.goes_on(line) {
             return None;
         }
-        self.dates.find(self.known, self.zone, line)
+        self.dates.find(&self.given(), line)
     }
 
     // Keeps the moment of a date, where a year is given.
@@ -221,6 +223,7 @@ impl<'a, 'b> LineWriter<'a, 'b> {
         requires passed { HasNoDate (going_of self.old).search.setting.sources
             (looked_at (going_of self.old).search.limit line.now) 0 first }
         requires own { goes_on (going_of self.old).mode (going_of self.old).indent line.now ≡ false }
+        requires whole { (going_of self.old).search.part ≡ None }
         ensures wrote { IfSome result (λ end. Wrote W.ByteWriter writer.old writer.new end
             (keyed (going_of self.old) line.now ++ line_feed ∷ [])) }
         ensures next { IfSome result (λ end. OnOk end (going_of self.new ≡ below (going_of self.old) line.now)) }
@@ -246,6 +249,7 @@ impl<'a, 'b> LineWriter<'a, 'b> {
         requires passed { HasNoDate (going_of self.old).search.setting.sources
             (looked_at (going_of self.old).search.limit line.now) 0 first }
         requires own { goes_on (going_of self.old).mode (going_of self.old).indent line.now ≡ false }
+        requires whole { (going_of self.old).search.part ≡ None }
         ensures wrote { Wrote W.ByteWriter writer.old writer.new result
             (keyed (going_of self.old) line.now ++ line_feed ∷ []) }
         ensures next { OnOk result (going_of self.new ≡ below (going_of self.old) line.now) }
@@ -255,7 +259,7 @@ impl<'a, 'b> LineWriter<'a, 'b> {
         write_keyed(writer, &key, &self.label, line)
     }
 
-    /// Writes a line after its key and a tab, and a line feed.
+    /// Writes a line after its key and a tab, and a line feed, where dates are looked for in whole lines.
     #[inline(always)]
     #[tactic(auto, using(crate::proofs::Keyed::below_none))]
     pub(crate) fn write_keyed<W: ByteWriter>(
@@ -263,7 +267,8 @@ impl<'a, 'b> LineWriter<'a, 'b> {
         line: &[u8],
         writer: &mut W,
     ) -> Result<(), DeviceFailed>
-        requires { W.failed writer.old ≡ false }
+        requires works { W.failed writer.old ≡ false }
+        requires whole { (going_of self.old).search.part ≡ None }
         ensures wrote { Wrote W.ByteWriter writer.old writer.new result
             (keyed (going_of self.old) line.now ++ line_feed ∷ []) }
         ensures next { OnOk result (going_of self.new ≡ below (going_of self.old) line.now) }
@@ -280,7 +285,7 @@ impl<'a, 'b> LineWriter<'a, 'b> {
         }
     }
 
-    /// The same without a line feed.
+    /// The same wherever dates are looked for, without a line feed.
     #[cold]
     #[inline(never)]
     #[tactic(auto, using(std::proofs::lemmas::List::append_assoc))]
@@ -333,8 +338,8 @@ impl<'a, 'b> LineWriter<'a, 'b> {
         writer: &mut W,
     ) -> Result<(), DeviceFailed>
         requires works { W.failed writer.old ≡ false }
-        requires within { IfSome finding.now (IsWithin (going_of self.now).search.limit line.now
-            (length (going_of self.now).search.setting.sources)) }
+        requires within { IfSome finding.now
+            (LiesIn (length line.now) (length (going_of self.now).search.setting.sources)) }
         ensures { Wrote W.ByteWriter writer.old writer.new result
             (with_date (going_of self.now).search.setting line.now finding.now) }
     {
@@ -357,8 +362,62 @@ impl<'a, 'b> LineWriter<'a, 'b> {
             (replaced (going_of self.old).search line.now) }
         ensures next { OnOk result (going_of self.new ≡ below (going_of self.old) line.now) }
     {
-        let finding = self.dates.finder.find(&self.given(), line);
+        let finding = self.dates.find(&self.given(), line);
         self.write_by(&finding, line, writer)?;
+        self.keep_finding(&finding);
+        Ok(())
+    }
+
+    // Writes where the date of a whole line is, or why it is in doubt.
+    #[tactic(auto, using(crate::proofs::Keyed::plain_below), unfolding(crate::specs::Located::located))]
+    fn write_located_line<W: ByteWriter>(
+        &mut self,
+        line: &[u8],
+        writer: &mut W,
+    ) -> Result<(), DeviceFailed>
+        requires works { W.failed writer.old ≡ false }
+        requires mode { is_carry (going_of self.old).mode ≡ false }
+        requires whole { (going_of self.old).search.part ≡ None }
+        ensures wrote { Wrote W.ByteWriter writer.old writer.new result
+            (located (going_of self.old).search line.now) }
+        ensures next { OnOk result (going_of self.new ≡ below (going_of self.old) line.now) }
+    {
+        let finding = self.dates.finder.find(&self.given(), line);
+        write_finding(self.dates, &self.given(), 0, line, &finding, writer)?;
+        self.keep_finding(&finding);
+        Ok(())
+    }
+
+    // The same of a part of a line.
+    #[tactic(auto, using(crate::proofs::Keyed::plain_below), unfolding(crate::specs::Located::located))]
+    fn write_located_part<W: ByteWriter>(
+        &mut self,
+        part: &LinePart<'_>,
+        line: &[u8],
+        writer: &mut W,
+    ) -> Result<(), DeviceFailed>
+        requires works { W.failed writer.old ≡ false }
+        requires mode { is_carry (going_of self.old).mode ≡ false }
+        requires part { (going_of self.old).search.part ≡ Some (part_of part.now) }
+        ensures wrote { Wrote W.ByteWriter writer.old writer.new result
+            (located (going_of self.old).search line.now) }
+        ensures next { OnOk result (going_of self.new ≡ below (going_of self.old) line.now) }
+    {
+        let Some(place) = place_of_part(part, line) else {
+            return writer.write_all(b"! none");
+        };
+        let text = &line[place.start..place.end];
+        let found = self.dates.finder.find(&self.given(), text);
+        write_part(
+            self.dates,
+            &self.given(),
+            part,
+            &place,
+            text,
+            &found,
+            writer,
+        )?;
+        let finding = self.dates.found_at(place.start, part, text, found);
         self.keep_finding(&finding);
         Ok(())
     }
@@ -366,7 +425,6 @@ impl<'a, 'b> LineWriter<'a, 'b> {
     /// Writes where the date of a line is, or why it is in doubt, without a line feed.
     #[cold]
     #[inline(never)]
-    #[tactic(auto, using(crate::proofs::Keyed::plain_below), unfolding(crate::specs::Located::located))]
     pub(crate) fn write_located<W: ByteWriter>(
         &mut self,
         line: &[u8],
@@ -378,10 +436,10 @@ impl<'a, 'b> LineWriter<'a, 'b> {
             (located (going_of self.old).search line.now) }
         ensures next { OnOk result (going_of self.new ≡ below (going_of self.old) line.now) }
     {
-        let finding = self.dates.finder.find(&self.given(), line);
-        write_finding(self.dates, &self.given(), line, &finding, writer)?;
-        self.keep_finding(&finding);
-        Ok(())
+        match self.dates.part {
+            None => self.write_located_line(line, writer),
+            Some(part) => self.write_located_part(&part, line, writer),
+        }
     }
 }
 

@@ -12,7 +12,7 @@ use instants_stream::{ByteWriter, DeviceFailed, WritesLines};
 
 impl LineWriter<'_, '_> {
     // Writes the text for a line in any mode, without a line feed: a call beside the loop over lines, which has the modes with
-    // keys alone.
+    // keys of whole lines alone.
     #[cold]
     #[inline(never)]
     fn write_text<W: ByteWriter>(&mut self, line: &[u8], writer: &mut W) -> Result<(), DeviceFailed>
@@ -64,8 +64,8 @@ impl WritesLines for LineWriter<'_, '_> {
         line: &[u8],
         writer: &mut W,
     ) -> Result<(), DeviceFailed> {
-        match self.mode {
-            Mode::Key | Mode::Carry => self.write_keyed(line, writer),
+        match (self.mode, &self.dates.part) {
+            (Mode::Key | Mode::Carry, None) => self.write_keyed(line, writer),
             _ => self.write_text_line(line, writer),
         }
     }

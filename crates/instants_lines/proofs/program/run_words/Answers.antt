@@ -1,4 +1,4 @@
-use Rattle.std.proofs.Common.{◌≡◌, false, Result, None, Some, Ok, Err, map, sym, ap, ◌∙◌, rules}
+use Rattle.std.proofs.Common.{◌≡◌, ℕ, false, Result, None, Some, Ok, Err, map, sym, ap, ◌∙◌, rules}
 use Rattle.std.specs.Io.KnownBytes.{Keeps}
 use Rattle.std.proofs.lemmas.Result.{err_from_is_err_and}
 use Rattle.instants_stream.specs.Ran.{IsThrough, RanAndFlushed}
@@ -8,10 +8,10 @@ use Rattle.instants_words.specs.Words.{words_said}
 use Rattle.instants_timeline.specs.Settings.{setting_of}
 use Rattle.instants_lines_words.specs.Asked.{asking_of}
 use Rattle.instants_lines.specs.Asked.{begins_by}
-use Rattle.instants_lines.specs.Going.{Going}
+use Rattle.instants_lines.specs.Going.{Going, room}
 use Rattle.instants_lines.specs.Lacking.{lacking_in}
 use Rattle.instants_lines.specs.Program.{AsksFor, writing}
-use Rattle.instants_lines.specs.Showing.{given_of, search_in}
+use Rattle.instants_lines.specs.Showing.{given_of, part_in, search_in}
 use Rattle.instants_lines.proofs.Saying.{asks_so, begun_so, ended_so, same_search, written_so}
 use Rattle.instants_lines.proofs.program.run_words.Goals as goal
 use Rattle.instants_lines.proofs.program.run_words.Goals.{In_ok-dates}
@@ -27,8 +27,12 @@ asked_for g c =
 searched : (g : _) (c : In_ok-dates g)
     → search_in c.in_ok-dates.dates (given_of c.known_by-known.result c.in-Ok.zone) ≡ (begins_by (asking_of c.in_ok-asked.asked) c.args.zone (setting_of c.in_ok-timeline.timeline) c.in_ok-timeline.limit).search
 searched g c =
-    same_search (asking_of c.in_ok-asked.asked) c.args.zone (setting_of c.in_ok-timeline.timeline) c.in_ok-timeline.limit c.in_ok-dates.dates (given_of c.known_by-known.result c.in-Ok.zone) c.in_ok-dates.ensures.setting c.in_ok-dates.ensures.limit
+    same_search (asking_of c.in_ok-asked.asked) c.args.zone (setting_of c.in_ok-timeline.timeline) c.in_ok-timeline.limit c.in_ok-dates.dates (given_of c.known_by-known.result c.in-Ok.zone) c.in_ok-dates.ensures.setting c.in_ok-dates.ensures.part c.in_ok-dates.ensures.limit
     (ap (given_of c.known_by-known.result) c.in-Ok.ensures.there.0 ∙ c.known_by-known.ensures (setting_of c.in_ok-timeline.timeline) c.args.zone (sym c.assumed.ensures))
+
+-- for how long lines there is room
+room_is : (g : _) (c : In_ok-dates g) → (most : ℕ) → most ≡ room (part_in c.in_ok-dates.dates) c.in_ok-timeline.limit → most ≡ room (asking_of c.in_ok-asked.asked).part c.in_ok-timeline.limit
+room_is g c most is = is ∙ ap (λ part. room part c.in_ok-timeline.limit) c.in_ok-dates.ensures.part
 
 pub returns-in-Some-clause-lacks : goal.returns-in-Some-clause-lacks
 returns-in-Some-clause-lacks g c = λ lacking e.
@@ -47,7 +51,7 @@ returns-in_err-run_program-clause-ran g c =
       _,
       asked,
       written_so (asking_of c.in_ok-asked.asked) c.args.zone (setting_of c.in_ok-timeline.timeline) c.in_ok-timeline.limit
-          (λ w. RanAndFlushed w g.R.ByteReader c.args.reader.now c.run_program.new.reader g.W.ByteWriter c.args.writer.now c.run_program.new.writer ended) _ (searched g at) ran,
+          (λ w. RanAndFlushed w g.R.ByteReader c.args.reader.now c.run_program.new.reader g.W.ByteWriter c.args.writer.now c.run_program.new.writer ended) _ _ (searched g at) (room_is g at _ c.room-most.ensures.room) ran,
     )) _ c.in_err-run_program.ensures.ran)
 
 pub returns-in_err-run_program-clause-handed_on : goal.returns-in_err-run_program-clause-handed_on
@@ -70,7 +74,7 @@ returns-clause-ran g c =
       _,
       asked_for g at,
       written_so (asking_of c.in_ok-asked.asked) c.args.zone (setting_of c.in_ok-timeline.timeline) c.in_ok-timeline.limit
-          (λ w. IsThrough w g.R.ByteReader c.args.reader.now c.run_program.new.reader g.W.ByteWriter c.args.writer.now c.run_program.new.writer) _ (searched g at) c.in_ok-run_program.ensures.ran,
+          (λ w. IsThrough w g.R.ByteReader c.args.reader.now c.run_program.new.reader g.W.ByteWriter c.args.writer.now c.run_program.new.writer) _ _ (searched g at) (room_is g at _ c.room-most.ensures.room) c.in_ok-run_program.ensures.ran,
     )
 
 pub returns-clause-names : goal.returns-clause-names
