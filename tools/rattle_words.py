@@ -366,9 +366,11 @@ class Reached:
             except Lost as fault:
                 self.lose("a word of a pattern", file, name, fault)
         if "do" in words:
-            words |= {it for it in (">>=", ">>") if it in scope.operators}
-            if ">>=" not in scope.operators:
-                self.lose("do", file, name, "no ◌>>=◌ is brought in")
+            # (a `do` that binds no name needs the second one alone)
+            steps = {it for it in (">>=", ">>") if it in scope.operators}
+            words |= steps
+            if not steps:
+                self.lose("do", file, name, "no ◌>>=◌ and no ◌>>◌ is brought in")
         for word in sorted(words):
             try:
                 for part in scope.parts(word, bound):

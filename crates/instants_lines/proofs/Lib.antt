@@ -1,6 +1,6 @@
 pub mod Turns
 pub mod Outside
-pub mod Parts
+pub mod Escapes
 mod Beside
 pub mod Digits
 pub mod Explaining

@@ -44,7 +44,7 @@ pub(crate) fn place_of_part(part: &LinePart<'_>, line: &[u8]) -> Option<Member>
 }
 
 /// Whether a date is in doubt in the text of a part, since an escape begins in it or near behind it.
-#[tactic(auto, using(crate::proofs::Parts::escape_within))]
+#[tactic(auto, using(crate::proofs::Escapes::escape_within))]
 pub(crate) fn has_escape(part: &LinePart<'_>, text: &[u8], date: &Found) -> bool
     requires start { date.now.start ≤ length text.now }
     requires end { date.now.end ≤ length text.now }
