@@ -69,6 +69,11 @@ record Decides (search : Search) (prefix line : List ℕ) : Type 0 where
   where_found : located search prefix ≡ located search line
   ends : EndsIn prefix (date_in search prefix)
 
+-- what is the same of whole lines
+by_none : {A : Type 0} (part : Option PartSaid) → part ≡ None → (f g : Option PartSaid → A) → f None ≡ g None → f part ≡ g part
+by_none None none f g same = same
+by_none (Some part) none f g same = absurd cc
+
 -- those that are looked at, of a whole line
 whole_decides : (search : Search) (line : List ℕ) → search.part ≡ None → search.limit + 256 + 64 < length line → Decides search (take (search.limit + 256 + 64 + 1) line) line
 unfolding located
@@ -77,10 +82,11 @@ whole_decides search line none longer =
     let prefix : List ℕ = take (many + 1) line in
     let same : looked_at search.limit prefix ≡ looked_at search.limit line = take-take many (many + 1) line (omega arith) in
     record {
-      date = subst (λ (part : Option PartSaid). date_by search prefix part ≡ date_by search line part) (sym none) (same_found search prefix line same);
-      where_found = subst (λ (part : Option PartSaid). located_by search prefix part ≡ located_by search line part) (sym none) (same_text_found search prefix line same);
+      date = by_none search.part none (date_by search prefix) (date_by search line) (same_found search prefix line same);
+      where_found = by_none search.part none (located_by search prefix) (located_by search line) (same_text_found search prefix line same);
       ends = λ date e.
-          let near = found_near search.limit search.given search.setting.sources prefix date (subst (λ (part : Option PartSaid). date_by search prefix part ≡ Some (There date)) none e) in
+          let there : found_by search prefix ≡ Some (There date) = ap (date_by search prefix) (sym none) ∙ e in
+          let near = found_near search.limit search.given search.setting.sources prefix date there in
           let long = length-take-le (many + 1) line (omega (arith, longer)) in
           (omega (arith, near.0, long), omega (arith, near.1, long));
     }
@@ -150,7 +156,8 @@ module _ (going : Going) (line : List ℕ) (whole : is_explain going.mode ≡ fa
   same_depth : depth prefix ≡ depth line
   unfolding depth
   same_depth =
-      ap (λ (bytes : List ℕ). (length (margin bytes) + 7 * count_by (λ byte. byte == tab) (margin bytes)) / 2) (take-take 256 (many + 1) line (omega (arith, near_enough going.mode going.search whole)))
+      let enough : 256 ≤ many + 1 = omega (arith, near_enough going.mode going.search whole) in
+      ap (λ (bytes : List ℕ). (length (margin bytes) + 7 * count_by (λ byte. byte == tab) (margin bytes)) / 2) (take-take 256 (many + 1) line enough)
 
   same_finding : finding_in going prefix ≡ finding_in going line
   same_finding = rw (same_depth, decides.date) refl

@@ -13,4 +13,4 @@ going_of writer = record { mode = writer.mode; search = search_in writer.dates.n
 -- what is written as words ask, where there is room for lines of so many bytes
 abbrev pub writing_for : LinesAsked → ℕ → Writing
 writing_for lines most =
-    by_steps lines_steps (beginning lines.asked.mode (option_map (λ text. text.now) lines.asked.label) (search_in lines.dates (given_of lines.known lines.zone))) (reach lines.asked.mode (part_in lines.dates) most)
+    by_steps lines_steps (beginning lines.mode (option_map (λ text. text.now) lines.label) (search_in lines.dates (given_of lines.known lines.zone))) (reach lines.mode (part_in lines.dates) most)

@@ -37,7 +37,8 @@ use zones_clock::Zone;
 // What writes for the lines of a stream as words ask.
 #[derive(Drop)]
 struct LinesAsked<'a, 'b, 'z> {
-    asked: Asked<'a>,
+    mode: Mode,
+    label: Option<&'a str>,
     known: Known,
     zone: Option<&'z Zone>,
     dates: DateSources<'b>,
@@ -74,8 +75,8 @@ impl RunsLines for LinesAsked<'_, '_, '_> {
         reader: &mut R,
         writer: &mut W,
     ) -> Result<(), RunFault> {
-        let mode = self.asked.mode;
-        let mut lines = LineWriter::new(mode, self.asked.label, &self.dates, self.known, self.zone);
+        let (mode, label) = (self.mode, self.label);
+        let mut lines = LineWriter::new(mode, label, &self.dates, self.known, self.zone);
         let near = reach(mode, &self.dates.part, limit);
         write_lines(&mut lines, near, buffer, reader, writer)
     }
@@ -208,7 +209,8 @@ pub fn run_words<'a, R: ByteReader, W: ByteWriter>(
     let dates = DateSources::of_timeline(alloc, timeline, limit, asked.part)?;
     let most = room(&dates.part, limit);
     let lines = LinesAsked {
-        asked,
+        mode: asked.mode,
+        label: asked.label,
         known,
         zone,
         dates,

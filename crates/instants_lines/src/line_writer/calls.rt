@@ -436,9 +436,10 @@ impl<'a, 'b> LineWriter<'a, 'b> {
             (located (going_of self.old).search line.now) }
         ensures next { OnOk result (going_of self.new ≡ below (going_of self.old) line.now) }
     {
-        match self.dates.part {
+        let dates = self.dates;
+        match &dates.part {
             None => self.write_located_line(line, writer),
-            Some(part) => self.write_located_part(&part, line, writer),
+            Some(part) => self.write_located_part(part, line, writer),
         }
     }
 }
