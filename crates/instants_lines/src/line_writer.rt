@@ -14,9 +14,9 @@ use zones_clock::Zone;
 /// Writes lines in a mode, by their dates. It keeps the key that a line without a date takes,
 /// the year of the last date where one is given, and how deep the last line with a date begins.
 #[derive(Drop)]
-pub(crate) struct LineWriter<'a, 'b> {
+pub(crate) struct LineWriter<'a, 'b, 'p> {
     mode: Mode,
-    dates: &'a DateSources<'b>,
+    dates: &'a DateSources<'b, 'p>,
     known: Known,
     zone: Option<&'a Zone>,
     label: Option<&'a str>,

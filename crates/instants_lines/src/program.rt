@@ -36,15 +36,15 @@ use zones_clock::Zone;
 
 // What writes for the lines of a stream as words ask.
 #[derive(Drop)]
-struct LinesAsked<'a, 'b, 'z> {
+struct LinesAsked<'a, 'b, 'p, 'z> {
     mode: Mode,
     label: Option<&'a str>,
     known: Known,
     zone: Option<&'z Zone>,
-    dates: DateSources<'b>,
+    dates: DateSources<'b, 'p>,
 }
 
-impl LinesAsked<'_, '_, '_> {
+impl LinesAsked<'_, '_, '_, '_> {
     // The first source that can name no moment.
     fn lacking(&self) -> Option<Lacking>
         ensures { result ≡ lacking_in (search_in self.now.dates (given_of self.now.known self.now.zone)) }
@@ -54,14 +54,14 @@ impl LinesAsked<'_, '_, '_> {
 }
 
 // The first source that can name no moment.
-fn lacking_by(dates: &DateSources<'_>, known: Known, zone: Option<&Zone>) -> Option<Lacking>
+fn lacking_by(dates: &DateSources<'_, '_>, known: Known, zone: Option<&Zone>) -> Option<Lacking>
     ensures { result ≡ lacking_in (search_in dates.now (given_of known zone.entry)) }
 {
     let given = known.on(zone);
     first_lacking(dates.finder.sources(), 1, &given)
 }
 
-impl RunsLines for LinesAsked<'_, '_, '_> {
+impl RunsLines for LinesAsked<'_, '_, '_, '_> {
     ghost use Rattle.instants_lines.specs.Writing.{writing_for};
 
     ghost writing = { λ lines limit. writing_for lines limit };
@@ -77,7 +77,7 @@ impl RunsLines for LinesAsked<'_, '_, '_> {
     ) -> Result<(), RunFault> {
         let (mode, label) = (self.mode, self.label);
         let mut lines = LineWriter::new(mode, label, &self.dates, self.known, self.zone);
-        let near = reach(mode, &self.dates.part, limit);
+        let near = reach(mode, self.dates.part, limit);
         write_lines(&mut lines, near, buffer, reader, writer)
     }
 }
@@ -206,8 +206,8 @@ pub fn run_words<'a, R: ByteReader, W: ByteWriter>(
     };
     let (timeline, limit) = asked_timeline(alloc, filled.as_slice())?;
     let known = known_by(&asked, timeline.assumed());
-    let dates = DateSources::of_timeline(alloc, timeline, limit, asked.part)?;
-    let most = room(&dates.part, limit);
+    let dates = DateSources::of_timeline(alloc, timeline, limit, &asked.part)?;
+    let most = room(dates.part, limit);
     let lines = LinesAsked {
         mode: asked.mode,
         label: asked.label,

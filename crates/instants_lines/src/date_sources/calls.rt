@@ -22,18 +22,18 @@ use instants_sources::Named;
 use instants_timeline::{Timeline, answer_moment};
 use std::alloc::{AllocError, Global};
 
-impl<'a> DateSources<'a> {
+impl<'a, 'p> DateSources<'a, 'p> {
     /// Looks for the sources of a timeline, in order, at so many first places of a line or of a part of it, and shows moments as it
     /// does.
     pub(crate) fn of_timeline(
         alloc: Global,
         timeline: Timeline<'a>,
         limit: usize,
-        part: Option<LinePart<'a>>,
-    ) -> Result<DateSources<'a>, AllocError>
+        part: &'p Option<LinePart<'a>>,
+    ) -> Result<DateSources<'a, 'p>, AllocError>
         ensures setting { IfOk result (λ dates. setting_in dates ≡ setting_of timeline.entry) }
         ensures limit { IfOk result (λ dates. limit_in dates ≡ limit) }
-        ensures part { IfOk result (λ dates. part_in dates ≡ option_map part_of part.entry) }
+        ensures part { IfOk result (λ dates. part_in dates ≡ option_map part_of part.now) }
     {
         let (target, assumed) = (timeline.target(), timeline.assumed());
         let finder = Finder::new(alloc, timeline.into_sources(), limit)?;
@@ -93,7 +93,7 @@ impl<'a> DateSources<'a> {
         ensures within { IfSome result
             (LiesIn (length line.now) (length (setting_in self.now).sources)) }
     {
-        match &self.part {
+        match self.part {
             None => self.finder.find(given, line),
             Some(part) => self.find_in_part(given, part, line),
         }

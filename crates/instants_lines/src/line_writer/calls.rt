@@ -29,15 +29,15 @@ use instants_stream::{ByteWriter, DeviceFailed};
 use instants_timeline::shown_at;
 use zones_clock::Zone;
 
-impl<'a, 'b> LineWriter<'a, 'b> {
+impl<'a, 'b, 'p> LineWriter<'a, 'b, 'p> {
     /// At the beginning a line without a date takes `! none`.
     pub(crate) fn new(
         mode: Mode,
         label: Option<&'a str>,
-        dates: &'a DateSources<'b>,
+        dates: &'a DateSources<'b, 'p>,
         known: Known,
         zone: Option<&'a Zone>,
-    ) -> LineWriter<'a, 'b>
+    ) -> LineWriter<'a, 'b, 'p>
         ensures { going_of result ≡ beginning mode (option_map (λ text. text.now) label.entry)
             (search_in dates.now (given_of known zone.entry)) }
     {
@@ -437,7 +437,7 @@ impl<'a, 'b> LineWriter<'a, 'b> {
         ensures next { OnOk result (going_of self.new ≡ below (going_of self.old) line.now) }
     {
         let dates = self.dates;
-        match &dates.part {
+        match dates.part {
             None => self.write_located_line(line, writer),
             Some(part) => self.write_located_part(part, line, writer),
         }
