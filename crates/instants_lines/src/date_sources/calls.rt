@@ -7,10 +7,11 @@ ghost use Rattle.instants_lines.specs.Lacking.{first_lacking};
 ghost use Rattle.instants_found.specs.Within.{IsWithin};
 ghost use Rattle.instants_lines.specs.Dates.{date_at, date_in};
 ghost use Rattle.instants_lines.specs.Parts.{LiesIn, found_at, place_of_part};
-ghost use Rattle.instants_lines.specs.Showing.{limit_in, part_in, search_in, setting_in};
+ghost use Rattle.instants_lines.specs.Showing.{given_of, limit_in, part_in, search_in, setting_in};
 ghost use Rattle.instants_lines_words.specs.Part.{part_of};
 
 use crate::date_sources::DateSources;
+use crate::known::Known;
 use crate::lacking::Lacking;
 use crate::line_part::{has_escape, moved, place_of_part};
 use datetime_types::OffsetDateTime;
@@ -21,6 +22,7 @@ use instants_prefixes::{DateSource, Given};
 use instants_sources::Named;
 use instants_timeline::{Timeline, answer_moment};
 use std::alloc::{AllocError, Global};
+use zones_clock::Zone;
 
 impl<'a, 'p> DateSources<'a, 'p> {
     /// Looks for the sources of a timeline, in order, at so many first places of a line or of a part of it, and shows moments as it
@@ -97,6 +99,14 @@ impl<'a, 'p> DateSources<'a, 'p> {
             None => self.finder.find(given, line),
             Some(part) => self.find_in_part(given, part, line),
         }
+    }
+
+    /// The same with what is given on the clock of a zone.
+    pub(crate) fn find_on(&self, known: Known, zone: Option<&Zone>, line: &[u8]) -> Option<Finding>
+        ensures { result ≡ date_in (search_in self.now (given_of known zone.entry)) line.now }
+    {
+        let given = known.on(zone);
+        self.find(&given, line)
     }
 
     // Writes a moment as an answer, in place of what that held. Of most dates the fields are written.

@@ -107,7 +107,7 @@ impl<'a, 'b, 'p> LineWriter<'a, 'b, 'p> {
         if self.goes_on(line) {
             return None;
         }
-        self.dates.find(&self.given(), line)
+        self.dates.find_on(self.known, self.zone, line)
     }
 
     // Keeps the moment of a date, where a year is given.
