@@ -43,6 +43,8 @@ ROWS, DATED = ROOT / "crates" / "rows" / "stdout", "\n## Dated lines\n"
 OF_TRIAL = b"instants-lines: what follows is of a trial"
 NOTES = (b"instants-lines: the program is not built", b"instants-lines: the program that is built is older", OF_TRIAL, b"instants-lines: hint: ")
 WARNING = re.compile(rb"instants-lines: warning: (?:.*? names no component, as|no line has a date that) [^\n]*\n", re.DOTALL)
+# The nearest name of a zone that is not there, which the model does not look for (tools/try_zones.py does).
+NEAREST = re.compile(rb"(?<=zoneinfo); there is [^\n]*")
 PROCESSES, ZONES, PARTS = 2, 0.25, 0.25
 # A list of wrong words costs a run of its own, which takes as long as so many lines.
 LINES_OF_A_LIST, WRONG = 10, 2
@@ -61,7 +63,7 @@ class Difference(Exception):
 def said_by_program(program: str, words: Sequence[str], stream: bytes) -> Answer:
     """Returns the output, the sentence and the status of the program."""
     ran = subprocess.run([program, *words], input=stream, capture_output=True)
-    said = WARNING.sub(b"", ran.stderr).splitlines(keepends=True)
+    said = NEAREST.sub(b"", WARNING.sub(b"", ran.stderr)).splitlines(keepends=True)
     if OF_TRIAL in ran.stderr:
         # (a trial ends an output that has no line feed at its end by one among what is said)
         said = [it for it in said if it != b"\n"]
