@@ -213,8 +213,9 @@ def bounds_told(figures: Figures) -> str:
     longest = max(dear, key=lambda it: dear[it], default="none")
     found = ", ".join(f"`{it}` {dear[it]:.1f}" for it in over)
     return (
-        f"Pace: {figures['pace']['said']} At the pace of {figures['pace']['first']} a run from nothing takes {minutes:.0f} processor minutes, "
-        f"{'within' if minutes <= BOUND else 'over'} the bound of {BOUND}. "
+        f"Pace: {figures['pace']['said']} At the pace of {figures['pace']['first']} a run from nothing takes {minutes:.0f} processor minutes"
+        + (", and more for what is not counted: whether it keeps to" if figures["lacking"] and minutes <= BOUND else f", {'within' if minutes <= BOUND else 'over'}")
+        + f" the bound of {BOUND}{' is not known' if figures['lacking'] and minutes <= BOUND else ''}. "
         + (f"Over the bound of {CRATE_BOUND} minutes are {found}." if over else f"No crate is over {CRATE_BOUND} minutes, the longest is `{longest}` with {dear.get(longest, 0):.1f}.")
     )
 
