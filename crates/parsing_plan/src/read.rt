@@ -309,7 +309,26 @@ impl Places {
 
     /// The fields of a prefix of a line, with an offset assumed or none, which counts only where the line has none, and what stands
     /// after the prefix: `None` says nothing of the line.
+    #[inline(always)]
     pub fn read_prefix<'l>(
+        &self,
+        line: &'l [u8],
+        assumed: Option<UtcOffset>,
+    ) -> Option<(Fields, &'l [u8])>
+        ensures prefix { (m : Meaning) → ArePlacesOf m self.now → IfSome result
+            (λ x. NamesPrefix m (beginning assumed) line.now x.1.now (moment_of x.0)) }
+        ensures end { IfSome result (λ x. EndsWith line.now x.1.now) }
+    {
+        if line.len() < self.plain_length {
+            return self.read_any_prefix(line, assumed);
+        }
+        let fields = self.plain_fields(line)?;
+        Some((fields, from(line, self.plain_length)))
+    }
+
+    // The same for all places.
+    #[inline(never)]
+    fn read_any_prefix<'l>(
         &self,
         line: &'l [u8],
         assumed: Option<UtcOffset>,
