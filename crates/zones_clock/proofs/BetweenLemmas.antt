@@ -11,7 +11,8 @@ use Rattle.zones_clock.specs.declared.zone.Step.{Step}
 use Rattle.zones_clock.specs.declared.zone.Moments.{Moments}
 use Rattle.zones_clock.specs.declared.zone.Moments.TheVariants.{Skipped, One}
 use Rattle.zones_clock.specs.Steps.{InOrder, AreOffsets, IsOffset, no_step, offset_after, step_at}
-use Rattle.zones_clock.specs.Clock.{AllBegun, have_begun, has_next_begun, moment_between, with_moment, IsSure}
+use Rattle.zones_clock.specs.Clock.{with_moment}
+use Rattle.zones_clock.specs.Search.{AllBegun, have_begun, has_next_begun, moment_between, IsSure}
 use Rattle.zones_clock.specs.AllMoments.{all_moments, moments_of, with_moments}
 use Rattle.zones_clock.proofs.ClockLemmas.{all_begun, le-true, le-false, lt-true, lt-false, less-or-not, next-order, offset_after-in}
 

@@ -3,7 +3,7 @@ use Rattle.std.proofs.Common.{◌≡◌, ℕ, zero, suc, ◌+◌, ◌<◌, ◌�
 use Rattle.std.proofs.lemmas.Int.{ints}
 use Rattle.zones_clock.specs.declared.zone.Step.{Step}
 use Rattle.zones_clock.specs.Steps.{InOrder, AreOffsets, IsOffset, offset_at, offset_after, name_place_at, name_place_after, step_at}
-use Rattle.zones_clock.specs.Clock.{AllBegun, IsIn}
+use Rattle.zones_clock.specs.Search.{AllBegun, IsIn}
 
 pub lt-true : (a b : ℤ) → a <ℤ b → int_lt a b ≡ true
 lt-true a b h = grind (arith, ints)

@@ -1,13 +1,12 @@
 -- The abbreviations of a zone, place by place.
-use Rattle.std.proofs.Common.{◌≡◌, ℕ, suc, ◌+◌, ◌-◌, ◌<◌, ◌≤◌, ◌==◌, ◌∙◌, Bool, true, false, cond, not, ◌||◌, List, [], ◌∷◌, ◌++◌, length, get_or, set, drop, nat_eq, inl, inr, ap, subst, refl, arith}
+use Rattle.std.proofs.Common.{◌≡◌, ℕ, suc, ◌+◌, ◌-◌, ◌<◌, ◌≤◌, ◌==◌, ◌∙◌, Bool, true, false, cond, not, ◌||◌, List, [], ◌∷◌, length, get_or, set, drop, nat_eq, ap, subst, refl, arith, add-one, drop-cons}
 use Rattle.std.specs.Prelude.{bytes_eq}
-use Rattle.std.proofs.lemmas.List.{get_or-append_right, get_or-drop, get_or-set_other, get_or_append_left, length-append}
-use Rattle.std.proofs.lemmas.Bool.{cases_lt}
+use Rattle.std.proofs.lemmas.List.{get_or-drop, get_or-set_other}
 use Rattle.std.proofs.lemmas.Grind.{get_or-set_at}
 use Rattle.std.proofs.Math.Bool.{and-false}
 use Rattle.std.proofs.lemmas.List.Sums.{take_while-cons}
-use Rattle.std.proofs.lemmas.List.Folds.{list_any_none}
-use Rattle.zones_clock.specs.Steps.{name_in, is_name, HasBytes}
+use Rattle.std.proofs.lemmas.List.Folds.{list_any_at, list_any_none}
+use Rattle.zones_clock.specs.Steps.{has_byte, name_in, is_name}
 use Rattle.std.specs.List.{All, list_any, range_with_len, take_while}
 use Rattle.std.proofs.lemmas.List.Elements.{All-from_get_or}
 use Rattle.std.proofs.lemmas.List.FromFn.{get_or-range_with_len, length-range_with_len}
@@ -35,36 +34,30 @@ name_other letters word place some other =
     let at : get_or (drop place letters) 0 0 ≡ get_or letters place 0 = get_or-drop place letters 0 0 ∙ ap (λ k. get_or letters k 0) (omega arith) in
     begins_so (drop place letters) word some (rw at other)
 
--- one more letter's byte is marked
-pub marked_more : (marks : List Bool) (letters : List ℕ) (place : ℕ) → get_or letters place 0 < length marks → ((i : ℕ) → i < place → get_or marks (get_or letters i 0) false ≡ true)
-    → (i : ℕ) → i < place + 1 → get_or (set marks (get_or letters place 0) true) (get_or letters i 0) false ≡ true
-marked_more marks letters place within so_far i lt = elim (nat_eq (get_or letters i 0) (get_or letters place 0)) as (λ b. nat_eq (get_or letters i 0) (get_or letters place 0) ≡ b → get_or (set marks (get_or letters place 0) true) (get_or letters i 0) false ≡ true) [
-  | true ↦ λ e. get_or-set_at marks _ _ true false (grind (arith, e)) within
-  | false ↦ λ e. get_or-set_other marks _ _ true false (grind (arith, e)) ∙ so_far i (grind (arith, e, lt))
-] refl
+-- once a letter's byte is marked, the letter itself tells nothing more
+pub marked_more : (marks : List Bool) (letters : List ℕ) (place byte : ℕ) → place < length letters → get_or letters place 0 < length marks
+    → (get_or (set marks (get_or letters place 0) true) byte false || has_byte (drop (place + 1) letters) byte) ≡ (get_or marks byte false || has_byte (drop place letters) byte)
+marked_more marks letters place byte lt within = rw (drop-cons letters place 0 lt, add-one) (elim (nat_eq byte (get_or letters place 0)) as (λ b. nat_eq byte (get_or letters place 0) ≡ b
+    → (get_or (set marks (get_or letters place 0) true) byte false || has_byte (drop (suc place) letters) byte) ≡ (get_or marks byte false || (nat_eq (get_or letters place 0) byte || has_byte (drop (suc place) letters) byte))) [
+      | true ↦ λ e. let at = get_or-set_at marks (get_or letters place 0) byte true false (grind (arith, e)) within in grind (arith, at, e)
+      | false ↦ λ e. let at = get_or-set_other marks (get_or letters place 0) byte true false (grind (arith, e)) in grind (arith, at, e)
+    ] refl)
 
-pub marked_still : (marks : List Bool) (place byte : ℕ) → place < length marks → get_or marks byte false ≡ true → get_or (set marks place true) byte false ≡ true
-marked_still marks place byte within is = elim (nat_eq byte place) as (λ b. nat_eq byte place ≡ b → get_or (set marks place true) byte false ≡ true) [
-  | true ↦ λ e. get_or-set_at marks place byte true false (grind (arith, e)) within
-  | false ↦ λ e. get_or-set_other marks place byte true false (grind (arith, e)) ∙ is
+not_there : (letters : List ℕ) (place byte w : ℕ) → has_byte letters byte ≡ false → w ≡ byte → place < length letters → (get_or letters place 0 == w) ≡ false
+not_there letters place byte w none same lt = elim (get_or letters place 0 == byte) as (λ b. (get_or letters place 0 == byte) ≡ b → (get_or letters place 0 == w) ≡ false) [
+  | true ↦ λ e. let is = list_any_at (λ letter. letter == byte) letters place 0 lt e in absurd cc
+  | false ↦ λ e. rw same e
 ] refl
-
-pub marked_both : (marks : List Bool) (letters others : List ℕ) → HasBytes marks letters → HasBytes marks others → HasBytes marks (letters ++ others)
-marked_both marks letters others one other i lt = elim (cases_lt i (length letters)) [
-  | inl here ↦ rw (get_or_append_left letters others 0 i here) (one i here)
-  | inr past ↦ rw (get_or-append_right letters others (length letters) i 0 refl past) (other (i - length letters) (omega (arith, lt, past, length-append letters others)))
-]
 
 -- no abbreviation begins with a byte that the letters have not
-pub none_begins : (marks : List Bool) (letters word : List ℕ) (first : ℕ) → HasBytes marks letters → get_or marks first false ≡ false → get_or word 0 first ≡ first → is_name letters word ≡ false
+pub none_begins : (letters word : List ℕ) (first : ℕ) → has_byte letters first ≡ false → get_or word 0 first ≡ first → is_name letters word ≡ false
 unfolding is_name
-none_begins marks letters [] first has none begins = refl
-none_begins marks letters (w ∷ word) first has none begins =
+none_begins letters [] first none begins = refl
+none_begins letters (w ∷ word) first none begins =
     let is = λ (place : ℕ). bytes_eq (name_in letters place) (w ∷ word) in
     let each : All (λ place. is place ≡ false) (range_with_len 0 (length letters)) = All-from_get_or (λ place. is place ≡ false) (range_with_len 0 (length letters)) 0 (λ i lt.
     let below : i < length letters = subst (λ n. i < n) (length-range_with_len 0 (length letters)) lt in
-    let marked = has i below in
-    let other : (get_or letters i 0 == w) ≡ false = grind (arith, marked, none, begins) in
+    let other : (get_or letters i 0 == w) ≡ false = not_there letters i first w none begins below in
     let at : get_or (range_with_len 0 (length letters)) i 0 ≡ i = get_or-range_with_len 0 (length letters) i 0 below ∙ omega arith in
     rw at (name_other letters (w ∷ word) i (omega arith) other)) in
     rw (list_any_none is _ each) (and-false _)

@@ -1,10 +1,9 @@
 -- What a clock shows, and the moments that a reading names.
-use Rattle.std.specs.Prelude.{pos, ◌≡◌, ℕ, zero, suc, ◌<◌, nat_lt, Bool, true, ◌&&◌, not, ℤ, ◌<ℤ◌, ◌≤ℤ◌, int_le, ◌+ℤ◌, ◌-ℤ◌, length, List, [], ◌∷◌, ◌⊎◌}
-use Rattle.std.specs.List.{filter}
+use Rattle.std.specs.Prelude.{◌≡◌, ℤ, ◌<ℤ◌, ◌+ℤ◌, List, ◌⊎◌}
 use Rattle.zones_clock.specs.declared.zone.Step.{Step}
 use Rattle.zones_clock.specs.declared.zone.Moments.{Moments}
 use Rattle.zones_clock.specs.declared.zone.Moments.TheVariants.{Skipped, One, Repeated, Several}
-use Rattle.zones_clock.specs.Steps.{offset_at, offset_after, step_at}
+use Rattle.zones_clock.specs.Steps.{offset_at}
 
 -- at this moment the clock shows this reading
 pub record Shows (first : ℤ) (steps : List Step) (reading moment : ℤ) : Type 0 where
@@ -17,35 +16,9 @@ AreTheMoments first steps reading (One m) = Shows first steps reading m × ((mom
 AreTheMoments first steps reading (Repeated m n) = (Shows first steps reading m × Shows first steps reading n × (m <ℤ n)) × ((moment : ℤ) → Shows first steps reading moment → (moment ≡ m) ⊎ (moment ≡ n))
 AreTheMoments first steps reading (Several m n o) = Shows first steps reading m × Shows first steps reading n × Shows first steps reading o × (m <ℤ n) × (n <ℤ o)
 
--- so many steps have begun at a moment
-abbrev pub AllBegun : List Step → ℕ → ℤ → Type 0
-AllBegun steps count moment = (i : ℕ) → i < count → (step_at steps i).from ≤ℤ moment
-
--- so many steps have begun at a moment, and the next has not
-abbrev pub IsIn : List Step → ℕ → ℤ → Type 0
-IsIn steps count moment = AllBegun steps count moment × (count < length steps → moment <ℤ (step_at steps count).from)
-
 -- with a later moment added
 abbrev pub with_moment : Moments → ℤ → Moments
 with_moment Skipped moment = One moment
 with_moment (One m) moment = Repeated m moment
 with_moment (Repeated m n) moment = Several m n moment
 with_moment (Several m n o) moment = Several m n o
-
--- the last of so many steps, if there is one, has begun at a moment
-abbrev pub have_begun : List Step → ℕ → ℤ → Bool
-have_begun steps zero moment = true
-have_begun steps (suc count) moment = int_le (step_at steps count).from moment
-
--- there is a step after so many, and it has begun at a moment
-abbrev pub has_next_begun : List Step → ℕ → ℤ → Bool
-has_next_begun steps count moment = nat_lt count (length steps) && int_le (step_at steps count).from moment
-
--- the moment at which a clock with the offset after so many steps shows a reading, if it lies after them and before the next
-abbrev pub moment_between : ℤ → List Step → ℤ → ℕ → List ℤ
-moment_between first steps reading count = filter (λ m. have_begun steps count m && not (has_next_begun steps count m)) ((reading -ℤ offset_after first steps count) ∷ [])
-
--- all moments that can show a reading lie after so many steps, and before the next
-pub record IsSure (steps : List Step) (count : ℕ) (reading : ℤ) : Type 0 where
-  pub begun : AllBegun steps count (reading -ℤ pos 93_600)
-  pub next : count < length steps → (reading +ℤ pos 93_600) <ℤ (step_at steps count).from

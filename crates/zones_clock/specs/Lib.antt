@@ -1,3 +1,4 @@
 pub mod Steps
 pub mod Clock
 pub mod AllMoments
+pub mod Search

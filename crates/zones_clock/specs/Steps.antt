@@ -1,5 +1,5 @@
 -- A clock whose distance from UTC changes in steps.
-use Rattle.std.specs.Prelude.{◌≡◌, ℕ, zero, suc, ◌<◌, ◌+◌, ◌&&◌, Bool, true, false, ℤ, pos, negsuc, ◌<ℤ◌, int_lt, nat_le, get_or, length, List, [], ◌∷◌, if◌then◌else◌, drop, not, ◌==◌, bytes_eq}
+use Rattle.std.specs.Prelude.{◌≡◌, ℕ, zero, suc, ◌<◌, ◌+◌, ◌&&◌, ◌||◌, Bool, false, ℤ, pos, negsuc, ◌<ℤ◌, int_lt, nat_le, get_or, length, List, [], ◌∷◌, if◌then◌else◌, drop, not, ◌==◌, bytes_eq}
 use Rattle.std.specs.List.{list_any, range_with_len, take_while}
 use Rattle.zones_clock.specs.declared.zone.Step.{Step}
 
@@ -57,9 +57,14 @@ name_in letters place = take_while (λ byte. not (byte == 0)) (drop place letter
 unfoldable pub is_name : List ℕ → List ℕ → Bool
 is_name letters word = nat_le 3 (length word) && list_any (λ place. bytes_eq (name_in letters place) word) (range_with_len 0 (length letters))
 
--- each byte of letters is marked at its number
-abbrev pub HasBytes : List Bool → List ℕ → Type 0
-HasBytes marks letters = (i : ℕ) → i < length letters → get_or marks (get_or letters i 0) false ≡ true
+-- letters have a byte
+abbrev pub has_byte : List ℕ → ℕ → Bool
+has_byte letters byte = list_any (λ letter. letter == byte) letters
 
-abbrev pub KeepsMarks : List Bool → List Bool → Type 0
-KeepsMarks old new = (byte : ℕ) → get_or old byte false ≡ true → get_or new byte false ≡ true
+-- just the bytes that letters have are marked, each at its number
+abbrev pub HasBytes : List Bool → List ℕ → Type 0
+HasBytes marks letters = (byte : ℕ) → get_or marks byte false ≡ has_byte letters byte
+
+-- the bytes of letters are marked beside those that were
+abbrev pub AreMarked : List Bool → List ℕ → List Bool → Type 0
+AreMarked old letters new = (byte : ℕ) → get_or new byte false ≡ (get_or old byte false || has_byte letters byte)

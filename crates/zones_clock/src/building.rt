@@ -50,10 +50,10 @@ impl Zone {
         ensures first_name { self.new.first_name ≡ self.old.first_name }
         ensures steps { self.new.steps.items ≡ self.old.steps.items }
     {
-        mark_bytes(&mut self.bytes, name);
-        mark_bytes(&mut self.bytes, b"\0");
         self.letters.extend_from_slice(name)?;
+        mark_bytes(&mut self.bytes, name);
         self.letters.push(0)?;
+        mark_bytes(&mut self.bytes, b"\0");
         Ok(())
     }
 }

@@ -1,8 +1,9 @@
 //! The moments at which a zone's clock shows a reading.
 ghost use Rattle.std.specs.Prelude.{◌≡◌, ℕ, ◌+◌, ◌<◌, ◌≤◌, vec_len, int_le, ◌-ℤ◌};
 ghost use Rattle.zones_clock.specs.Steps.{offset_at, offset_after, step_at, IsOffset, IsReading};
-ghost use Rattle.zones_clock.specs.Clock.{IsIn, have_begun, has_next_begun, moment_between, with_moment};
+ghost use Rattle.zones_clock.specs.Clock.{AreTheMoments, with_moment};
 ghost use Rattle.zones_clock.specs.AllMoments.{moments_of, with_moments};
+ghost use Rattle.zones_clock.specs.Search.{IsIn, have_begun, has_next_begun, moment_between};
 
 use crate::zone::{Moments, OFFSET_BOUND, Zone};
 
@@ -115,7 +116,8 @@ impl Zone {
     /// The moments at which the clock shows a reading, given in seconds since the clock showed 1970-01-01T00:00:00.
     pub fn moments(&self, reading: i64) -> Moments
         requires { IsReading reading }
-        ensures { result ≡ moments_of self.now.first self.now.steps.items reading }
+        ensures relation { AreTheMoments self.now.first self.now.steps.items reading result }
+        ensures function { result ≡ moments_of self.now.first self.now.steps.items reading }
     {
         let earliest = reading - OFFSET_BOUND;
         let latest = reading + OFFSET_BOUND;

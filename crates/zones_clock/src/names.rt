@@ -1,7 +1,7 @@
 //! The abbreviations that a zone's clock has, as `CET` and `CEST`.
 ghost use Rattle.std.specs.Prelude.{◌≡◌, ◌≤◌, ◌<◌, ◌==◌, ℕ, List, false, not, bytes_eq, drop, get_or, length, vec_len};
 ghost use Rattle.std.specs.List.{list_any, range_with_len, take_while};
-ghost use Rattle.zones_clock.specs.Steps.{HasBytes, KeepsMarks, is_name, name_place_at, name_place_after, name_in};
+ghost use Rattle.zones_clock.specs.Steps.{AreMarked, has_byte, is_name, name_place_at, name_place_after, name_in};
 
 use crate::zone::Zone;
 
@@ -47,10 +47,9 @@ fn is_name_in(letters: &[u8], word: &[u8]) -> bool
 }
 
 /// Marks the bytes that letters have, each at its number.
-#[tactic(auto, using(crate::proofs::NameLemmas::marked_more, crate::proofs::NameLemmas::marked_still))]
+#[tactic(auto, using(crate::proofs::NameLemmas::marked_more))]
 pub(crate) fn mark_bytes(bytes: &mut [bool; 256], letters: &[u8])
-    ensures marked { HasBytes bytes.new letters.now }
-    ensures kept { KeepsMarks bytes.old bytes.new }
+    ensures { AreMarked bytes.old letters.now bytes.new }
 {
     for letter in letters {
         bytes[usize::from(*letter)] = true;
@@ -80,10 +79,13 @@ impl Zone {
         name_in(&self.letters, usize::from(place))
     }
 
-    /// Whether an abbreviation of the zone can begin with a byte: `false` settles `is_name` before a word is cut.
+    /// Whether the letters have a byte: where they have not, no abbreviation begins with it, which settles `is_name` before a
+    /// word is cut.
     #[inline(always)]
+    #[tactic(auto, using(crate::proofs::NameLemmas::none_begins))]
     pub fn can_begin(&self, first: u8) -> bool
-        ensures { result ≡ false → (word : List ℕ) → get_or word 0 first ≡ first → is_name self.now.letters.items word ≡ false }
+        ensures exact { result ≡ has_byte self.now.letters.items first }
+        ensures none { result ≡ false → (word : List ℕ) → get_or word 0 first ≡ first → is_name self.now.letters.items word ≡ false }
     {
         self.bytes[usize::from(first)]
     }

@@ -3,7 +3,7 @@ ghost use Rattle.std.specs.Prelude.{vec_len, ◌≡◌, ◌≤◌, ◌-ℤ◌, t
 ghost use Rattle.zones_clock.specs.Steps.{IsOffset, IsReading};
 ghost use Rattle.zones_clock.specs.AllMoments.{moments_of};
 ghost use Rattle.zones_clock.specs.declared.zone.Moments.TheVariants.{One};
-ghost use Rattle.zones_clock.specs.Clock.{IsSure};
+ghost use Rattle.zones_clock.specs.Search.{IsSure};
 
 use crate::zone::{OFFSET_BOUND, Zone};
 

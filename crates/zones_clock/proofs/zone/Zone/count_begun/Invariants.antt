@@ -1,6 +1,6 @@
 use Rattle.std.proofs.Common.{◌-◌, ◌≤◌, ◌<◌, ◌<ℤ◌, vec_len, length}
 use Rattle.zones_clock.specs.Steps.{step_at}
-use Rattle.zones_clock.specs.Clock.{AllBegun}
+use Rattle.zones_clock.specs.Search.{AllBegun}
 use Rattle.zones_clock.proofs.zone.Zone.count_begun.Given as goal
 
 abbrev pub invariant-loop-low : goal.invariant-loop-low
