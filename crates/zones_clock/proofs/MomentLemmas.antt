@@ -7,7 +7,7 @@ use Rattle.zones_clock.specs.declared.zone.Moments.TheVariants.{Skipped, Several
 use Rattle.zones_clock.specs.Steps.{offset_at}
 use Rattle.zones_clock.specs.Clock.{AreTheMoments, Shows}
 use Rattle.zones_clock.specs.AllMoments.{all_moments, moments_of, with_moments, ListsInOrder}
-use Rattle.zones_clock.proofs.ClockLemmas.{less-or-not, le-true, le-false, lt-true, lt-false, lt-le, difference}
+use Rattle.zones_clock.proofs.ClockLemmas.{less-or-not, le-true, le-false, lt-true, lt-false}
 
 -- what is true of the same moments is listed by the same list
 same-listed : (P Q : ℤ → Type 0) (ms : List ℤ) → ((t : ℤ) → P t → Q t) → ((t : ℤ) → Q t → P t) → ListsInOrder P ms → ListsInOrder Q ms
@@ -22,7 +22,7 @@ from-listed P from (m ∷ ms) h =
     let kept : List ℤ = filter (λ m. int_le from m) ms in
     let later : ListsInOrder After kept = from-listed (λ t. P t × (m <ℤ t)) from ms h.2 in
     elim (less-or-not m from) [
-      | inl below ↦ rw (le-false from m below) (same-listed After (λ t. P t × (from ≤ℤ t)) kept (λ t x. (x.0.0, x.1)) (λ t x. ((x.0, lt-le m from t below x.1), x.1)) later)
+      | inl below ↦ rw (le-false from m below) (same-listed After (λ t. P t × (from ≤ℤ t)) kept (λ t x. (x.0.0, x.1)) (λ t x. ((x.0, omega (arith, ints, below, x.1)), x.1)) later)
       | inr past ↦ rw (le-true from m past) ((h.0, past), λ t x. h.1 t x.0, same-listed After (λ t. (P t × (from ≤ℤ t)) × (m <ℤ t)) kept (λ t x. ((x.0.0, x.1), x.0.1)) (λ t x. ((x.0.0, x.1), x.0.1)) later)
     ]
 
@@ -40,7 +40,7 @@ unfolding offset_at
 parts-of first s ss reading t h =
     let by : Bool → Type 0 = λ b. t +ℤ (if b then first else offset_at s.offset ss t) ≡ reading in
     elim (less-or-not t s.from) [
-      | inl below ↦ inl (below, difference t first reading (subst by (lt-true t s.from below) h.shown))
+      | inl below ↦ inl (below, let e = subst by (lt-true t s.from below) h.shown in omega (arith, ints, e))
       | inr past ↦ inr (record { shown = subst by (lt-false t s.from past) h.shown }, past)
     ]
 
@@ -57,7 +57,7 @@ moments_listed first (s ∷ ss) reading =
       | inl below ↦ rw (lt-true m s.from below) (
         inl (below, refl),
         λ t x. elim x [ inl y ↦ omega (arith, ints, y.1) | inr y ↦ omega (arith, ints, y.1) ],
-        same-listed Later (λ t. Parts first s ss reading t × (m <ℤ t)) rest (λ t x. (inr x, lt-le m s.from t below x.1)) (λ t x. elim (x.0) [ inl y ↦ absurd (omega (arith, ints, y.1, x.1)) | inr y ↦ y ]) later,
+        same-listed Later (λ t. Parts first s ss reading t × (m <ℤ t)) rest (λ t x. (inr x, omega (arith, ints, below, x.1))) (λ t x. elim (x.0) [ inl y ↦ absurd (omega (arith, ints, y.1, x.1)) | inr y ↦ y ]) later,
       )
       | inr past ↦ rw (lt-false m s.from past) (same-listed Later (Parts first s ss reading) rest (λ t x. inr x) (λ t x. elim x [ inl y ↦ absurd (omega (arith, ints, y.0, y.1)) | inr y ↦ y ]) later)
     ])
