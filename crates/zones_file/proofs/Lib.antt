@@ -1,2 +1,1 @@
 pub mod TableLemmas
-pub mod OrderLemmas

@@ -1,13 +1,12 @@
 -- What is wrong with a file: the first of the faults that it has, in the order in which a reader comes to them.
-use Rattle.std.specs.Prelude.{◌≡◌, ◌⊎◌, ℤ, pos, negsuc, int_lt, int_le, Result, MatchResult, ℕ, zero, suc, ◌+◌, ◌-◌, ◌==◌, ◌&&◌, ◌||◌, not, nat_lt, nat_le, Bool, true, false, List, [], ◌∷◌, length, slice_index, Option, Some, None}
+use Rattle.std.specs.Prelude.{◌≡◌, ◌⊎◌, ℤ, pos, negsuc, int_lt, Result, MatchResult, ℕ, ◌+◌, ◌-◌, ◌==◌, ◌&&◌, ◌||◌, not, nat_lt, nat_le, Bool, true, false, List, [], ◌∷◌, length, map, slice_index, Option, Some, None}
+use Rattle.std.specs.List.{range_with_len}
 use Rattle.std.specs.Option.{option_or, is_none}
 use Rattle.std.specs.Ordering.{int_eq}
 use Rattle.zones_clock.specs.declared.zone.Step.{Step}
 use Rattle.zones_rule.specs.declared.rule.Rule.{Rule}
-use Rattle.zones_rule.specs.declared.rule.Summer.{Summer}
 use Rattle.zones_rule.specs.Grammar.{rule_of}
-use Rattle.zones_rule.specs.Years.{transitions_in}
-use Rattle.zones_rule.specs.Transitions.{offset_by_rule}
+use Rattle.zones_rule.specs.Transitions.{is_in_order, offset_by_rule}
 use Rattle.zones_file.specs.declared.fault.ZoneFault.{ZoneFault}
 use Rattle.zones_file.specs.declared.fault.ZoneFault.TheVariants.{Long, Header, Version, Length, LeapSeconds, UnknownType, Offset, Order, Footer, Crossing, Disagrees, Memory}
 use Rattle.zones_file.specs.declared.layout.Layout.{Layout}
@@ -82,25 +81,18 @@ is_after bytes layout index = (index == 0) || int_lt (time_in bytes layout (inde
 unfoldable pub step_fault : List ℕ → Layout → ℕ → Option ZoneFault
 step_fault bytes layout index = first_of (type_fault bytes layout (slice_index bytes (layout.indexes + index)) ∷ when (not (is_after bytes layout index)) Order ∷ [])
 
--- of the first type, and of the first so many transitions
-unfoldable pub table_fault : List ℕ → Layout → ℕ → Option ZoneFault
-table_fault bytes layout zero = type_fault bytes layout 0
-table_fault bytes layout (suc count) = first_of (table_fault bytes layout count ∷ step_fault bytes layout count ∷ [])
+-- of so many transitions from one on, and of a table: of its first type and its transitions
+abbrev pub steps_fault : List ℕ → Layout → ℕ → ℕ → Option ZoneFault
+steps_fault bytes layout from count = first_of (map (step_fault bytes layout) (range_with_len from count))
+
+unfoldable pub table_fault : List ℕ → Layout → Option ZoneFault
+table_fault bytes layout = option_or (type_fault bytes layout 0) (steps_fault bytes layout 0 layout.step_count)
 
 -- there is no footer, or a text in it that is no rule (section 3.3)
 abbrev pub text_fault : Option (List ℕ) → Option ZoneFault
 text_fault None = Some Footer
 text_fault (Some []) = None
 text_fault (Some (byte ∷ text)) = when (is_none (rule_of (byte ∷ text))) Footer
-
--- the transitions of no year come before those of the year before it, of so many years
-unfoldable pub years_in_order : ℤ → Summer → ℕ → Bool
-years_in_order standard summer zero = true
-years_in_order standard summer (suc count) = years_in_order standard summer count && int_le (transitions_in standard summer (count + 1)).1.at (transitions_in standard summer (count + 1 + 1)).0.at
-
-abbrev pub is_in_order : ℤ → Option Summer → Bool
-is_in_order standard None = true
-is_in_order standard (Some summer) = years_in_order standard summer 9_999
 
 -- a rule's years cross, or by it the clock has another offset at a moment (section 3.3)
 unfoldable pub rule_fault : Rule → ℤ → ℤ → Option ZoneFault
@@ -114,7 +106,7 @@ footer_fault first steps (Some (rule, standard, summer)) = rule_fault rule (last
 unfoldable pub fault_of : List ℕ → Option ZoneFault
 fault_of bytes = first_of (
     layout_fault bytes
-    ∷ table_fault bytes (data_layout bytes) (data_layout bytes).step_count
+    ∷ table_fault bytes (data_layout bytes)
     ∷ text_fault (footer_text bytes (data_layout bytes))
     ∷ footer_fault (first_type bytes).offset (table_steps bytes) (footer_of_file bytes)
     ∷ [])

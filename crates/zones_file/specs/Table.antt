@@ -1,5 +1,6 @@
 -- The types and the transitions of a block, RFC 9636, section 3.2.
-use Rattle.std.specs.Prelude.{ℕ, zero, suc, ◌+◌, ◌*◌, ◌==◌, ℤ, List, [], ◌∷◌, ◌++◌, take, drop, slice_index, if◌then◌else◌}
+use Rattle.std.specs.Prelude.{ℕ, ◌+◌, ◌*◌, ◌==◌, ℤ, List, map, take, drop, slice_index, if◌then◌else◌}
+use Rattle.std.specs.List.{range_with_len}
 use Rattle.zones_clock.specs.declared.zone.Step.{Step}
 use Rattle.zones_file.specs.declared.layout.Layout.{Layout}
 use Rattle.zones_file.specs.declared.table.LocalType.{LocalType}
@@ -29,8 +30,7 @@ step_in bytes layout index = record {
 
 -- the first so many transitions
 unfoldable pub steps_in : List ℕ → Layout → ℕ → List Step
-steps_in bytes layout zero = []
-steps_in bytes layout (suc count) = steps_in bytes layout count ++ step_in bytes layout count ∷ []
+steps_in bytes layout count = map (step_in bytes layout) (range_with_len 0 count)
 
 -- the letters of the abbreviations
 abbrev pub letters_in : List ℕ → Layout → List ℕ

@@ -1,5 +1,5 @@
 //! Zones from TZif files, RFC 9636.
-ghost use Rattle.std.specs.Prelude.{◌≡◌, ◌+◌, ◌<◌, ◌++◌, ◌↔◌, length, IsTrue, IfOk, IfSome, OnOk, option_map};
+ghost use Rattle.std.specs.Prelude.{◌≡◌, ◌+◌, ◌<◌, ◌++◌, length, IfOk, IfSome, OnOk, option_map};
 ghost use Rattle.std.specs.Result.{result_err};
 ghost use Rattle.zones_clock.specs.Steps.{offset_at};
 ghost use Rattle.zones_rule.specs.Grammar.{footer_view};
@@ -7,7 +7,7 @@ ghost use Rattle.zones_rule.specs.Offsets.{AreOffsets};
 ghost use Rattle.zones_rule.specs.Transitions.{FollowsFrom, LastHasBegun, AreYearsInOrder, offset_by_rule, steps_after};
 ghost use Rattle.zones_file.specs.Footer.{ended, names_after};
 ghost use Rattle.zones_file.specs.Zone.{FollowsFooter, first_type, footer_of_file, last_moment, last_offset, letters_with, steps_with, table_steps, zone_letters, zone_steps};
-ghost use Rattle.zones_file.specs.Faults.{Tells, fault_of, footer_fault, is_in_order, rule_fault};
+ghost use Rattle.zones_file.specs.Faults.{Tells, fault_of, footer_fault, rule_fault};
 
 use crate::fault::ZoneFault;
 use crate::footer::read_footer;
@@ -17,14 +17,6 @@ use crate::table::read_table;
 use std::alloc::Global;
 use zones_clock::Zone;
 use zones_rule::{Footer, Rule};
-
-// Whether no year's transitions come before those of the year before it.
-fn is_in_order(rule: &Rule) -> bool
-    ensures value { result ≡ is_in_order rule.now.standard rule.now.summer }
-    ensures order { IsTrue result → AreYearsInOrder rule.now }
-{
-    rule.is_in_order()
-}
 
 // The instant of the last step, or where there is none the earliest.
 fn last_moment(zone: &Zone) -> i64
@@ -46,7 +38,7 @@ fn check_rule(zone: &Zone, rule: &Rule, moment: i64) -> Result<(), ZoneFault>
     ensures order { OnOk result (AreYearsInOrder rule.now) }
     ensures agrees { OnOk result (offset_at zone.now.first zone.now.steps.items moment ≡ offset_by_rule rule.now moment) }
 {
-    if !is_in_order(rule) {
+    if !rule.is_in_order() {
         return Err(ZoneFault::Crossing);
     }
     if rule.offset_at(moment) != zone.offset_at(moment) {

@@ -99,7 +99,7 @@ pub(crate) fn read_table(alloc: Global, bytes: &[u8], layout: Layout) -> Result<
     ensures first_name { IfOk result (λ zone. zone.first_name ≡ (type_in bytes.now layout 0).name) }
     ensures steps { IfOk result (λ zone. zone.steps.items ≡ steps_in bytes.now layout layout.step_count) }
     ensures letters { IfOk result (λ zone. zone.letters.items ≡ letters_in bytes.now layout) }
-    ensures fault { Tells result (table_fault bytes.now layout layout.step_count) }
+    ensures fault { Tells result (table_fault bytes.now layout) }
 {
     let first = read_type(bytes, layout, 0)?;
     let letters = bytes[layout.letters..layout.letters + layout.letter_count].to_vec(alloc)?;

@@ -1,5 +1,5 @@
 -- One more transition: what is added, and what is put off.
-use Rattle.std.proofs.Common.{◌≡◌, ℕ, ◌+◌, ◌-◌, ◌<◌, ◌≤◌, ap, ◌∙◌, sym, subst, arith, ℤ, ◌<ℤ◌, ◌≤ℤ◌, List, [], ◌∷◌, ◌++◌, append_assoc, append-nil, length-append, length, map, if◌then◌else◌, Option, Some, None}
+use Rattle.std.proofs.Common.{refl, ◌≡◌, true, ℕ, ◌+◌, ◌-◌, ◌<◌, ◌≤◌, ap, ◌∙◌, sym, subst, arith, ℤ, ◌<ℤ◌, ◌≤ℤ◌, List, [], ◌∷◌, ◌++◌, append_assoc, append-nil, length-append, length, Option, Some, None}
 use Rattle.std.proofs.lemmas.Int.{ints}
 use Rattle.std.proofs.lemmas.List.{get_or_push}
 use Rattle.zones_clock.specs.declared.zone.Step.{Step}
@@ -8,40 +8,30 @@ use Rattle.zones_rule.specs.declared.years.Transition.{Transition}
 use Rattle.zones_rule.specs.declared.steps.Clock.{Clock}
 use Rattle.zones_rule.specs.declared.rule.Summer.{Summer}
 use Rattle.zones_rule.specs.Years.{transitions_in, first_in}
-use Rattle.zones_rule.specs.Transitions.{after, without_overtaken, step_of, years_from, YearsInOrder}
+use Rattle.zones_rule.specs.Transitions.{after, without_overtaken, step_of, years_from, years_in_order}
 use Rattle.zones_rule.specs.Pushing.{steps_left, LosesNothing, IsReady}
-use Rattle.zones_rule.proofs.TransitionLemmas.{lt-true, lt-false, year_rising, next_years}
+use Rattle.zones_rule.proofs.TransitionLemmas.{order_of, year_rising, next_years}
+use Rattle.zones_clock.proofs.ClockLemmas.{lt-true, lt-false}
 
 -- the first that comes after the moment is put off
 pub starts : (clock : Clock) (moment : ℤ) (steps : List Step) (pending : Option Transition) (next : Transition) → pending ≡ None → moment <ℤ next.at → LosesNothing clock moment steps (Some next) steps pending next
 unfolding after
-starts clock moment steps pending next e h rest =
-    ap (λ v. steps ++ map (step_of clock.standard clock.summer clock.names) (without_overtaken (if v then next ∷ rest else after moment rest))) (sym (lt-true moment next.at h))
-    ∙ ap (λ p. steps ++ steps_left clock moment p (next ∷ rest)) (sym e)
+starts clock moment steps pending next e h rest = rw (e, lt-true moment next.at h) refl
 
 -- until then nothing is
 pub passes : (clock : Clock) (moment : ℤ) (steps : List Step) (pending : Option Transition) (next : Transition) → pending ≡ None → next.at ≤ℤ moment → LosesNothing clock moment steps None steps pending next
 unfolding after
-passes clock moment steps pending next e h rest =
-    ap (λ v. steps ++ map (step_of clock.standard clock.summer clock.names) (without_overtaken (if v then next ∷ rest else after moment rest))) (sym (lt-false moment next.at h))
-    ∙ ap (λ p. steps ++ steps_left clock moment p (next ∷ rest)) (sym e)
+passes clock moment steps pending next e h rest = rw (e, lt-false moment next.at h) refl
 
 -- what was put off is added before a later one
 pub adds : (clock : Clock) (moment : ℤ) (new old : List Step) (step : Step) (pending : Option Transition) (last next : Transition) → pending ≡ Some last → last.at <ℤ next.at → step ≡ step_of clock.standard clock.summer clock.names last → new ≡ old ++ step ∷ [] → LosesNothing clock moment new (Some next) old pending next
 unfolding without_overtaken
-adds clock moment new old step pending last next e h s pushed rest =
-    ap (λ l. l ++ steps_left clock moment (Some next) rest) pushed
-    ∙ append_assoc old (step ∷ []) (steps_left clock moment (Some next) rest)
-    ∙ ap (λ x. old ++ x ∷ steps_left clock moment (Some next) rest) s
-    ∙ ap (λ v. old ++ map (step_of clock.standard clock.summer clock.names) (if v then last ∷ without_overtaken (next ∷ rest) else without_overtaken (next ∷ rest))) (sym (lt-true last.at next.at h))
-    ∙ ap (λ p. old ++ steps_left clock moment p (next ∷ rest)) (sym e)
+adds clock moment new old step pending last next e h s pushed rest = rw (e, pushed, s, lt-true last.at next.at h) (append_assoc old _ _)
 
 -- or overtaken
 pub overtakes : (clock : Clock) (moment : ℤ) (steps : List Step) (pending : Option Transition) (last next : Transition) → pending ≡ Some last → next.at ≤ℤ last.at → LosesNothing clock moment steps (Some next) steps pending next
 unfolding without_overtaken
-overtakes clock moment steps pending last next e h rest =
-    ap (λ v. steps ++ map (step_of clock.standard clock.summer clock.names) (if v then last ∷ without_overtaken (next ∷ rest) else without_overtaken (next ∷ rest))) (sym (lt-false last.at next.at h))
-    ∙ ap (λ p. steps ++ steps_left clock moment p (next ∷ rest)) (sym e)
+overtakes clock moment steps pending last next e h rest = rw (e, lt-false last.at next.at h) refl
 
 -- an instant after the last step that was added
 pub comes_after : (new old : List Step) (step : Step) (from : ℤ) → new ≡ old ++ step ∷ [] → step.from <ℤ from → ComesAfter new from
@@ -59,9 +49,9 @@ pub ready_in_year : (standard : ℤ) (summer : Summer) (year : ℕ) (pair : Tran
 ready_in_year standard summer year pair steps moment pending e h =
     ready_until steps moment pending pair.0.at pair.1.at (subst (λ p. p.0.at ≤ℤ p.1.at) (sym e) (year_rising standard summer year)) h
 
-pub ready_next_year : (standard : ℤ) (summer : Summer) (year : ℕ) (pair : Transition × Transition) (steps : List Step) (moment : ℤ) (pending : Option Transition) → YearsInOrder standard (Some summer) → 1 ≤ year → year ≤ 9_999 → pair ≡ transitions_in standard summer year → IsReady steps moment pending pair.1.at → IsReady steps moment pending (first_in standard summer (year + 1)).at
+pub ready_next_year : (standard : ℤ) (summer : Summer) (year : ℕ) (pair : Transition × Transition) (steps : List Step) (moment : ℤ) (pending : Option Transition) → years_in_order standard summer 9_999 ≡ true → 1 ≤ year → year ≤ 9_999 → pair ≡ transitions_in standard summer year → IsReady steps moment pending pair.1.at → IsReady steps moment pending (first_in standard summer (year + 1)).at
 ready_next_year standard summer year pair steps moment pending order some most e h =
-    ready_until steps moment pending pair.1.at _ (subst (λ p. p.1.at ≤ℤ (first_in standard summer (year + 1)).at) (sym e) (order year some most)) h
+    ready_until steps moment pending pair.1.at _ (subst (λ p. p.1.at ≤ℤ (first_in standard summer (year + 1)).at) (sym e) (order_of standard summer 9_999 order year some most)) h
 
 -- one more year
 pub year_pushed : (clock : Clock) (moment : ℤ) (year : ℕ) (pair : Transition × Transition) (old more new whole : List Step) (one two three : Option Transition) → year < 10_000 → pair ≡ transitions_in clock.standard clock.summer year → LosesNothing clock moment more two old one pair.0 → LosesNothing clock moment new three more two pair.1 → old ++ steps_left clock moment one (years_from clock.standard clock.summer year (10_000 - year)) ≡ whole → new ++ steps_left clock moment three (years_from clock.standard clock.summer (year + 1) (10_000 - (year + 1))) ≡ whole

@@ -1,5 +1,5 @@
 -- The transitions of a rule in all years, and the clock that they give.
-use Rattle.std.specs.Prelude.{◌≡◌, ℕ, zero, suc, ◌+◌, ◌≤◌, Bool, true, false, ◌&&◌, ◌||◌, int_lt, int_le, ℤ, ◌<ℤ◌, ◌≤ℤ◌, if◌then◌else◌, List, [], ◌∷◌, length, map, Option, Some, None}
+use Rattle.std.specs.Prelude.{◌≡◌, ℕ, zero, suc, ◌+◌, ◌≤◌, Bool, IsTrue, true, false, ◌&&◌, ◌||◌, int_lt, int_le, ℤ, ◌<ℤ◌, ◌≤ℤ◌, if◌then◌else◌, List, [], ◌∷◌, length, map, Option, Some, None}
 use Rattle.zones_clock.specs.declared.zone.Step.{Step}
 use Rattle.zones_clock.specs.Steps.{offset_at, step_at}
 use Rattle.zones_rule.specs.declared.rule.Summer.{Summer}
@@ -64,13 +64,17 @@ steps_after rule names moment = steps_by rule.standard rule.summer names moment
 abbrev pub LastHasBegun : List Step → ℤ → Type 0
 LastHasBegun steps moment = (i : ℕ) → i + 1 ≡ length steps → (step_at steps i).from ≤ℤ moment
 
--- the transitions of no year come before those of the year before it
-abbrev pub YearsInOrder : ℤ → Option Summer → Type 0
-YearsInOrder standard None = Unit {0}
-YearsInOrder standard (Some summer) = (year : ℕ) → 1 ≤ year → year ≤ 9_999 → (second_in standard summer year).at ≤ℤ (first_in standard summer (year + 1)).at
+-- the transitions of none of the first so many years come after those of the year after it
+unfoldable pub years_in_order : ℤ → Summer → ℕ → Bool
+years_in_order standard summer zero = true
+years_in_order standard summer (suc count) = years_in_order standard summer count && int_le (second_in standard summer (count + 1)).at (first_in standard summer (count + 1 + 1)).at
+
+abbrev pub is_in_order : ℤ → Option Summer → Bool
+is_in_order standard None = true
+is_in_order standard (Some summer) = years_in_order standard summer 9_999
 
 abbrev pub AreYearsInOrder : Rule → Type 0
-AreYearsInOrder rule = YearsInOrder rule.standard rule.summer
+AreYearsInOrder rule = IsTrue (is_in_order rule.standard rule.summer)
 
 -- a moment is of a year: that year's first transition has come, and the next year's has not
 pub record IsOfYear (standard : ℤ) (summer : Summer) (year : ℕ) (moment : ℤ) : Type 0 where

@@ -1,5 +1,5 @@
 //! The steps that a rule gives a zone's clock, and the clock by a rule.
-ghost use Rattle.std.specs.Prelude.{◌≡◌, ◌≤◌, ◌↔◌, ◌++◌, IsTrue, Some, None, pos, false, OnOk, IfOk};
+ghost use Rattle.std.specs.Prelude.{◌≡◌, ◌≤◌, ◌++◌, IsTrue, Some, None, pos, false, OnOk, IfOk};
 ghost use Rattle.zones_clock.specs.Steps.{offset_at, IsOffset};
 ghost use Rattle.zones_rule.specs.Offsets.{AreOffsets, AreClockOffsets};
 ghost use Rattle.zones_rule.specs.Transitions as Transitions;
@@ -13,6 +13,9 @@ use zones_clock::{Step, Zone};
 // The last year whose transitions count.
 const LAST_YEAR: u64 = 9999;
 
+// The calendar repeats itself every 400 years. The year 1 is looked at beside them, since a rule may mean a day before it.
+const DISTINCT_YEARS: u64 = 401;
+
 // A clock with summer time, and where its names stand.
 #[derive(Clone, Copy)]
 pub(crate) struct Clock {
@@ -23,10 +26,10 @@ pub(crate) struct Clock {
 
 // Whether the transitions of no year come before those of the year before it.
 fn are_in_order(standard: i32, summer: Summer) -> bool
-    ensures { IsTrue result ↔ Transitions.YearsInOrder standard (Some summer) }
+    ensures { result ≡ Transitions.years_in_order standard summer 9_999 }
 {
     let (_, mut last) = transitions_in(standard, summer, 1);
-    for year in 1..LAST_YEAR + 1 {
+    for year in 1..DISTINCT_YEARS + 1 {
         let (first, second) = transitions_in(standard, summer, year + 1);
         if last.at > first.at {
             return false;
@@ -101,7 +104,7 @@ impl Clock {
     // Adds the steps of all years that come after a moment.
     fn push_years(self, zone: &mut Zone, moment: i64) -> Result<(), AllocError>
         requires offsets { AreClockOffsets self }
-        requires order { Transitions.YearsInOrder self.standard (Some self.summer) }
+        requires order { IsTrue (Transitions.years_in_order self.standard self.summer 9_999) }
         requires last { Transitions.LastHasBegun zone.old.steps.items moment }
         ensures first { zone.new.first ≡ zone.old.first }
         ensures first_name { zone.new.first_name ≡ zone.old.first_name }
@@ -126,7 +129,7 @@ impl Rule {
     /// Whether the transitions of each year up to 9999 come no earlier than those of the year before it: the last of a year
     /// may be at the instant of the next year's first, as where it is summer time all year.
     pub fn is_in_order(&self) -> bool
-        ensures { IsTrue result ↔ Transitions.AreYearsInOrder self.now }
+        ensures { result ≡ Transitions.is_in_order self.now.standard self.now.summer }
     {
         match self.summer {
             None => true,

@@ -1,6 +1,6 @@
-use Rattle.std.proofs.Common.{◌≡◌, None}
+use Rattle.std.proofs.Common.{◌≡◌, ◌-◌}
 use Rattle.zones_file.specs.Table.{type_in, steps_in, letters_in}
-use Rattle.zones_file.specs.Faults.{table_fault}
+use Rattle.zones_file.specs.Faults.{steps_fault, table_fault}
 use Rattle.zones_file.proofs.table.read_table.Given as goal
 
 abbrev pub invariant-loop-index : goal.invariant-loop-index
@@ -9,5 +9,5 @@ invariant-loop-index l = record {
   first_name : l.zone.first_name ≡ (type_in l.bytes l.layout 0).name;
   steps : l.zone.steps.items ≡ steps_in l.bytes l.layout l.index;
   letters : l.zone.letters.items ≡ letters_in l.bytes l.layout;
-  faultless : table_fault l.bytes l.layout l.index ≡ None;
+  faults : table_fault l.bytes l.layout ≡ steps_fault l.bytes l.layout l.index (l.layout.step_count - l.index);
 }
