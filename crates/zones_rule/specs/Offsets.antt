@@ -2,7 +2,7 @@
 use Rattle.std.specs.Prelude.{ℕ, ℤ, pos, ◌<ℤ◌, ◌-ℤ◌, Option, Some, None}
 use Rattle.zones_rule.specs.declared.rule.Summer.{Summer}
 use Rattle.zones_rule.specs.declared.rule.Rule.{Rule}
-use Rattle.zones_rule.specs.declared.steps.Clock.{Clock}
+use Rattle.zones_rule.specs.declared.years.Clock.{Clock}
 
 -- less than so many, on either side of 0
 pub record IsWithin (bound : ℕ) (value : ℤ) : Type 0 where

@@ -3,7 +3,8 @@ use Rattle.std.specs.Prelude.{◌≡◌, ℤ, ◌≤ℤ◌, List, ◌∷◌, ◌
 use Rattle.zones_clock.specs.declared.zone.Step.{Step}
 use Rattle.zones_clock.specs.Steps.{ComesAfter}
 use Rattle.zones_rule.specs.declared.years.Transition.{Transition}
-use Rattle.zones_rule.specs.declared.steps.Clock.{Clock}
+use Rattle.zones_rule.specs.declared.years.Clock.{Clock}
+use Rattle.zones_rule.specs.declared.rule.Names.{Names}
 use Rattle.zones_rule.specs.Transitions.{after, without_overtaken, step_of, LastHasBegun}
 
 -- the transitions that come after a moment, where one may be put off already
@@ -11,12 +12,12 @@ abbrev pub left : ℤ → Option Transition → List Transition → List Transit
 left moment None rest = after moment rest
 left moment (Some pending) rest = pending ∷ rest
 
-abbrev pub steps_left : Clock → ℤ → Option Transition → List Transition → List Step
-steps_left clock moment pending rest = map (step_of clock.standard clock.summer clock.names) (without_overtaken (left moment pending rest))
+abbrev pub steps_left : Clock → Names → ℤ → Option Transition → List Transition → List Step
+steps_left clock names moment pending rest = map (step_of clock.standard clock.summer names) (without_overtaken (left moment pending rest))
 
 -- with these steps and this one put off all will be there in the end that will be with those
-abbrev pub LosesNothing : Clock → ℤ → List Step → Option Transition → List Step → Option Transition → Transition → Type 0
-LosesNothing clock moment new kept old pending next = (rest : List Transition) → new ++ steps_left clock moment kept rest ≡ old ++ steps_left clock moment pending (next ∷ rest)
+abbrev pub LosesNothing : Clock → Names → ℤ → List Step → Option Transition → List Step → Option Transition → Transition → Type 0
+LosesNothing clock names moment new kept old pending next = (rest : List Transition) → new ++ steps_left clock names moment kept rest ≡ old ++ steps_left clock names moment pending (next ∷ rest)
 
 -- what is put off comes after the steps, and not after an instant
 abbrev pub IsReady : List Step → ℤ → Option Transition → ℤ → Type 0

@@ -16,6 +16,13 @@ const EPOCH: i64 = 719_162;
 
 const DAY: i64 = 86_400;
 
+/// A clock with summer time.
+#[derive(Clone, Copy)]
+pub(crate) struct Clock {
+    pub(crate) standard: i32,
+    pub(crate) summer: Summer,
+}
+
 static DAYS_BEFORE: [u16; 12] = [0, 31, 59, 90, 120, 151, 181, 212, 243, 273, 304, 334];
 
 fn is_leap(year: u64) -> bool
@@ -103,23 +110,25 @@ fn instant_in(change: Change, year: u64, offset: i32) -> i64
     (day_in(change.day, year) as i64 - EPOCH) * DAY + (i64::from(change.time) - i64::from(offset))
 }
 
-// The two transitions of a year, in the order of their instants.
-#[tactic(auto, unfolding(crate::specs::Years::start_in, crate::specs::Years::end_in, crate::specs::Years::transitions_in))]
-pub(crate) fn transitions_in(standard: i32, summer: Summer, year: u64) -> (Transition, Transition)
-    requires { (1 ≤ year) × (year ≤ 10000) }
-    ensures { result ≡ Years.transitions_in standard summer year }
-{
-    let start = Transition {
-        at: instant_in(summer.start, year, standard),
-        is_summer: true,
-    };
-    let end = Transition {
-        at: instant_in(summer.end, year, summer.offset),
-        is_summer: false,
-    };
-    if start.at <= end.at {
-        (start, end)
-    } else {
-        (end, start)
+impl Clock {
+    /// The two transitions of a year, in the order of their instants.
+    #[tactic(auto, unfolding(crate::specs::Years::start_in, crate::specs::Years::end_in, crate::specs::Years::transitions_in))]
+    pub(crate) fn transitions_in(self, year: u64) -> (Transition, Transition)
+        requires { (1 ≤ year) × (year ≤ 10000) }
+        ensures { result ≡ Years.transitions_in self.standard self.summer year }
+    {
+        let start = Transition {
+            at: instant_in(self.summer.start, year, self.standard),
+            is_summer: true,
+        };
+        let end = Transition {
+            at: instant_in(self.summer.end, year, self.summer.offset),
+            is_summer: false,
+        };
+        if start.at <= end.at {
+            (start, end)
+        } else {
+            (end, start)
+        }
     }
 }
