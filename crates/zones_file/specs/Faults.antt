@@ -4,6 +4,7 @@ use Rattle.std.specs.List.{range_with_len}
 use Rattle.std.specs.Option.{option_or, is_none}
 use Rattle.std.specs.Ordering.{int_eq}
 use Rattle.zones_clock.specs.declared.zone.Step.{Step}
+use Rattle.zones_clock.specs.Steps.{offset_at}
 use Rattle.zones_rule.specs.declared.rule.Rule.{Rule}
 use Rattle.zones_rule.specs.Grammar.{rule_of}
 use Rattle.zones_rule.specs.Transitions.{is_in_order, offset_by_rule}
@@ -14,7 +15,7 @@ use Rattle.zones_file.specs.declared.layout.Counts.{Counts}
 use Rattle.zones_file.specs.Layout.{has_magic, counts_at, data_place, data_layout}
 use Rattle.zones_file.specs.Table.{type_in, time_in}
 use Rattle.zones_file.specs.Footer.{footer_text}
-use Rattle.zones_file.specs.Zone.{last_moment, last_offset, first_type, table_steps, footer_of_file}
+use Rattle.zones_file.specs.Zone.{last_moment, first_type, table_steps, footer_of_file}
 
 -- a fault where a test holds
 abbrev pub when : Bool → ZoneFault → Option ZoneFault
@@ -100,7 +101,7 @@ rule_fault rule moment offset = first_of (when (not (is_in_order rule.standard r
 
 abbrev pub footer_fault : ℤ → List Step → Option (Rule × List ℕ × List ℕ) → Option ZoneFault
 footer_fault first steps None = None
-footer_fault first steps (Some (rule, standard, summer)) = rule_fault rule (last_moment steps) (last_offset first steps)
+footer_fault first steps (Some (rule, standard, summer)) = rule_fault rule (last_moment steps) (offset_at first steps (last_moment steps))
 
 -- the first fault of a file, if it has any
 unfoldable pub fault_of : List ℕ → Option ZoneFault

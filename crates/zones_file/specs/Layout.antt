@@ -1,12 +1,13 @@
 -- TZif, RFC 9636, section 3: where the parts of a file lie.
-use Rattle.std.specs.Prelude.{◌≡◌, ◌⊎◌, ◌<◌, ◌≤◌, ℕ, ◌+◌, ◌*◌, ◌==◌, ◌&&◌, Bool, List, slice_index, if◌then◌else◌}
+use Rattle.std.specs.Prelude.{◌≡◌, ◌⊎◌, ◌<◌, ◌≤◌, ℕ, ◌+◌, ◌*◌, ◌==◌, Bool, List, [], ◌∷◌, drop, nat_eq, slice_index, if◌then◌else◌}
+use Rattle.std.specs.List.{starts_with}
 use Rattle.zones_file.specs.declared.layout.Layout.{Layout}
 use Rattle.zones_file.specs.declared.layout.Counts.{Counts}
 use Rattle.zones_file.specs.Bytes.{be_u32}
 
 -- a header begins `TZif` (section 3.1)
 abbrev pub has_magic : List ℕ → ℕ → Bool
-has_magic bytes place = (slice_index bytes place == 84) && (slice_index bytes (place + 1) == 90) && (slice_index bytes (place + 2) == 105) && (slice_index bytes (place + 3) == 102)
+has_magic bytes place = starts_with nat_eq (drop place bytes) (84 ∷ 90 ∷ 105 ∷ 102 ∷ [])
 
 -- a version, and fifteen bytes that say nothing, come before the counts (section 3.1)
 abbrev pub counts_at : List ℕ → ℕ → Counts

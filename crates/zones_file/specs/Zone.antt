@@ -1,7 +1,7 @@
 -- The zone of a file, RFC 9636: its table, and after it what its footer's rule gives.
 use Rattle.std.specs.Prelude.{ℕ, zero, suc, ℤ, negsuc, List, ◌++◌, length, Option, Some, None}
 use Rattle.zones_clock.specs.declared.zone.Step.{Step}
-use Rattle.zones_clock.specs.Steps.{offset_at, step_at}
+use Rattle.zones_clock.specs.Steps.{step_at}
 use Rattle.zones_rule.specs.declared.rule.Rule.{Rule}
 use Rattle.zones_rule.specs.Transitions.{FollowsFrom, steps_after}
 use Rattle.zones_file.specs.declared.table.LocalType.{LocalType}
@@ -16,10 +16,6 @@ moment_after steps (suc count) = (step_at steps count).from
 
 abbrev pub last_moment : List Step → ℤ
 last_moment steps = moment_after steps (length steps)
-
--- the offset at that instant
-abbrev pub last_offset : ℤ → List Step → ℤ
-last_offset first steps = offset_at first steps (last_moment steps)
 
 -- with what a rule gives
 abbrev pub steps_with : List Step → List ℕ → Option (Rule × List ℕ × List ℕ) → List Step

@@ -43,10 +43,7 @@ fn has_magic(bytes: &[u8], place: usize) -> bool
     requires { place + 44 ≤ length bytes.now }
     ensures { result ≡ has_magic bytes.now place }
 {
-    bytes[place] == b'T'
-        && bytes[place + 1] == b'Z'
-        && bytes[place + 2] == b'i'
-        && bytes[place + 3] == b'f'
+    bytes[place..].starts_with(b"TZif")
 }
 
 // The counts of a header.

@@ -6,7 +6,7 @@ ghost use Rattle.zones_rule.specs.Grammar.{footer_view};
 ghost use Rattle.zones_rule.specs.Offsets.{AreOffsets};
 ghost use Rattle.zones_rule.specs.Transitions.{FollowsFrom, LastHasBegun, AreYearsInOrder, offset_by_rule, steps_after};
 ghost use Rattle.zones_file.specs.Footer.{ended, names_after};
-ghost use Rattle.zones_file.specs.Zone.{FollowsFooter, first_type, footer_of_file, last_moment, last_offset, letters_with, steps_with, table_steps, zone_letters, zone_steps};
+ghost use Rattle.zones_file.specs.Zone.{FollowsFooter, first_type, footer_of_file, last_moment, letters_with, steps_with, table_steps, zone_letters, zone_steps};
 ghost use Rattle.zones_file.specs.Faults.{Tells, fault_of, footer_fault, rule_fault};
 
 use crate::fault::ZoneFault;

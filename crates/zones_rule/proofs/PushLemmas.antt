@@ -58,15 +58,11 @@ ready_next_year standard summer year pair steps moment pending order some most e
 pub year_pushed : (clock : Clock) (names : Names) (moment : ℤ) (year : ℕ) (pair : Transition × Transition) (old more new whole : List Step) (one two three : Option Transition) → year < 10_000 → pair ≡ transitions_in clock.standard clock.summer year → LosesNothing clock names moment more two old one pair.0 → LosesNothing clock names moment new three more two pair.1 → old ++ steps_left clock names moment one (years_from clock.standard clock.summer year (10_000 - year)) ≡ whole → new ++ steps_left clock names moment three (years_from clock.standard clock.summer (year + 1) (10_000 - (year + 1))) ≡ whole
 year_pushed clock names moment year pair old more new whole one two three lt e f g is =
     let rest : List Transition = years_from clock.standard clock.summer (year + 1) (10_000 - (year + 1)) in
-    g rest ∙ f (pair.1 ∷ rest)
-    ∙ ap (λ p. old ++ steps_left clock names moment one (p.0 ∷ p.1 ∷ rest)) e
-    ∙ sym (ap (λ ts. old ++ steps_left clock names moment one ts) (next_years clock.standard clock.summer year lt)) ∙ is
+    g rest ∙ f (pair.1 ∷ rest) ∙ rw (e, ← next_years clock.standard clock.summer year lt) is
 
 no_years : (clock : Clock) (names : Names) (moment : ℤ) (year : ℕ) (old whole : List Step) (pending : Option Transition) → 10_000 ≤ year → old ++ steps_left clock names moment pending (years_from clock.standard clock.summer year (10_000 - year)) ≡ whole → old ++ steps_left clock names moment pending [] ≡ whole
 unfolding years_from
-no_years clock names moment year old whole pending le is =
-    let e : 10_000 - year ≡ 0 = omega arith in
-    sym (ap (λ n. old ++ steps_left clock names moment pending (years_from clock.standard clock.summer year n)) e) ∙ is
+no_years clock names moment year old whole pending le is = let e : 10_000 - year ≡ 0 = omega arith in rw e at is
 
 -- the last that was put off is added, if there is one
 pub last_pushed : (clock : Clock) (names : Names) (moment : ℤ) (year : ℕ) (old new whole : List Step) (step : Step) (pending : Option Transition) (last : Transition) → 10_000 ≤ year → pending ≡ Some last → step ≡ step_of clock.standard clock.summer names last → new ≡ old ++ step ∷ [] → old ++ steps_left clock names moment pending (years_from clock.standard clock.summer year (10_000 - year)) ≡ whole → new ≡ whole

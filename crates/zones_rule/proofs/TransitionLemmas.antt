@@ -108,24 +108,18 @@ year_law standard summer m (suc count) b from order some most h k = elim (less-o
 
 pub next_years : (standard : ℤ) (summer : Summer) (year : ℕ) → year < 10_000 → years_from standard summer year (10_000 - year) ≡ (first_in standard summer year) ∷ (second_in standard summer year) ∷ years_from standard summer (year + 1) (10_000 - (year + 1))
 unfolding years_from
-next_years standard summer year lt =
-    let e : 10_000 - year ≡ suc (10_000 - (year + 1)) = omega arith in
-    ap (λ n. years_from standard summer year n) e
+next_years standard summer year lt = let e : 10_000 - year ≡ suc (10_000 - (year + 1)) = omega arith in rw e refl
 
 abbrev pub summer_from : ℤ → Summer → ℕ → Bool → ℤ → Bool
 summer_from standard summer year b m = is_summer_by b (years_from standard summer year (10_000 - year)) m
 
 -- the same with a pair that is the year's, and with what the clock of all years is
 pub with_pair : (standard : ℤ) (summer : Summer) (year : ℕ) (b whole : Bool) (m : ℤ) (pair : Transition × Transition) → year < 10_000 → pair ≡ transitions_in standard summer year → summer_from standard summer year b m ≡ whole → is_summer_by b (pair.0 ∷ pair.1 ∷ years_from standard summer (year + 1) (10_000 - (year + 1))) m ≡ whole
-with_pair standard summer year b whole m pair lt e is =
-    ap (λ p. is_summer_by b (p.0 ∷ p.1 ∷ years_from standard summer (year + 1) (10_000 - (year + 1))) m) e
-    ∙ sym (ap (λ ts. is_summer_by b ts m) (next_years standard summer year lt)) ∙ is
+with_pair standard summer year b whole m pair lt e is = rw (e, ← next_years standard summer year lt) is
 
 pub after_all : (standard : ℤ) (summer : Summer) (year : ℕ) (b whole : Bool) (m : ℤ) → 10_000 ≤ year → summer_from standard summer year b m ≡ whole → b ≡ whole
 unfolding years_from is_summer_by
-after_all standard summer year b whole m le is =
-    let e : 10_000 - year ≡ 0 = omega arith in
-    sym (ap (λ n. is_summer_by b (years_from standard summer year n) m) e) ∙ is
+after_all standard summer year b whole m le is = let e : 10_000 - year ≡ 0 = omega arith in rw e at is
 
 -- ---- what is left of the transitions of all years
 
@@ -150,10 +144,6 @@ after_rising moment (one ∷ (next ∷ rest)) r = elim (int_lt moment one.at) as
   | false ↦ after_rising moment (next ∷ rest) r.1
 ]
 
-same_after : (b : Bool) (t : Transition) (xs ys : List Transition) (m : ℤ) → is_summer_by t.is_summer xs m ≡ is_summer_by t.is_summer ys m → is_summer_by b (t ∷ xs) m ≡ is_summer_by b (t ∷ ys) m
-unfolding is_summer_by
-same_after b t xs ys m e = ap (λ x. if int_lt m t.at then b else x) e
-
 same_instant : (b : Bool) (one next : Transition) (rest : List Transition) (m : ℤ) → one.at ≤ℤ next.at → next.at ≤ℤ one.at → is_summer_by b (next ∷ rest) m ≡ is_summer_by b (one ∷ (next ∷ rest)) m
 same_instant b one next rest m le ge = elim (less-or-not m one.at) [
   | inl lt ↦ waits b next rest m (omega (arith, ints)) ∙ sym (waits b one (next ∷ rest) m lt)
@@ -164,11 +154,11 @@ same_instant b one next rest m le ge = elim (less-or-not m one.at) [
 
 -- what is overtaken changes no clock
 left_clock : (ts : List Transition) (b : Bool) (m : ℤ) → IsRising ts → is_summer_by b (without_overtaken ts) m ≡ is_summer_by b ts m
-unfolding without_overtaken
+unfolding without_overtaken is_summer_by
 left_clock [] b m r = refl
 left_clock (one ∷ []) b m r = refl
 left_clock (one ∷ (next ∷ rest)) b m r = elim (less-or-not one.at next.at) [
-  | inl lt ↦ rw (lt-true one.at next.at lt) (same_after b one _ _ m (left_clock (next ∷ rest) one.is_summer m r.1))
+  | inl lt ↦ rw (lt-true one.at next.at lt) (ap (λ v. if int_lt m one.at then b else v) (left_clock (next ∷ rest) one.is_summer m r.1))
   | inr le ↦ rw (lt-false one.at next.at le) (left_clock (next ∷ rest) b m r.1 ∙ same_instant b one next rest m r.0 le)
 ]
 
@@ -224,7 +214,4 @@ joined_by standard (Some summer) names first steps from m order all agrees le =
 
 pub clock_follows : (standard : ℤ) (o : Option Summer) (names : Names) (first again : ℤ) (steps new : List Step) (from : ℤ) → IsTrue (is_in_order standard o) → InOrder steps → LastHasBegun steps from → new ≡ steps ++ steps_by standard o names from → again ≡ first → offset_at first steps from ≡ offset_by standard o from → (m : ℤ) → from ≤ℤ m → FollowsYears standard o m (offset_at again new m)
 clock_follows standard o names first again steps new from order rising last pushed same agrees m le =
-    let e : offset_at again new m ≡ offset_by standard o m =
-    ap (λ f. offset_at f new m) same ∙ ap (λ l. offset_at first l m) pushed
-    ∙ joined_by standard o names first steps from m order (all_begun_of steps from rising last) agrees le in
-    subst (FollowsYears standard o m) (sym e) (rule_follows standard o m order)
+    rw (same, pushed, joined_by standard o names first steps from m order (all_begun_of steps from rising last) agrees le) (rule_follows standard o m order)

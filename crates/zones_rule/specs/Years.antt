@@ -13,14 +13,6 @@ is_leap year = (year % 4 == 0) && (not (year % 100 == 0) || (year % 400 == 0))
 abbrev pub first_day : ℕ → ℕ
 first_day year = (year - 1) * 365 + (year - 1) / 4 + (year - 1) / 400 - (year - 1) / 100
 
--- `Jn`: counted from 1, and February 29 is not counted
-abbrev pub julian_day : ℕ → ℕ → ℕ
-julian_day number year = first_day year + number + (if nat_lt 59 number && is_leap year then 1 else 0) - 1
-
--- `n`: counted from 0, and February 29 is counted
-abbrev pub numbered_day : ℕ → ℕ → ℕ
-numbered_day number year = first_day year + number
-
 -- how many days of a year of 365 lie before a month
 abbrev pub days_before : List ℕ
 days_before = 0 ∷ 31 ∷ 59 ∷ 90 ∷ 120 ∷ 151 ∷ 181 ∷ 212 ∷ 243 ∷ 273 ∷ 304 ∷ 334 ∷ []
@@ -49,9 +41,10 @@ pub record IsWeekday (first next week weekday day : ℕ) : Type 0 where
   pub in_week : week < 5 → (first + (week - 1) * 7 ≤ day) × (day < first + week * 7)
   pub is_last : week ≡ 5 → next ≤ day + 7
 
+-- `Jn` is counted from 1, and February 29 is not counted; `n` is counted from 0, and it is
 unfoldable pub day_in : Day → ℕ → ℕ
-day_in (Julian number) year = julian_day number year
-day_in (Numbered number) year = numbered_day number year
+day_in (Julian number) year = first_day year + number + (if nat_lt 59 number && is_leap year then 1 else 0) - 1
+day_in (Numbered number) year = first_day year + number
 day_in (Weekday month week weekday) year = weekday_in year month week weekday
 
 -- the instant at which so many seconds have passed since the midnight of the day, by a clock that is ahead of UTC by an offset

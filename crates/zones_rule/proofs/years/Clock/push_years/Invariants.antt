@@ -9,6 +9,6 @@ invariant-loop-year l = record {
   first : l.zone.first ≡ l.fn.zone.first;
   first_name : l.zone.first_name ≡ l.fn.zone.first_name;
   letters : l.zone.letters.items ≡ l.fn.zone.letters.items;
-  all : l.zone.steps.items ++ steps_left l.self l.names l.moment l.pending (years_from l.self.standard l.self.summer l.year (10_000 - l.year)) ≡ l.fn.zone.steps.items ++ steps_by l.self.standard (Some l.self.summer) l.names l.moment;
-  ready : IsReady l.zone.steps.items l.moment l.pending (first_in l.self.standard l.self.summer l.year).at;
+  all : l.zone.steps.items ++ steps_left l.self l.names l.fn.moment l.pending (years_from l.self.standard l.self.summer l.year (10_000 - l.year)) ≡ l.fn.zone.steps.items ++ steps_by l.self.standard (Some l.self.summer) l.names l.fn.moment;
+  ready : IsReady l.zone.steps.items l.fn.moment l.pending (first_in l.self.standard l.self.summer l.year).at;
 }
