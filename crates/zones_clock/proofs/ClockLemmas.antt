@@ -1,8 +1,10 @@
 -- A clock between two steps.
 use Rattle.std.proofs.Common.{◌≡◌, ℕ, zero, suc, ◌+◌, ◌<◌, ◌≤◌, ◌⊎◌, inl, inr, refl, ◌∙◌, arith, true, false, ℤ, ◌<ℤ◌, ◌≤ℤ◌, int_le, int_lt, List, [], ◌∷◌, length, subst, below_more}
+use Rattle.std.specs.List.Sorted.{IsPartitionPoint, IsPartitionedBy}
 use Rattle.std.proofs.lemmas.Int.{ints}
+use Rattle.std.proofs.lemmas.List.{get_or_default}
 use Rattle.zones_clock.specs.declared.zone.Step.{Step}
-use Rattle.zones_clock.specs.Steps.{InOrder, AreOffsets, IsOffset, offset_at, offset_after, name_place_at, name_place_after, step_at}
+use Rattle.zones_clock.specs.Steps.{InOrder, AreOffsets, IsOffset, offset_at, offset_after, name_place_at, name_place_after, no_step, step_at}
 use Rattle.zones_clock.specs.Search.{AllBegun, IsIn}
 
 pub lt-true : (a b : ℤ) → a <ℤ b → int_lt a b ≡ true
@@ -60,6 +62,11 @@ pub offset_after-in : (first : ℤ) (steps : List Step) (count : ℕ) → count 
 offset_after-in first steps zero within one all = one
 offset_after-in first steps (suc n) within one all = all n (omega arith)
 
--- where the search ends, so many steps have begun
-pub in_of : (steps : List Step) (low high : ℕ) (passed t : ℤ) → passed ≡ t → high ≡ low → AllBegun steps low passed → (high < length steps → passed <ℤ (step_at steps high).from) → IsIn steps low t
-in_of steps low high passed t e same begun later = subst (IsIn steps low) e (begun, subst (λ k. k < length steps → passed <ℤ (step_at steps k).from) same later)
+-- the steps that have begun at a moment come before those that have not
+pub begun_first : (steps : List Step) (t : ℤ) → InOrder steps → IsPartitionedBy (λ step. int_le step.from t) steps
+begun_first steps t order i j d le lt h =
+    let begun : (step_at steps j).from ≤ℤ t = rw (get_or_default steps j no_step d lt) (grind (arith, ints, h)) in
+    rw (get_or_default steps i d no_step (omega arith)) (le-true (step_at steps i).from t (all_begun steps j t order lt begun i (omega arith)))
+
+pub in_of : (steps : List Step) (count : ℕ) (t : ℤ) → IsPartitionPoint (λ step. int_le step.from t ≡ true) (λ step. int_le step.from t ≡ false) steps count → IsIn steps count t
+in_of steps count t point = (λ i lt. let b = point.0 i no_step (omega arith) lt in grind (arith, ints, b), λ lt. let b = point.1 count no_step (omega arith) lt in grind (arith, ints, b))

@@ -1,5 +1,5 @@
 -- The list of the moments at which a clock shows a reading has each of them, in order.
-use Rattle.std.proofs.Common.{◌≡◌, ◌⊎◌, inl, inr, refl, arith, Bool, ℤ, ◌+ℤ◌, ◌-ℤ◌, ◌<ℤ◌, ◌≤ℤ◌, int_le, int_lt, List, [], ◌∷◌, ◌++◌, if◌then◌else◌, subst}
+use Rattle.std.proofs.Common.{◌≡◌, ◌⊎◌, inl, inr, refl, arith, ℤ, ◌-ℤ◌, ◌<ℤ◌, ◌≤ℤ◌, int_le, int_lt, List, [], ◌∷◌, ◌++◌}
 use Rattle.std.specs.List.{filter}
 use Rattle.std.proofs.lemmas.Int.{ints}
 use Rattle.zones_clock.specs.declared.zone.Step.{Step}
@@ -37,12 +37,10 @@ of-parts first s ss reading t (inr x) = record { shown = rw (lt-false t s.from x
 
 parts-of : (first : ℤ) (s : Step) (ss : List Step) (reading t : ℤ) → Shows first (s ∷ ss) reading t → Parts first s ss reading t
 unfolding offset_at
-parts-of first s ss reading t h =
-    let by : Bool → Type 0 = λ b. t +ℤ (if b then first else offset_at s.offset ss t) ≡ reading in
-    elim (less-or-not t s.from) [
-      | inl below ↦ inl (below, let e = subst by (lt-true t s.from below) h.shown in omega (arith, ints, e))
-      | inr past ↦ inr (record { shown = subst by (lt-false t s.from past) h.shown }, past)
-    ]
+parts-of first s ss reading t h = elim (less-or-not t s.from) [
+  | inl below ↦ let e = rw (lt-true t s.from below) at h.shown in inl (below, omega (arith, ints, e))
+  | inr past ↦ inr (record { shown = rw (lt-false t s.from past) at h.shown }, past)
+]
 
 -- the list has each moment at which the clock shows the reading, in order
 pub moments_listed : (first : ℤ) (steps : List Step) (reading : ℤ) → ListsInOrder (Shows first steps reading) (all_moments first steps reading)

@@ -5,7 +5,7 @@ ghost use Rattle.zones_clock.specs.Clock.{AreTheMoments, with_moment};
 ghost use Rattle.zones_clock.specs.AllMoments.{moments_of, with_moments};
 ghost use Rattle.zones_clock.specs.Search.{IsIn, have_begun, has_next_begun, moment_between};
 
-use crate::zone::{Moments, OFFSET_BOUND, Zone};
+use crate::zone::{Moments, OFFSET_BOUND, Step, Zone};
 
 // With a later moment added.
 fn with_moment(found: Moments, moment: i64) -> Moments
@@ -78,17 +78,11 @@ impl Zone {
         ensures within { result ≤ vec_len self.now.steps }
         ensures begun { IsIn self.now.steps.items result moment }
     {
-        let mut low = 0;
-        let mut high = self.steps.len();
-        while low < high {
-            let middle = low + (high - low) / 2;
-            if self.has_begun(middle, moment) {
-                low = middle + 1;
-            } else {
-                high = middle;
-            }
-        }
-        low
+        self.steps.as_slice().partition_point(
+            |step: &Step| -> bool
+                ensures { result ≡ int_le step.now.from moment }
+            { step.from <= moment },
+        )
     }
 
     // With the moment between so many steps and the next at which the clock shows the reading, if there is one.

@@ -9,11 +9,7 @@ use crate::zone::Zone;
 fn letters_from(letters: &[u8], place: usize) -> &[u8]
     ensures { result.now ≡ drop place letters.now }
 {
-    if place < letters.len() {
-        &letters[place..]
-    } else {
-        &[]
-    }
+    &letters[place.min(letters.len())..]
 }
 
 // How many letters stand before the first byte 0.

@@ -1,23 +1,11 @@
-use Rattle.std.proofs.Common.{arith}
-use Rattle.std.proofs.lemmas.Int.{ints}
-use Rattle.zones_clock.proofs.ClockLemmas.{all_begun, in_of}
+use Rattle.std.proofs.Common.{◌≡◌, int_le, rules}
+use Rattle.std.proofs.lemmas.List.Sorted.{IsPartitionPoint-from_clause}
+use Rattle.zones_clock.proofs.ClockLemmas.{begun_first, in_of}
 use Rattle.zones_clock.proofs.zone.Zone.count_begun.Goals as goal
 
-pub loop-low-preserved-then-has_begun : goal.loop-low-preserved-then-has_begun
-loop-low-preserved-then-has_begun c = record {
-  order = omega arith;
-  within = c.loop-low.invariant.within;
-  begun = all_begun c.args.self.now.steps.items _ _ c.args.self.now.ordered (omega arith) (grind (arith, ints, c.has_begun.ensures, c.if-has_begun.true));
-  later = c.loop-low.invariant.later;
-}
-
-pub loop-low-preserved : goal.loop-low-preserved
-loop-low-preserved c = record {
-  order = omega arith;
-  within = omega arith;
-  begun = c.loop-low.invariant.begun;
-  later = λ lt. grind (arith, ints, c.has_begun.ensures, c.if-has_begun.false);
-}
-
 pub returns-clause-begun : goal.returns-clause-begun
-returns-clause-begun c = in_of c.args.self.now.steps.items _ c.loop-low.high _ c.args.moment (omega (arith, ints)) (omega arith) c.loop-low.invariant.begun c.loop-low.invariant.later
+returns-clause-begun c =
+    let same : c.as_slice.result.now ≡ c.args.self.now.steps.items = search rules in
+    let first = begun_first c.args.self.now.steps.items c.args.moment c.args.self.now.ordered in
+    let point = IsPartitionPoint-from_clause (λ step. int_le step.from c.args.moment) _ _ c.partition_point.ensures.partitioned (rw same first) (λ a r q k. search rules) in
+    in_of c.args.self.now.steps.items c.partition_point.result c.args.moment (rw same at point)
