@@ -19,6 +19,4 @@ loop-year-preserved c = record {
 }
 
 pub returns : goal.returns
-returns c =
-    let last : c.loop-year.year - 1 ≡ 401 = omega arith in
-    sym (all_in_order _ _ 9_598 (rw last at c.loop-year.invariant.before))
+returns c = let last : c.loop-year.year - 1 ≡ 401 = omega arith in sym (all_in_order _ _ 9_598 (rw last at c.loop-year.invariant.before))
