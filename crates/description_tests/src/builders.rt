@@ -1,8 +1,9 @@
 //! The modifiers of each component: their defaults, and a value given to each.
 
-use crate::support::are_told;
+use crate::support::tell;
 use description_items::Component;
 use description_items::modifier::*;
+use std::alloc::Global;
 
 #[test]
 fn choices_have_defaults(rt: HostRuntime) {
@@ -20,384 +21,351 @@ fn choices_have_defaults(rt: HostRuntime) {
     assert!(rt; are_default == [true; 9]);
 }
 
-const DAYS_AND_WEEKS: &str = r#"
-Day(Day { padding: Zero }) Day(Day { padding: Space })
-Ordinal(Ordinal { padding: Zero }) Ordinal(Ordinal { padding: Space })
-WeekNumberIso(WeekNumberIso { padding: Zero }) WeekNumberIso(WeekNumberIso { padding: Space })
-WeekNumberSunday(WeekNumberSunday { padding: Zero }) WeekNumberSunday(WeekNumberSunday { padding: Space })
-WeekNumberMonday(WeekNumberMonday { padding: Zero }) WeekNumberMonday(WeekNumberMonday { padding: Space })
-WeekNumber(WeekNumber { padding: Zero, repr: Iso }) WeekNumber(WeekNumber { padding: Space, repr: Sunday })
-WeekdayShort(WeekdayShort { case_sensitive: true }) WeekdayShort(WeekdayShort { case_sensitive: false })
-WeekdayLong(WeekdayLong { case_sensitive: true }) WeekdayLong(WeekdayLong { case_sensitive: false })
-WeekdaySunday(WeekdaySunday { one_indexed: true }) WeekdaySunday(WeekdaySunday { one_indexed: false })
-WeekdayMonday(WeekdayMonday { one_indexed: true }) WeekdayMonday(WeekdayMonday { one_indexed: false })
-Weekday(Weekday { repr: Long, one_indexed: true, case_sensitive: true }) Weekday(Weekday { repr: Monday, one_indexed: false, case_sensitive: false })"#;
-
-fn days_and_weeks() -> [(Component, Component); 11] {
+fn days_and_weeks(told: &mut String) {
     let day = Day::default();
-    let ordinal = Ordinal::default();
-    let week_number_iso = WeekNumberIso::default();
-    let week_number_sunday = WeekNumberSunday::default();
-    let week_number_monday = WeekNumberMonday::default();
-    let week_number = WeekNumber::default();
-    let weekday_short = WeekdayShort::default();
-    let weekday_long = WeekdayLong::default();
-    let weekday_sunday = WeekdaySunday::default();
-    let weekday_monday = WeekdayMonday::default();
-    let weekday = Weekday::default();
-    [
-        (
-            Component::Day(day),
-            Component::Day(day.with_padding(Padding::Space)),
-        ),
-        (
-            Component::Ordinal(ordinal),
-            Component::Ordinal(ordinal.with_padding(Padding::Space)),
-        ),
-        (
-            Component::WeekNumberIso(week_number_iso),
-            Component::WeekNumberIso(week_number_iso.with_padding(Padding::Space)),
-        ),
-        (
-            Component::WeekNumberSunday(week_number_sunday),
-            Component::WeekNumberSunday(week_number_sunday.with_padding(Padding::Space)),
-        ),
-        (
-            Component::WeekNumberMonday(week_number_monday),
-            Component::WeekNumberMonday(week_number_monday.with_padding(Padding::Space)),
-        ),
-        (
-            Component::WeekNumber(week_number),
-            Component::WeekNumber(
-                week_number
-                    .with_padding(Padding::Space)
-                    .with_repr(WeekNumberRepr::Sunday),
-            ),
-        ),
-        (
-            Component::WeekdayShort(weekday_short),
-            Component::WeekdayShort(weekday_short.with_case_sensitive(false)),
-        ),
-        (
-            Component::WeekdayLong(weekday_long),
-            Component::WeekdayLong(weekday_long.with_case_sensitive(false)),
-        ),
-        (
-            Component::WeekdaySunday(weekday_sunday),
-            Component::WeekdaySunday(weekday_sunday.with_one_indexed(false)),
-        ),
-        (
-            Component::WeekdayMonday(weekday_monday),
-            Component::WeekdayMonday(weekday_monday.with_one_indexed(false)),
-        ),
-        (
-            Component::Weekday(weekday),
-            Component::Weekday(
-                weekday
-                    .with_repr(WeekdayRepr::Monday)
-                    .with_one_indexed(false)
-                    .with_case_sensitive(false),
-            ),
-        ),
-    ]
+    tell(told, Component::Day(day));
+    tell(told, Component::Day(day.with_padding(Padding::Space)));
+    let day = Ordinal::default();
+    tell(told, Component::Ordinal(day));
+    tell(told, Component::Ordinal(day.with_padding(Padding::Space)));
+    let week = WeekNumberIso::default();
+    tell(told, Component::WeekNumberIso(week));
+    tell(
+        told,
+        Component::WeekNumberIso(week.with_padding(Padding::Space)),
+    );
+    let week = WeekNumberSunday::default();
+    tell(told, Component::WeekNumberSunday(week));
+    tell(
+        told,
+        Component::WeekNumberSunday(week.with_padding(Padding::Space)),
+    );
+    let week = WeekNumberMonday::default();
+    tell(told, Component::WeekNumberMonday(week));
+    tell(
+        told,
+        Component::WeekNumberMonday(week.with_padding(Padding::Space)),
+    );
+    let week = WeekNumber::default();
+    tell(told, Component::WeekNumber(week));
+    let week = week
+        .with_padding(Padding::Space)
+        .with_repr(WeekNumberRepr::Sunday);
+    tell(told, Component::WeekNumber(week));
 }
 
-const MONTHS_AND_YEARS: &str = r#"
-MonthShort(MonthShort { case_sensitive: true }) MonthShort(MonthShort { case_sensitive: false })
-MonthLong(MonthLong { case_sensitive: true }) MonthLong(MonthLong { case_sensitive: false })
-MonthNumerical(MonthNumerical { padding: Zero }) MonthNumerical(MonthNumerical { padding: Space })
-Month(Month { padding: Zero, repr: Numerical, case_sensitive: true }) Month(Month { padding: Space, repr: Short, case_sensitive: false })
-Year(Year { padding: Zero, repr: Full, range: Extended, iso_week_based: false, sign_is_mandatory: false }) Year(Year { padding: Space, repr: Century, range: Standard, iso_week_based: true, sign_is_mandatory: true })"#;
+fn weekdays(told: &mut String) {
+    let day = WeekdayShort::default();
+    tell(told, Component::WeekdayShort(day));
+    tell(
+        told,
+        Component::WeekdayShort(day.with_case_sensitive(false)),
+    );
+    let day = WeekdayLong::default();
+    tell(told, Component::WeekdayLong(day));
+    tell(told, Component::WeekdayLong(day.with_case_sensitive(false)));
+    let day = WeekdaySunday::default();
+    tell(told, Component::WeekdaySunday(day));
+    tell(told, Component::WeekdaySunday(day.with_one_indexed(false)));
+    let day = WeekdayMonday::default();
+    tell(told, Component::WeekdayMonday(day));
+    tell(told, Component::WeekdayMonday(day.with_one_indexed(false)));
+    let day = Weekday::default();
+    tell(told, Component::Weekday(day));
+    let day = day
+        .with_repr(WeekdayRepr::Monday)
+        .with_one_indexed(false)
+        .with_case_sensitive(false);
+    tell(told, Component::Weekday(day));
+}
 
-fn months_and_years() -> [(Component, Component); 5] {
-    let month_short = MonthShort::default();
-    let month_long = MonthLong::default();
-    let month_numerical = MonthNumerical::default();
+fn months_and_years(told: &mut String) {
+    let month = MonthShort::default();
+    tell(told, Component::MonthShort(month));
+    tell(
+        told,
+        Component::MonthShort(month.with_case_sensitive(false)),
+    );
+    let month = MonthLong::default();
+    tell(told, Component::MonthLong(month));
+    tell(told, Component::MonthLong(month.with_case_sensitive(false)));
+    let month = MonthNumerical::default();
+    tell(told, Component::MonthNumerical(month));
+    tell(
+        told,
+        Component::MonthNumerical(month.with_padding(Padding::Space)),
+    );
     let month = Month::default();
+    tell(told, Component::Month(month));
+    let month = month
+        .with_padding(Padding::Space)
+        .with_repr(MonthRepr::Short)
+        .with_case_sensitive(false);
+    tell(told, Component::Month(month));
     let year = Year::default();
-    [
-        (
-            Component::MonthShort(month_short),
-            Component::MonthShort(month_short.with_case_sensitive(false)),
-        ),
-        (
-            Component::MonthLong(month_long),
-            Component::MonthLong(month_long.with_case_sensitive(false)),
-        ),
-        (
-            Component::MonthNumerical(month_numerical),
-            Component::MonthNumerical(month_numerical.with_padding(Padding::Space)),
-        ),
-        (
-            Component::Month(month),
-            Component::Month(
-                month
-                    .with_padding(Padding::Space)
-                    .with_repr(MonthRepr::Short)
-                    .with_case_sensitive(false),
-            ),
-        ),
-        (
-            Component::Year(year),
-            Component::Year(
-                year.with_padding(Padding::Space)
-                    .with_repr(YearRepr::Century)
-                    .with_range(YearRange::Standard)
-                    .with_iso_week_based(true)
-                    .with_sign_is_mandatory(true),
-            ),
-        ),
-    ]
+    tell(told, Component::Year(year));
+    let year = year
+        .with_padding(Padding::Space)
+        .with_repr(YearRepr::Century)
+        .with_range(YearRange::Standard)
+        .with_iso_week_based(true)
+        .with_sign_is_mandatory(true);
+    tell(told, Component::Year(year));
 }
 
-const YEARS_OF_THE_CALENDAR: &str = r#"
-CalendarYearFullExtendedRange(CalendarYearFullExtendedRange { padding: Zero, sign_is_mandatory: false }) CalendarYearFullExtendedRange(CalendarYearFullExtendedRange { padding: Space, sign_is_mandatory: true })
-CalendarYearFullStandardRange(CalendarYearFullStandardRange { padding: Zero, sign_is_mandatory: false }) CalendarYearFullStandardRange(CalendarYearFullStandardRange { padding: Space, sign_is_mandatory: true })
-CalendarYearCenturyExtendedRange(CalendarYearCenturyExtendedRange { padding: Zero, sign_is_mandatory: false }) CalendarYearCenturyExtendedRange(CalendarYearCenturyExtendedRange { padding: Space, sign_is_mandatory: true })
-CalendarYearCenturyStandardRange(CalendarYearCenturyStandardRange { padding: Zero, sign_is_mandatory: false }) CalendarYearCenturyStandardRange(CalendarYearCenturyStandardRange { padding: Space, sign_is_mandatory: true })
-CalendarYearLastTwo(CalendarYearLastTwo { padding: Zero }) CalendarYearLastTwo(CalendarYearLastTwo { padding: Space })"#;
-
-fn years_of_the_calendar() -> [(Component, Component); 5] {
-    let calendar_year_full_extended_range = CalendarYearFullExtendedRange::default();
-    let calendar_year_full_standard_range = CalendarYearFullStandardRange::default();
-    let calendar_year_century_extended_range = CalendarYearCenturyExtendedRange::default();
-    let calendar_year_century_standard_range = CalendarYearCenturyStandardRange::default();
-    let calendar_year_last_two = CalendarYearLastTwo::default();
-    [
-        (
-            Component::CalendarYearFullExtendedRange(calendar_year_full_extended_range),
-            Component::CalendarYearFullExtendedRange(
-                calendar_year_full_extended_range
-                    .with_padding(Padding::Space)
-                    .with_sign_is_mandatory(true),
-            ),
-        ),
-        (
-            Component::CalendarYearFullStandardRange(calendar_year_full_standard_range),
-            Component::CalendarYearFullStandardRange(
-                calendar_year_full_standard_range
-                    .with_padding(Padding::Space)
-                    .with_sign_is_mandatory(true),
-            ),
-        ),
-        (
-            Component::CalendarYearCenturyExtendedRange(calendar_year_century_extended_range),
-            Component::CalendarYearCenturyExtendedRange(
-                calendar_year_century_extended_range
-                    .with_padding(Padding::Space)
-                    .with_sign_is_mandatory(true),
-            ),
-        ),
-        (
-            Component::CalendarYearCenturyStandardRange(calendar_year_century_standard_range),
-            Component::CalendarYearCenturyStandardRange(
-                calendar_year_century_standard_range
-                    .with_padding(Padding::Space)
-                    .with_sign_is_mandatory(true),
-            ),
-        ),
-        (
-            Component::CalendarYearLastTwo(calendar_year_last_two),
-            Component::CalendarYearLastTwo(calendar_year_last_two.with_padding(Padding::Space)),
-        ),
-    ]
+fn years_of_the_calendar(told: &mut String) {
+    let year = CalendarYearFullExtendedRange::default();
+    tell(told, Component::CalendarYearFullExtendedRange(year));
+    let year = year
+        .with_padding(Padding::Space)
+        .with_sign_is_mandatory(true);
+    tell(told, Component::CalendarYearFullExtendedRange(year));
+    let year = CalendarYearFullStandardRange::default();
+    tell(told, Component::CalendarYearFullStandardRange(year));
+    let year = year
+        .with_padding(Padding::Space)
+        .with_sign_is_mandatory(true);
+    tell(told, Component::CalendarYearFullStandardRange(year));
+    let year = CalendarYearCenturyExtendedRange::default();
+    tell(told, Component::CalendarYearCenturyExtendedRange(year));
+    let year = year
+        .with_padding(Padding::Space)
+        .with_sign_is_mandatory(true);
+    tell(told, Component::CalendarYearCenturyExtendedRange(year));
+    let year = CalendarYearCenturyStandardRange::default();
+    tell(told, Component::CalendarYearCenturyStandardRange(year));
+    let year = year
+        .with_padding(Padding::Space)
+        .with_sign_is_mandatory(true);
+    tell(told, Component::CalendarYearCenturyStandardRange(year));
+    let year = CalendarYearLastTwo::default();
+    tell(told, Component::CalendarYearLastTwo(year));
+    let year = year.with_padding(Padding::Space);
+    tell(told, Component::CalendarYearLastTwo(year));
 }
 
-const YEARS_OF_WEEKS: &str = r#"
-IsoYearFullExtendedRange(IsoYearFullExtendedRange { padding: Zero, sign_is_mandatory: false }) IsoYearFullExtendedRange(IsoYearFullExtendedRange { padding: Space, sign_is_mandatory: true })
-IsoYearFullStandardRange(IsoYearFullStandardRange { padding: Zero, sign_is_mandatory: false }) IsoYearFullStandardRange(IsoYearFullStandardRange { padding: Space, sign_is_mandatory: true })
-IsoYearCenturyExtendedRange(IsoYearCenturyExtendedRange { padding: Zero, sign_is_mandatory: false }) IsoYearCenturyExtendedRange(IsoYearCenturyExtendedRange { padding: Space, sign_is_mandatory: true })
-IsoYearCenturyStandardRange(IsoYearCenturyStandardRange { padding: Zero, sign_is_mandatory: false }) IsoYearCenturyStandardRange(IsoYearCenturyStandardRange { padding: Space, sign_is_mandatory: true })
-IsoYearLastTwo(IsoYearLastTwo { padding: Zero }) IsoYearLastTwo(IsoYearLastTwo { padding: Space })"#;
-
-fn years_of_weeks() -> [(Component, Component); 5] {
-    let iso_year_full_extended_range = IsoYearFullExtendedRange::default();
-    let iso_year_full_standard_range = IsoYearFullStandardRange::default();
-    let iso_year_century_extended_range = IsoYearCenturyExtendedRange::default();
-    let iso_year_century_standard_range = IsoYearCenturyStandardRange::default();
-    let iso_year_last_two = IsoYearLastTwo::default();
-    [
-        (
-            Component::IsoYearFullExtendedRange(iso_year_full_extended_range),
-            Component::IsoYearFullExtendedRange(
-                iso_year_full_extended_range
-                    .with_padding(Padding::Space)
-                    .with_sign_is_mandatory(true),
-            ),
-        ),
-        (
-            Component::IsoYearFullStandardRange(iso_year_full_standard_range),
-            Component::IsoYearFullStandardRange(
-                iso_year_full_standard_range
-                    .with_padding(Padding::Space)
-                    .with_sign_is_mandatory(true),
-            ),
-        ),
-        (
-            Component::IsoYearCenturyExtendedRange(iso_year_century_extended_range),
-            Component::IsoYearCenturyExtendedRange(
-                iso_year_century_extended_range
-                    .with_padding(Padding::Space)
-                    .with_sign_is_mandatory(true),
-            ),
-        ),
-        (
-            Component::IsoYearCenturyStandardRange(iso_year_century_standard_range),
-            Component::IsoYearCenturyStandardRange(
-                iso_year_century_standard_range
-                    .with_padding(Padding::Space)
-                    .with_sign_is_mandatory(true),
-            ),
-        ),
-        (
-            Component::IsoYearLastTwo(iso_year_last_two),
-            Component::IsoYearLastTwo(iso_year_last_two.with_padding(Padding::Space)),
-        ),
-    ]
+fn years_of_weeks(told: &mut String) {
+    let year = IsoYearFullExtendedRange::default();
+    tell(told, Component::IsoYearFullExtendedRange(year));
+    let year = year
+        .with_padding(Padding::Space)
+        .with_sign_is_mandatory(true);
+    tell(told, Component::IsoYearFullExtendedRange(year));
+    let year = IsoYearFullStandardRange::default();
+    tell(told, Component::IsoYearFullStandardRange(year));
+    let year = year
+        .with_padding(Padding::Space)
+        .with_sign_is_mandatory(true);
+    tell(told, Component::IsoYearFullStandardRange(year));
+    let year = IsoYearCenturyExtendedRange::default();
+    tell(told, Component::IsoYearCenturyExtendedRange(year));
+    let year = year
+        .with_padding(Padding::Space)
+        .with_sign_is_mandatory(true);
+    tell(told, Component::IsoYearCenturyExtendedRange(year));
+    let year = IsoYearCenturyStandardRange::default();
+    tell(told, Component::IsoYearCenturyStandardRange(year));
+    let year = year
+        .with_padding(Padding::Space)
+        .with_sign_is_mandatory(true);
+    tell(told, Component::IsoYearCenturyStandardRange(year));
+    let year = IsoYearLastTwo::default();
+    tell(told, Component::IsoYearLastTwo(year));
+    tell(
+        told,
+        Component::IsoYearLastTwo(year.with_padding(Padding::Space)),
+    );
 }
 
-const TIMES_AND_ENDS: &str = r#"
-Hour12(Hour12 { padding: Zero }) Hour12(Hour12 { padding: Space })
-Hour24(Hour24 { padding: Zero }) Hour24(Hour24 { padding: Space })
-Hour(Hour { padding: Zero, is_12_hour_clock: false }) Hour(Hour { padding: Space, is_12_hour_clock: true })
-Period(Period { is_uppercase: true, case_sensitive: true }) Period(Period { is_uppercase: false, case_sensitive: false })
-Minute(Minute { padding: Zero }) Minute(Minute { padding: Space })
-Second(Second { padding: Zero }) Second(Second { padding: Space })
-Subsecond(Subsecond { digits: OneOrMore }) Subsecond(Subsecond { digits: Three })
-End(End { trailing_input: Prohibit }) End(End { trailing_input: Discard })"#;
-
-fn times_and_ends() -> [(Component, Component); 8] {
-    let hour_12 = Hour12::default();
-    let hour_24 = Hour24::default();
+fn hours(told: &mut String) {
+    let hour = Hour12::default();
+    tell(told, Component::Hour12(hour));
+    tell(told, Component::Hour12(hour.with_padding(Padding::Space)));
+    let hour = Hour24::default();
+    tell(told, Component::Hour24(hour));
+    tell(told, Component::Hour24(hour.with_padding(Padding::Space)));
     let hour = Hour::default();
+    tell(told, Component::Hour(hour));
+    let hour = hour
+        .with_padding(Padding::Space)
+        .with_is_12_hour_clock(true);
+    tell(told, Component::Hour(hour));
     let period = Period::default();
+    tell(told, Component::Period(period));
+    let period = period.with_is_uppercase(false).with_case_sensitive(false);
+    tell(told, Component::Period(period));
+}
+
+fn minutes_and_ends(told: &mut String) {
     let minute = Minute::default();
+    tell(told, Component::Minute(minute));
+    tell(told, Component::Minute(minute.with_padding(Padding::Space)));
     let second = Second::default();
+    tell(told, Component::Second(second));
+    tell(told, Component::Second(second.with_padding(Padding::Space)));
     let subsecond = Subsecond::default();
+    tell(told, Component::Subsecond(subsecond));
+    let subsecond = subsecond.with_digits(SubsecondDigits::Three);
+    tell(told, Component::Subsecond(subsecond));
     let end = End::default();
-    [
-        (
-            Component::Hour12(hour_12),
-            Component::Hour12(hour_12.with_padding(Padding::Space)),
-        ),
-        (
-            Component::Hour24(hour_24),
-            Component::Hour24(hour_24.with_padding(Padding::Space)),
-        ),
-        (
-            Component::Hour(hour),
-            Component::Hour(
-                hour.with_padding(Padding::Space)
-                    .with_is_12_hour_clock(true),
-            ),
-        ),
-        (
-            Component::Period(period),
-            Component::Period(period.with_is_uppercase(false).with_case_sensitive(false)),
-        ),
-        (
-            Component::Minute(minute),
-            Component::Minute(minute.with_padding(Padding::Space)),
-        ),
-        (
-            Component::Second(second),
-            Component::Second(second.with_padding(Padding::Space)),
-        ),
-        (
-            Component::Subsecond(subsecond),
-            Component::Subsecond(subsecond.with_digits(SubsecondDigits::Three)),
-        ),
-        (
-            Component::End(end),
-            Component::End(end.with_trailing_input(TrailingInput::Discard)),
-        ),
-    ]
+    tell(told, Component::End(end));
+    tell(
+        told,
+        Component::End(end.with_trailing_input(TrailingInput::Discard)),
+    );
 }
 
-const OFFSETS_AND_TIMESTAMPS: &str = r#"
-OffsetHour(OffsetHour { sign_is_mandatory: false, padding: Zero }) OffsetHour(OffsetHour { sign_is_mandatory: true, padding: Space })
-OffsetMinute(OffsetMinute { padding: Zero }) OffsetMinute(OffsetMinute { padding: Space })
-OffsetSecond(OffsetSecond { padding: Zero }) OffsetSecond(OffsetSecond { padding: Space })
-UnixTimestampSecond(UnixTimestampSecond { sign_is_mandatory: false }) UnixTimestampSecond(UnixTimestampSecond { sign_is_mandatory: true })
-UnixTimestampMillisecond(UnixTimestampMillisecond { sign_is_mandatory: false }) UnixTimestampMillisecond(UnixTimestampMillisecond { sign_is_mandatory: true })
-UnixTimestampMicrosecond(UnixTimestampMicrosecond { sign_is_mandatory: false }) UnixTimestampMicrosecond(UnixTimestampMicrosecond { sign_is_mandatory: true })
-UnixTimestampNanosecond(UnixTimestampNanosecond { sign_is_mandatory: false }) UnixTimestampNanosecond(UnixTimestampNanosecond { sign_is_mandatory: true })
-UnixTimestamp(UnixTimestamp { precision: Second, sign_is_mandatory: false }) UnixTimestamp(UnixTimestamp { precision: Microsecond, sign_is_mandatory: true })"#;
+fn offsets(told: &mut String) {
+    let offset = OffsetHour::default();
+    tell(told, Component::OffsetHour(offset));
+    let offset = offset
+        .with_sign_is_mandatory(true)
+        .with_padding(Padding::Space);
+    tell(told, Component::OffsetHour(offset));
+    let offset = OffsetMinute::default();
+    tell(told, Component::OffsetMinute(offset));
+    tell(
+        told,
+        Component::OffsetMinute(offset.with_padding(Padding::Space)),
+    );
+    let offset = OffsetSecond::default();
+    tell(told, Component::OffsetSecond(offset));
+    tell(
+        told,
+        Component::OffsetSecond(offset.with_padding(Padding::Space)),
+    );
+}
 
-fn offsets_and_timestamps() -> [(Component, Component); 8] {
-    let offset_hour = OffsetHour::default();
-    let offset_minute = OffsetMinute::default();
-    let offset_second = OffsetSecond::default();
-    let unix_timestamp_second = UnixTimestampSecond::default();
-    let unix_timestamp_millisecond = UnixTimestampMillisecond::default();
-    let unix_timestamp_microsecond = UnixTimestampMicrosecond::default();
-    let unix_timestamp_nanosecond = UnixTimestampNanosecond::default();
-    let unix_timestamp = UnixTimestamp::default();
-    [
-        (
-            Component::OffsetHour(offset_hour),
-            Component::OffsetHour(
-                offset_hour
-                    .with_sign_is_mandatory(true)
-                    .with_padding(Padding::Space),
-            ),
-        ),
-        (
-            Component::OffsetMinute(offset_minute),
-            Component::OffsetMinute(offset_minute.with_padding(Padding::Space)),
-        ),
-        (
-            Component::OffsetSecond(offset_second),
-            Component::OffsetSecond(offset_second.with_padding(Padding::Space)),
-        ),
-        (
-            Component::UnixTimestampSecond(unix_timestamp_second),
-            Component::UnixTimestampSecond(unix_timestamp_second.with_sign_is_mandatory(true)),
-        ),
-        (
-            Component::UnixTimestampMillisecond(unix_timestamp_millisecond),
-            Component::UnixTimestampMillisecond(unix_timestamp_millisecond.with_sign_is_mandatory(
-                true,
-            )),
-        ),
-        (
-            Component::UnixTimestampMicrosecond(unix_timestamp_microsecond),
-            Component::UnixTimestampMicrosecond(unix_timestamp_microsecond.with_sign_is_mandatory(
-                true,
-            )),
-        ),
-        (
-            Component::UnixTimestampNanosecond(unix_timestamp_nanosecond),
-            Component::UnixTimestampNanosecond(unix_timestamp_nanosecond.with_sign_is_mandatory(
-                true,
-            )),
-        ),
-        (
-            Component::UnixTimestamp(unix_timestamp),
-            Component::UnixTimestamp(
-                unix_timestamp
-                    .with_precision(UnixTimestampPrecision::Microsecond)
-                    .with_sign_is_mandatory(true),
-            ),
-        ),
-    ]
+fn timestamps(told: &mut String) {
+    let timestamp = UnixTimestampSecond::default();
+    tell(told, Component::UnixTimestampSecond(timestamp));
+    let timestamp = timestamp.with_sign_is_mandatory(true);
+    tell(told, Component::UnixTimestampSecond(timestamp));
+    let timestamp = UnixTimestampMillisecond::default();
+    tell(told, Component::UnixTimestampMillisecond(timestamp));
+    let timestamp = timestamp.with_sign_is_mandatory(true);
+    tell(told, Component::UnixTimestampMillisecond(timestamp));
+    let timestamp = UnixTimestampMicrosecond::default();
+    tell(told, Component::UnixTimestampMicrosecond(timestamp));
+    let timestamp = timestamp.with_sign_is_mandatory(true);
+    tell(told, Component::UnixTimestampMicrosecond(timestamp));
+    let timestamp = UnixTimestampNanosecond::default();
+    tell(told, Component::UnixTimestampNanosecond(timestamp));
+    let timestamp = timestamp.with_sign_is_mandatory(true);
+    tell(told, Component::UnixTimestampNanosecond(timestamp));
+    let timestamp = UnixTimestamp::default();
+    tell(told, Component::UnixTimestamp(timestamp));
+    let timestamp = timestamp
+        .with_precision(UnixTimestampPrecision::Microsecond)
+        .with_sign_is_mandatory(true);
+    tell(told, Component::UnixTimestamp(timestamp));
+}
+
+fn told(alloc: Global) -> String {
+    let mut told = String::new(alloc);
+    days_and_weeks(&mut told);
+    weekdays(&mut told);
+    months_and_years(&mut told);
+    years_of_the_calendar(&mut told);
+    years_of_weeks(&mut told);
+    hours(&mut told);
+    minutes_and_ends(&mut told);
+    offsets(&mut told);
+    timestamps(&mut told);
+    told
 }
 
 #[test]
-fn days_months_and_times_change(rt: HostRuntime) {
-    let alloc = rt.alloc();
-    assert!(rt; are_told(alloc, &days_and_weeks(), DAYS_AND_WEEKS));
-    assert!(rt; are_told(alloc, &months_and_years(), MONTHS_AND_YEARS));
-    assert!(rt; are_told(alloc, &times_and_ends(), TIMES_AND_ENDS));
+fn modifiers_have_defaults_and_change(rt: HostRuntime) {
+    assert!(rt; told(rt.alloc()).as_str() == TOLD);
 }
 
-#[test]
-fn years_offsets_and_timestamps_change(rt: HostRuntime) {
-    let alloc = rt.alloc();
-    assert!(rt; are_told(alloc, &years_of_the_calendar(), YEARS_OF_THE_CALENDAR));
-    assert!(rt; are_told(alloc, &years_of_weeks(), YEARS_OF_WEEKS));
-    assert!(rt; are_told(alloc, &offsets_and_timestamps(), OFFSETS_AND_TIMESTAMPS));
-}
+// Each component by default, and then changed.
+const TOLD: &str = r#"
+Day(Day { padding: Zero })
+Day(Day { padding: Space })
+Ordinal(Ordinal { padding: Zero })
+Ordinal(Ordinal { padding: Space })
+WeekNumberIso(WeekNumberIso { padding: Zero })
+WeekNumberIso(WeekNumberIso { padding: Space })
+WeekNumberSunday(WeekNumberSunday { padding: Zero })
+WeekNumberSunday(WeekNumberSunday { padding: Space })
+WeekNumberMonday(WeekNumberMonday { padding: Zero })
+WeekNumberMonday(WeekNumberMonday { padding: Space })
+WeekNumber(WeekNumber { padding: Zero, repr: Iso })
+WeekNumber(WeekNumber { padding: Space, repr: Sunday })
+WeekdayShort(WeekdayShort { case_sensitive: true })
+WeekdayShort(WeekdayShort { case_sensitive: false })
+WeekdayLong(WeekdayLong { case_sensitive: true })
+WeekdayLong(WeekdayLong { case_sensitive: false })
+WeekdaySunday(WeekdaySunday { one_indexed: true })
+WeekdaySunday(WeekdaySunday { one_indexed: false })
+WeekdayMonday(WeekdayMonday { one_indexed: true })
+WeekdayMonday(WeekdayMonday { one_indexed: false })
+Weekday(Weekday { repr: Long, one_indexed: true, case_sensitive: true })
+Weekday(Weekday { repr: Monday, one_indexed: false, case_sensitive: false })
+MonthShort(MonthShort { case_sensitive: true })
+MonthShort(MonthShort { case_sensitive: false })
+MonthLong(MonthLong { case_sensitive: true })
+MonthLong(MonthLong { case_sensitive: false })
+MonthNumerical(MonthNumerical { padding: Zero })
+MonthNumerical(MonthNumerical { padding: Space })
+Month(Month { padding: Zero, repr: Numerical, case_sensitive: true })
+Month(Month { padding: Space, repr: Short, case_sensitive: false })
+Year(Year { padding: Zero, repr: Full, range: Extended, iso_week_based: false, sign_is_mandatory: false })
+Year(Year { padding: Space, repr: Century, range: Standard, iso_week_based: true, sign_is_mandatory: true })
+CalendarYearFullExtendedRange(CalendarYearFullExtendedRange { padding: Zero, sign_is_mandatory: false })
+CalendarYearFullExtendedRange(CalendarYearFullExtendedRange { padding: Space, sign_is_mandatory: true })
+CalendarYearFullStandardRange(CalendarYearFullStandardRange { padding: Zero, sign_is_mandatory: false })
+CalendarYearFullStandardRange(CalendarYearFullStandardRange { padding: Space, sign_is_mandatory: true })
+CalendarYearCenturyExtendedRange(CalendarYearCenturyExtendedRange { padding: Zero, sign_is_mandatory: false })
+CalendarYearCenturyExtendedRange(CalendarYearCenturyExtendedRange { padding: Space, sign_is_mandatory: true })
+CalendarYearCenturyStandardRange(CalendarYearCenturyStandardRange { padding: Zero, sign_is_mandatory: false })
+CalendarYearCenturyStandardRange(CalendarYearCenturyStandardRange { padding: Space, sign_is_mandatory: true })
+CalendarYearLastTwo(CalendarYearLastTwo { padding: Zero })
+CalendarYearLastTwo(CalendarYearLastTwo { padding: Space })
+IsoYearFullExtendedRange(IsoYearFullExtendedRange { padding: Zero, sign_is_mandatory: false })
+IsoYearFullExtendedRange(IsoYearFullExtendedRange { padding: Space, sign_is_mandatory: true })
+IsoYearFullStandardRange(IsoYearFullStandardRange { padding: Zero, sign_is_mandatory: false })
+IsoYearFullStandardRange(IsoYearFullStandardRange { padding: Space, sign_is_mandatory: true })
+IsoYearCenturyExtendedRange(IsoYearCenturyExtendedRange { padding: Zero, sign_is_mandatory: false })
+IsoYearCenturyExtendedRange(IsoYearCenturyExtendedRange { padding: Space, sign_is_mandatory: true })
+IsoYearCenturyStandardRange(IsoYearCenturyStandardRange { padding: Zero, sign_is_mandatory: false })
+IsoYearCenturyStandardRange(IsoYearCenturyStandardRange { padding: Space, sign_is_mandatory: true })
+IsoYearLastTwo(IsoYearLastTwo { padding: Zero })
+IsoYearLastTwo(IsoYearLastTwo { padding: Space })
+Hour12(Hour12 { padding: Zero })
+Hour12(Hour12 { padding: Space })
+Hour24(Hour24 { padding: Zero })
+Hour24(Hour24 { padding: Space })
+Hour(Hour { padding: Zero, is_12_hour_clock: false })
+Hour(Hour { padding: Space, is_12_hour_clock: true })
+Period(Period { is_uppercase: true, case_sensitive: true })
+Period(Period { is_uppercase: false, case_sensitive: false })
+Minute(Minute { padding: Zero })
+Minute(Minute { padding: Space })
+Second(Second { padding: Zero })
+Second(Second { padding: Space })
+Subsecond(Subsecond { digits: OneOrMore })
+Subsecond(Subsecond { digits: Three })
+End(End { trailing_input: Prohibit })
+End(End { trailing_input: Discard })
+OffsetHour(OffsetHour { sign_is_mandatory: false, padding: Zero })
+OffsetHour(OffsetHour { sign_is_mandatory: true, padding: Space })
+OffsetMinute(OffsetMinute { padding: Zero })
+OffsetMinute(OffsetMinute { padding: Space })
+OffsetSecond(OffsetSecond { padding: Zero })
+OffsetSecond(OffsetSecond { padding: Space })
+UnixTimestampSecond(UnixTimestampSecond { sign_is_mandatory: false })
+UnixTimestampSecond(UnixTimestampSecond { sign_is_mandatory: true })
+UnixTimestampMillisecond(UnixTimestampMillisecond { sign_is_mandatory: false })
+UnixTimestampMillisecond(UnixTimestampMillisecond { sign_is_mandatory: true })
+UnixTimestampMicrosecond(UnixTimestampMicrosecond { sign_is_mandatory: false })
+UnixTimestampMicrosecond(UnixTimestampMicrosecond { sign_is_mandatory: true })
+UnixTimestampNanosecond(UnixTimestampNanosecond { sign_is_mandatory: false })
+UnixTimestampNanosecond(UnixTimestampNanosecond { sign_is_mandatory: true })
+UnixTimestamp(UnixTimestamp { precision: Second, sign_is_mandatory: false })
+UnixTimestamp(UnixTimestamp { precision: Microsecond, sign_is_mandatory: true })"#;
 
 #[test]
 fn ignore_passes_over_a_byte_at_least(rt: HostRuntime) {

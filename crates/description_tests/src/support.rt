@@ -1,21 +1,8 @@
-//! Components as they are shown.
+//! What is shown for debugging.
 
-use description_items::Component;
-use std::alloc::{AllocError, Global};
+use std::fmt::Debug;
 
-// Each component beside another one, a line each.
-fn told(alloc: Global, rows: &[(Component, Component)]) -> Result<String, AllocError> {
-    let mut told = String::new(alloc);
-    for (first, other) in rows {
-        write!(told, "\n{first:?} {other:?}")?;
-    }
-    Ok(told)
-}
-
-// Whether they are told so. That memory runs out fails the test.
-pub fn are_told(alloc: Global, rows: &[(Component, Component)], wanted: &str) -> bool {
-    match told(alloc, rows) {
-        Ok(told) => told.as_str() == wanted,
-        Err(_) => false,
-    }
+// Adds a value on a line of its own. Where memory runs out the line is missing, which fails the test.
+pub fn tell<T: Debug + Drop>(told: &mut String, value: T) {
+    let _ = write!(told, "\n{value:?}");
 }
