@@ -29,7 +29,7 @@ A fence that begins with ```sh builds is not run: its commands build, which take
 error, so that none is left out by a slip, and so is a fence of another kind but those of code that the list below names.
 
 The page of each family's crate, the `//!` lines at the head of its `src/lib.rt`, has one fence, whose lines stand one
-after the other in the file `src/page.rt` of the family's tests, which the gate proves and runs.
+after the other in the file `src/page.rt` of a crate of tests, which the gate proves and runs.
 
 Without --document it also asks the tools that write pages from the sources, or compare one with them, whether each is current.
 
@@ -66,7 +66,14 @@ DOCUMENTS = (
     "docs/instants.1",
     "docs/instants-lines.1",
 )
-PAGES = ("calendar", "datetime", "description", "parsing", "instants")
+# The crates with a page, and the crate of tests where its lines stand.
+PAGES = {
+    "calendar": "datetime_tests",
+    "datetime": "datetime_tests",
+    "description": "description_tests",
+    "parsing": "parsing_tests",
+    "instants": "instants_tests",
+}
 # What commands name of what is built, beside the two programs.
 BUILT = ("crates/description_check/out/description_check", "crates/instants_c/out/libinstants")
 # The tools that say whether a page is as the sources have it.
@@ -290,7 +297,7 @@ def test_page(crate: str) -> None:
     """The lines of a crate's page stand in the family's tests."""
     fences = fences_of_page(crate)
     assert len(fences) == 1
-    rows = [row.strip() for row in (ROOT / "crates" / f"{crate}_tests" / "src" / "page.rt").read_text().split("\n")]
+    rows = [row.strip() for row in (ROOT / "crates" / PAGES[crate] / "src" / "page.rt").read_text().split("\n")]
     due = fences[0]
     assert due and any(rows[at : at + len(due)] == due for at in range(len(rows)))
 

@@ -134,7 +134,7 @@ fn answers_every_call(rt: HostRuntime) {
     assert!(rt; both_answer(rt.alloc(), start, &calls, &replies, 1_000_000_000));
 }
 
-static SHOWN: [(i64, u32, Parts); 4] = [
+static SHOWN: [(i64, u32, Parts); 5] = [
     (-62_167_219_200, 0, ((0, Month::January, 1), (0, 0, 0, 0))),
     (
         -1,
@@ -142,6 +142,11 @@ static SHOWN: [(i64, u32, Parts); 4] = [
         ((1969, Month::December, 31), (23, 59, 59, 999_999_999)),
     ),
     (951_782_400, 0, ((2000, Month::February, 29), (0, 0, 0, 0))),
+    (
+        1_709_251_198,
+        0,
+        ((2024, Month::February, 29), (23, 59, 58, 0)),
+    ),
     (
         253_402_300_799,
         999_999_999,

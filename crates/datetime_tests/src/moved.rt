@@ -9,130 +9,126 @@ const DAY: SignedDuration = SignedDuration::DAY;
 
 const STEP: SignedDuration = SignedDuration::NANOSECOND;
 
-// Values a day later and earlier, by each call.
+// Values a day later and earlier, by each call: first by a duration with a sign, and then by one of std.
 
-fn plain_moved(value: PlainDateTime) -> Option<([PlainDateTime; 7], [PlainDateTime; 7])> {
-    let std_day = Duration::from_secs(86_400);
-    let (sum, std_sum) = (value.checked_add(DAY)?, value.checked_add_std(std_day)?);
-    let (difference, std_difference) = (value.checked_sub(DAY)?, value.checked_sub_std(std_day)?);
-    let (mut later, mut std_later, mut earlier, mut std_earlier) = (value, value, value, value);
+fn plain_later(value: PlainDateTime) -> Option<[PlainDateTime; 4]> {
+    let sum = value.checked_add(DAY)?;
+    let mut later = value;
     later += DAY;
-    std_later += std_day;
-    earlier -= DAY;
-    std_earlier -= std_day;
-    Some((
-        [
-            sum,
-            std_sum,
-            value.saturating_add(DAY),
-            value + DAY,
-            value + std_day,
-            later,
-            std_later,
-        ],
-        [
-            difference,
-            std_difference,
-            value.saturating_sub(DAY),
-            value - DAY,
-            value - std_day,
-            earlier,
-            std_earlier,
-        ],
-    ))
+    Some([sum, value.saturating_add(DAY), value + DAY, later])
 }
 
-fn utc_moved(value: UtcDateTime) -> Option<([UtcDateTime; 7], [UtcDateTime; 7])> {
-    let std_day = Duration::from_secs(86_400);
-    let (sum, std_sum) = (value.checked_add(DAY)?, value.checked_add_std(std_day)?);
-    let (difference, std_difference) = (value.checked_sub(DAY)?, value.checked_sub_std(std_day)?);
-    let (mut later, mut std_later, mut earlier, mut std_earlier) = (value, value, value, value);
-    later += DAY;
-    std_later += std_day;
-    earlier -= DAY;
-    std_earlier -= std_day;
-    Some((
-        [
-            sum,
-            std_sum,
-            value.saturating_add(DAY),
-            value + DAY,
-            value + std_day,
-            later,
-            std_later,
-        ],
-        [
-            difference,
-            std_difference,
-            value.saturating_sub(DAY),
-            value - DAY,
-            value - std_day,
-            earlier,
-            std_earlier,
-        ],
-    ))
+fn plain_later_by_std(value: PlainDateTime) -> Option<[PlainDateTime; 3]> {
+    let day = Duration::from_secs(86_400);
+    let sum = value.checked_add_std(day)?;
+    let mut later = value;
+    later += day;
+    Some([sum, value + day, later])
 }
 
-fn timestamp_moved(value: Timestamp) -> Option<([Timestamp; 7], [Timestamp; 7])> {
-    let std_day = Duration::from_secs(86_400);
-    let (sum, std_sum) = (value.checked_add(DAY)?, value.checked_add_std(std_day)?);
-    let (difference, std_difference) = (value.checked_sub(DAY)?, value.checked_sub_std(std_day)?);
-    let (mut later, mut std_later, mut earlier, mut std_earlier) = (value, value, value, value);
-    later += DAY;
-    std_later += std_day;
+fn plain_earlier(value: PlainDateTime) -> Option<[PlainDateTime; 4]> {
+    let difference = value.checked_sub(DAY)?;
+    let mut earlier = value;
     earlier -= DAY;
-    std_earlier -= std_day;
-    Some((
-        [
-            sum,
-            std_sum,
-            value.saturating_add(DAY),
-            value + DAY,
-            value + std_day,
-            later,
-            std_later,
-        ],
-        [
-            difference,
-            std_difference,
-            value.saturating_sub(DAY),
-            value - DAY,
-            value - std_day,
-            earlier,
-            std_earlier,
-        ],
-    ))
+    Some([difference, value.saturating_sub(DAY), value - DAY, earlier])
 }
 
-fn moment_moved(value: OffsetDateTime) -> Option<([OffsetDateTime; 7], [OffsetDateTime; 7])> {
-    let std_day = Duration::from_secs(86_400);
-    let (sum, std_sum) = (value.checked_add(DAY)?, value.checked_add_std(std_day)?);
-    let (difference, std_difference) = (value.checked_sub(DAY)?, value.checked_sub_std(std_day)?);
-    let (mut later, mut std_later, mut earlier, mut std_earlier) = (value, value, value, value);
+fn plain_earlier_by_std(value: PlainDateTime) -> Option<[PlainDateTime; 3]> {
+    let day = Duration::from_secs(86_400);
+    let difference = value.checked_sub_std(day)?;
+    let mut earlier = value;
+    earlier -= day;
+    Some([difference, value - day, earlier])
+}
+
+fn utc_later(value: UtcDateTime) -> Option<[UtcDateTime; 4]> {
+    let sum = value.checked_add(DAY)?;
+    let mut later = value;
     later += DAY;
-    std_later += std_day;
+    Some([sum, value.saturating_add(DAY), value + DAY, later])
+}
+
+fn utc_later_by_std(value: UtcDateTime) -> Option<[UtcDateTime; 3]> {
+    let day = Duration::from_secs(86_400);
+    let sum = value.checked_add_std(day)?;
+    let mut later = value;
+    later += day;
+    Some([sum, value + day, later])
+}
+
+fn utc_earlier(value: UtcDateTime) -> Option<[UtcDateTime; 4]> {
+    let difference = value.checked_sub(DAY)?;
+    let mut earlier = value;
     earlier -= DAY;
-    std_earlier -= std_day;
-    Some((
-        [
-            sum,
-            std_sum,
-            value.saturating_add(DAY),
-            value + DAY,
-            value + std_day,
-            later,
-            std_later,
-        ],
-        [
-            difference,
-            std_difference,
-            value.saturating_sub(DAY),
-            value - DAY,
-            value - std_day,
-            earlier,
-            std_earlier,
-        ],
-    ))
+    Some([difference, value.saturating_sub(DAY), value - DAY, earlier])
+}
+
+fn utc_earlier_by_std(value: UtcDateTime) -> Option<[UtcDateTime; 3]> {
+    let day = Duration::from_secs(86_400);
+    let difference = value.checked_sub_std(day)?;
+    let mut earlier = value;
+    earlier -= day;
+    Some([difference, value - day, earlier])
+}
+
+fn timestamp_later(value: Timestamp) -> Option<[Timestamp; 4]> {
+    let sum = value.checked_add(DAY)?;
+    let mut later = value;
+    later += DAY;
+    Some([sum, value.saturating_add(DAY), value + DAY, later])
+}
+
+fn timestamp_later_by_std(value: Timestamp) -> Option<[Timestamp; 3]> {
+    let day = Duration::from_secs(86_400);
+    let sum = value.checked_add_std(day)?;
+    let mut later = value;
+    later += day;
+    Some([sum, value + day, later])
+}
+
+fn timestamp_earlier(value: Timestamp) -> Option<[Timestamp; 4]> {
+    let difference = value.checked_sub(DAY)?;
+    let mut earlier = value;
+    earlier -= DAY;
+    Some([difference, value.saturating_sub(DAY), value - DAY, earlier])
+}
+
+fn timestamp_earlier_by_std(value: Timestamp) -> Option<[Timestamp; 3]> {
+    let day = Duration::from_secs(86_400);
+    let difference = value.checked_sub_std(day)?;
+    let mut earlier = value;
+    earlier -= day;
+    Some([difference, value - day, earlier])
+}
+
+fn moment_later(value: OffsetDateTime) -> Option<[OffsetDateTime; 4]> {
+    let sum = value.checked_add(DAY)?;
+    let mut later = value;
+    later += DAY;
+    Some([sum, value.saturating_add(DAY), value + DAY, later])
+}
+
+fn moment_later_by_std(value: OffsetDateTime) -> Option<[OffsetDateTime; 3]> {
+    let day = Duration::from_secs(86_400);
+    let sum = value.checked_add_std(day)?;
+    let mut later = value;
+    later += day;
+    Some([sum, value + day, later])
+}
+
+fn moment_earlier(value: OffsetDateTime) -> Option<[OffsetDateTime; 4]> {
+    let difference = value.checked_sub(DAY)?;
+    let mut earlier = value;
+    earlier -= DAY;
+    Some([difference, value.saturating_sub(DAY), value - DAY, earlier])
+}
+
+fn moment_earlier_by_std(value: OffsetDateTime) -> Option<[OffsetDateTime; 3]> {
+    let day = Duration::from_secs(86_400);
+    let difference = value.checked_sub_std(day)?;
+    let mut earlier = value;
+    earlier -= day;
+    Some([difference, value - day, earlier])
 }
 
 #[test]
@@ -140,10 +136,17 @@ fn moves_by_a_day(rt: HostRuntime) {
     let (plain, utc, timestamp, moment) = evenings(leap_day());
     let later = evenings(date_of(2024, Month::March, 1));
     let earlier = evenings(date_of(2024, Month::February, 28));
-    assert!(rt; plain_moved(plain) == Some(([later.0; 7], [earlier.0; 7])));
-    assert!(rt; utc_moved(utc) == Some(([later.1; 7], [earlier.1; 7])));
-    assert!(rt; timestamp_moved(timestamp) == Some(([later.2; 7], [earlier.2; 7])));
-    assert!(rt; moment_moved(moment) == Some(([later.3; 7], [earlier.3; 7])));
+    assert!(rt;
+        [plain_later(plain), plain_earlier(plain)] == [Some([later.0; 4]), Some([earlier.0; 4])]
+    );
+    assert!(rt; [utc_later(utc), utc_earlier(utc)] == [Some([later.1; 4]), Some([earlier.1; 4])]);
+    assert!(rt;
+        [timestamp_later(timestamp), timestamp_earlier(timestamp)]
+            == [Some([later.2; 4]), Some([earlier.2; 4])]
+    );
+    assert!(rt;
+        [moment_later(moment), moment_earlier(moment)] == [Some([later.3; 4]), Some([earlier.3; 4])]
+    );
     let apart = [
         later.0 - plain,
         later.1 - utc,
@@ -151,6 +154,31 @@ fn moves_by_a_day(rt: HostRuntime) {
         later.3 - moment,
     ];
     assert!(rt; apart == [DAY; 4]);
+}
+
+#[test]
+fn moves_by_a_day_of_std(rt: HostRuntime) {
+    let (plain, utc, timestamp, moment) = evenings(leap_day());
+    let later = evenings(date_of(2024, Month::March, 1));
+    let earlier = evenings(date_of(2024, Month::February, 28));
+    assert!(rt;
+        [plain_later_by_std(plain), plain_earlier_by_std(plain)]
+            == [Some([later.0; 3]), Some([earlier.0; 3])]
+    );
+    assert!(rt;
+        [utc_later_by_std(utc), utc_earlier_by_std(utc)]
+            == [Some([later.1; 3]), Some([earlier.1; 3])]
+    );
+    assert!(rt;
+        [
+            timestamp_later_by_std(timestamp),
+            timestamp_earlier_by_std(timestamp)
+        ] == [Some([later.2; 3]), Some([earlier.2; 3])]
+    );
+    assert!(rt;
+        [moment_later_by_std(moment), moment_earlier_by_std(moment)]
+            == [Some([later.3; 3]), Some([earlier.3; 3])]
+    );
 }
 
 // Past both ends of the calendar there is nothing for the calls that answer so, and the other calls stop there.

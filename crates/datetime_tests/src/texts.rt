@@ -1,7 +1,11 @@
-//! Date-times as they are printed.
+//! Printed texts.
+use crate::durations;
 use crate::each_type::evenings;
 use crate::rows::{date_of, east, leap_day, offset_of, timestamp_of};
-use calendar::{Date, Month, Time};
+use calendar::{
+    ComponentName, ComponentRange, ConversionRange, Date, InvalidVariant, Month, SignedDuration,
+    Time, UtcOffset, Weekday,
+};
 use datetime::OffsetDateTime;
 use std::alloc::Global;
 use std::fmt;
@@ -99,4 +103,109 @@ fn prints_all_types(rt: HostRuntime) {
     for row in &TIMESTAMPS {
         assert!(rt; prints(rt.alloc(), timestamp_of(row.0, row.1), row.2));
     }
+}
+
+fn prints_days(alloc: Global) -> [bool; 5] {
+    let june = date_of(2024, Month::June, 9);
+    let before = date_of(-44, Month::March, 15);
+    let after = date_of(10_000, Month::January, 1);
+    [
+        prints(
+            alloc,
+            june,
+            "2024-06-09|2024-06-09|_________________2024-06-09_________________",
+        ),
+        prints(
+            alloc,
+            before,
+            "-0044-03-15|-0044-03-15|________________-0044-03-15_________________",
+        ),
+        prints(
+            alloc,
+            after,
+            "+10000-01-01|+10000-01-01|________________+10000-01-01________________",
+        ),
+        prints(
+            alloc,
+            Month::May,
+            "May|May|____________________May_____________________",
+        ),
+        prints(
+            alloc,
+            Weekday::Friday,
+            "Friday|Friday|___________________Friday___________________",
+        ),
+    ]
+}
+
+// A width counts characters, of which `µ` is one.
+fn prints_times_and_durations(alloc: Global) -> [bool; 6] {
+    let early = Time::from_seconds_nanoseconds(25_509, 1000);
+    let offset = UtcOffset::from_whole_seconds(-1805).unwrap_or(UtcOffset::UTC);
+    let sample = durations::sample();
+    let minute = SignedDuration::microseconds(-61_000_250);
+    [
+        prints(
+            alloc,
+            early,
+            "7:05:09.000001|7:05:09.000001|_______________7:05:09.000001_______________",
+        ),
+        prints(
+            alloc,
+            Time::MIDNIGHT,
+            "0:00:00.0|0:00:00.0|_________________0:00:00.0__________________",
+        ),
+        prints(
+            alloc,
+            offset,
+            "-00:30:05|-00:30:05|_________________-00:30:05__________________",
+        ),
+        prints(
+            alloc,
+            sample,
+            "-1d2h3m4s5ms1ns|-1d2h3m4s5ms1ns|______________-1d2h3m4s5ms1ns_______________",
+        ),
+        prints(
+            alloc,
+            minute,
+            "-1m1s250µs|-1m1s250µs|_________________-1m1s250µs_________________",
+        ),
+        prints(
+            alloc,
+            SignedDuration::ZERO,
+            "0s|0s|_____________________0s_____________________",
+        ),
+    ]
+}
+
+const DAY: &str = "day was not in range given values of other parameters|\
+    ComponentRange { component: Day, is_conditional: true }|\
+    day was not in range given values of other parameters";
+
+const JULIAN_DAY: &str = "julian_day was not in range|\
+    ComponentRange { component: JulianDay, is_conditional: false }|julian_day was not in range";
+
+const CONVERSION: &str = "value out of range for the target type|ConversionRange|\
+    ___value out of range for the target type___";
+
+const VARIANT: &str = "value was not a valid variant|InvalidVariant|\
+    _______value was not a valid variant________";
+
+// Of refusals two heed a width.
+fn prints_refusals(alloc: Global) -> [bool; 4] {
+    let day = ComponentRange::conditional(ComponentName::Day);
+    let julian_day = ComponentRange::unconditional(ComponentName::JulianDay);
+    [
+        prints(alloc, day, DAY),
+        prints(alloc, julian_day, JULIAN_DAY),
+        prints(alloc, ConversionRange, CONVERSION),
+        prints(alloc, InvalidVariant, VARIANT),
+    ]
+}
+
+#[test]
+fn prints_members(rt: HostRuntime) {
+    let alloc = rt.alloc();
+    assert!(rt; prints_days(alloc) == [true; 5] && prints_refusals(alloc) == [true; 4]);
+    assert!(rt; prints_times_and_durations(alloc) == [true; 6]);
 }

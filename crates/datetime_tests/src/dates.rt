@@ -1,11 +1,6 @@
 //! Days by their views, moved, and as keys.
+use crate::rows::{date_of, hash_of, leap_day};
 use calendar::{ComponentRange, Date, Month, SignedDuration, Weekday};
-use std::hash::{DefaultHasher, Hash, Hasher};
-
-// The day with this year, month and day of the month, which it has.
-pub fn date_of(year: i32, month: Month, day: u8) -> Date {
-    Date::from_calendar_date(year, month, day).unwrap_or(Date::UNIX_EPOCH)
-}
 
 // The day that was answered, and 1970-01-01 where none was.
 pub fn answered(answer: Result<Date, ComponentRange>) -> Date {
@@ -17,17 +12,18 @@ type Views = (i32, Month, u8, i32, u16, (i32, u8, Weekday));
 
 fn views(date: Date) -> Views {
     let (iso_year, _, weekday) = date.to_iso_week_date();
+    let (_, ordinal) = date.to_ordinal_date();
     (
         date.year(),
         date.month(),
         date.day(),
         date.to_julian_day(),
-        date.ordinal(),
+        ordinal,
         (iso_year, date.iso_week(), weekday),
     )
 }
 
-static DAYS: [Views; 7] = [
+static DAYS: [Views; 8] = [
     (
         -999_999,
         Month::January,
@@ -69,6 +65,14 @@ static DAYS: [Views; 7] = [
         (2024, 9, Weekday::Thursday),
     ),
     (
+        2024,
+        Month::March,
+        7,
+        2_460_377,
+        67,
+        (2024, 10, Weekday::Thursday),
+    ),
+    (
         9999,
         Month::December,
         31,
@@ -106,10 +110,6 @@ fn names_days(rt: HostRuntime) {
     }
 }
 
-pub fn leap_day() -> Date {
-    date_of(2024, Month::February, 29)
-}
-
 // The leap day with a part replaced, and the days beside it.
 fn led_to() -> [(i32, Month, u8); 6] {
     let leap = leap_day();
@@ -137,21 +137,25 @@ fn replaces_and_steps(rt: HostRuntime) {
     assert!(rt; led_to() == LED_TO);
 }
 
-// The day so much later and earlier, by each call.
-fn moved(day: Date, duration: SignedDuration) -> Option<([Date; 4], [Date; 4])> {
-    let (sum, difference) = (day.checked_add(duration)?, day.checked_sub(duration)?);
-    let (mut later, mut earlier) = (day, day);
+// The day so much later, by each call.
+fn later(day: Date, duration: SignedDuration) -> Option<[Date; 4]> {
+    let sum = day.checked_add(duration)?;
+    let mut later = day;
     later += duration;
+    Some([sum, day.saturating_add(duration), later, day + duration])
+}
+
+// The day so much earlier, by each call.
+fn earlier(day: Date, duration: SignedDuration) -> Option<[Date; 4]> {
+    let difference = day.checked_sub(duration)?;
+    let mut earlier = day;
     earlier -= duration;
-    Some((
-        [sum, day.saturating_add(duration), later, day + duration],
-        [
-            difference,
-            day.saturating_sub(duration),
-            earlier,
-            day - duration,
-        ],
-    ))
+    Some([
+        difference,
+        day.saturating_sub(duration),
+        earlier,
+        day - duration,
+    ])
 }
 
 // Seconds, and the day of March so much later and earlier than the second one: parts of a day are cut.
@@ -161,17 +165,12 @@ static MOVED: [(i64, u8, u8); 2] = [(86_399, 2, 2), (-86_400, 1, 3)];
 fn moves_by_durations(rt: HostRuntime) {
     let second = date_of(2024, Month::March, 2);
     for row in &MOVED {
-        let later = date_of(2024, Month::March, row.1);
-        let earlier = date_of(2024, Month::March, row.2);
-        let given = moved(second, SignedDuration::seconds(row.0));
-        assert!(rt; given == Some(([later; 4], [earlier; 4])));
+        let duration = SignedDuration::seconds(row.0);
+        let sum = date_of(2024, Month::March, row.1);
+        assert!(rt; later(second, duration) == Some([sum; 4]));
+        let difference = date_of(2024, Month::March, row.2);
+        assert!(rt; earlier(second, duration) == Some([difference; 4]));
     }
-}
-
-fn key(date: Date) -> u64 {
-    let mut state = DefaultHasher::new();
-    date.hash(&mut state);
-    state.finish()
 }
 
 // A day is the same key however it was found, and another one is another key.
@@ -180,6 +179,6 @@ fn is_apart_and_a_key(rt: HostRuntime) {
     let (leap, epoch) = (leap_day(), Date::UNIX_EPOCH);
     assert!(rt; leap - epoch == SignedDuration::days(19_782) && epoch < leap);
     let same = answered(Date::from_julian_day(2_460_370));
-    let keys = [key(leap), key(same), key(epoch)];
+    let keys = [hash_of(leap), hash_of(same), hash_of(epoch)];
     assert!(rt; keys[0] == keys[1] && keys[0] != keys[2]);
 }

@@ -1,6 +1,7 @@
-//! Each law at a value that is known from outside.
-use crate::dates::{answered, leap_day};
+//! The laws of the calendar at values that are known from outside.
+use crate::dates::answered;
 use crate::durations;
+use crate::rows::leap_day;
 use calendar::laws::{self, times};
 use calendar::{Date, Month, SignedDuration, Time, UtcOffset, Weekday};
 use std::cmp::Ordering;

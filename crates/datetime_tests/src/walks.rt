@@ -1,5 +1,5 @@
 //! Walks over days, and occurrences of a weekday.
-use crate::dates::date_of;
+use crate::rows::date_of;
 use calendar::{Date, DateIter, Month, Weekday};
 
 // From 28 February 2024 to the day after the leap day.
@@ -36,39 +36,54 @@ fn walks_days(rt: HostRuntime) {
     assert!(rt; counts == (3, (3, Some(3)), Some(3)) && days.is_sorted());
 }
 
-// The Julian days of the next such weekday and the last one, and of the `n`th later and earlier, as both calls say.
-fn found(day: Date, weekday: Weekday, n: u8) -> Option<[i32; 8]> {
-    let later = day.checked_nth_next_occurrence(weekday, n)?;
-    let earlier = day.checked_nth_prev_occurrence(weekday, n)?;
+// The Julian days of the next such weekday and of the `n`th later one, as both calls say.
+fn found_later(day: Date, weekday: Weekday, n: u8) -> Option<[i32; 4]> {
     let next = day.checked_next_occurrence(weekday)?;
-    let last = day.checked_prev_occurrence(weekday)?;
+    let later = day.checked_nth_next_occurrence(weekday, n)?;
     Some([
         next.to_julian_day(),
         day.next_occurrence(weekday).to_julian_day(),
-        last.to_julian_day(),
-        day.prev_occurrence(weekday).to_julian_day(),
         later.to_julian_day(),
         day.nth_next_occurrence(weekday, n).to_julian_day(),
+    ])
+}
+
+// Those of the last one and of the `n`th earlier one.
+fn found_earlier(day: Date, weekday: Weekday, n: u8) -> Option<[i32; 4]> {
+    let last = day.checked_prev_occurrence(weekday)?;
+    let earlier = day.checked_nth_prev_occurrence(weekday, n)?;
+    Some([
+        last.to_julian_day(),
+        day.prev_occurrence(weekday).to_julian_day(),
         earlier.to_julian_day(),
         day.nth_prev_occurrence(weekday, n).to_julian_day(),
     ])
 }
 
-// From 1 January 1970, a Thursday, whose Julian day is 2440588.
-static SUNDAYS: [i32; 8] = [
-    2_440_591, 2_440_591, 2_440_584, 2_440_584, 2_440_605, 2_440_605, 2_440_570, 2_440_570,
-];
+type Found = Option<[i32; 4]>;
 
-static THURSDAYS: [i32; 8] = [
-    2_440_595, 2_440_595, 2_440_581, 2_440_581, 2_440_595, 2_440_595, 2_440_581, 2_440_581,
+// From 1 January 1970, a Thursday, whose Julian day is 2440588.
+static FOUND: [(Weekday, u8, Found, Found); 3] = [
+    (
+        Weekday::Sunday,
+        3,
+        Some([2_440_591, 2_440_591, 2_440_605, 2_440_605]),
+        Some([2_440_584, 2_440_584, 2_440_570, 2_440_570]),
+    ),
+    (
+        Weekday::Thursday,
+        1,
+        Some([2_440_595, 2_440_595, 2_440_595, 2_440_595]),
+        Some([2_440_581, 2_440_581, 2_440_581, 2_440_581]),
+    ),
+    (Weekday::Friday, 0, None, None),
 ];
 
 #[test]
 fn finds_weekdays(rt: HostRuntime) {
-    let found = [
-        found(Date::UNIX_EPOCH, Weekday::Sunday, 3),
-        found(Date::UNIX_EPOCH, Weekday::Thursday, 1),
-        found(Date::UNIX_EPOCH, Weekday::Friday, 0),
-    ];
-    assert!(rt; found == [Some(SUNDAYS), Some(THURSDAYS), None]);
+    let epoch = Date::UNIX_EPOCH;
+    for row in &FOUND {
+        assert!(rt; found_later(epoch, row.0, row.1) == row.2);
+        assert!(rt; found_earlier(epoch, row.0, row.1) == row.3);
+    }
 }

@@ -1,5 +1,5 @@
 //! All views of the days of eight centuries, against a walk by the table of month lengths.
-use crate::dates;
+use crate::rows::date_of;
 use calendar::{Date, Month};
 
 // The lengths of the months of a year that is no leap year.
@@ -83,8 +83,8 @@ fn advance((day, (weekday, sundays, mondays), week, julian_day): Views) -> Views
 
 #[test]
 fn walks_eight_centuries(rt: HostRuntime) {
-    let first = dates::date_of(-401, Month::January, 1);
-    let last = dates::date_of(401, Month::December, 31);
+    let first = date_of(-401, Month::January, 1);
+    let last = date_of(401, Month::December, 31);
     let mut views = ((-401, 1, 1, 1), (4, 0, 0), (-402, 53), 1_574_598);
     for date in first.iter_to(last) {
         assert!(rt; views_of(date) == views);

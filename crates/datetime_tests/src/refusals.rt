@@ -1,15 +1,6 @@
 //! What is refused, by which name, and whether other parts decided it.
-use calendar::{ComponentRange, Date, Month, SignedDuration, Time, UtcOffset, Weekday};
-
-// The refusal's name, and whether it is conditional.
-type Refused = (&'static str, bool);
-
-fn refused<T: Drop>(answer: Result<T, ComponentRange>) -> Refused {
-    match answer {
-        Ok(_) => ("", false),
-        Err(refusal) => (refusal.name(), refusal.is_conditional()),
-    }
-}
+use crate::rows::{Refused, refused};
+use calendar::{Date, Month, SignedDuration, Time, UtcOffset, Weekday};
 
 fn all_refused() -> [Refused; 7] {
     [
