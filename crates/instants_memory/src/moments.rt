@@ -1,16 +1,14 @@
 //! The moments of lines that stand in memory, as numbers.
-ghost use Rattle.std.specs.Prelude.{◌≡◌, ◌<◌, ◌++◌, ◌∷◌, length, map, take, drop, slice_index, Ok, Err, IfSome, IfNone, IfOk, OnErr};
-ghost use Rattle.base.specs.Bytes.{line_feed};
-ghost use Rattle.instants_stream.specs.Lines.{HasNoLineFeed, lines};
+ghost use Rattle.std.specs.Prelude.{◌≡◌, ◌<◌, ◌++◌, ◌∷◌, length, map, take, drop, Ok, Err, IfOk, OnErr};
+ghost use Rattle.instants_stream.specs.Lines.{lines};
 ghost use Rattle.instants_faults.specs.Refusal.{refusal_said};
 ghost use Rattle.instants_timeline.specs.Settings.{setting_of};
 ghost use Rattle.instants_memory.specs.Numbers.{entry_of, numbers_of};
 
 use crate::numbers::fault_number;
 use datetime_types::{OffsetDateTime, WallClock};
+use instants_stream::line_len;
 use instants_timeline::{LineFault, Timeline, TooLittleRoom};
-
-const LINE_FEED: u8 = b'\n';
 
 /// What a line names, as numbers: a moment, or a fault.
 #[repr(C)]
@@ -65,17 +63,6 @@ fn line_numbers(timeline: &Timeline, limit: usize, line: &[u8]) -> Moment
     }
 }
 
-// How many bytes stand before the first line feed.
-#[inline(always)]
-fn first_line_feed(bytes: &[u8]) -> Option<usize>
-    ensures none { IfNone result (HasNoLineFeed bytes.now) }
-    ensures within { IfSome result (λ len. len < length bytes.now) }
-    ensures line_feed { IfSome result (λ len. slice_index bytes.now len ≡ line_feed) }
-    ensures before { IfSome result (λ len. HasNoLineFeed (take len bytes.now)) }
-{
-    bytes.iter().position(|byte| *byte == LINE_FEED)
-}
-
 // The first line of an input, and the bytes after it and its line feed.
 #[inline(always)]
 fn first_line(input: &[u8]) -> (&[u8], &[u8])
@@ -83,7 +70,7 @@ fn first_line(input: &[u8]) -> (&[u8], &[u8])
     ensures lines { lines input.now ≡ result.0.now ∷ lines result.1.now }
     ensures less { length result.1.now < length input.now }
 {
-    match first_line_feed(input) {
+    match line_len(input, 0) {
         Some(len) => (&input[..len], &input[len + 1..]),
         None => (input, &[]),
     }
