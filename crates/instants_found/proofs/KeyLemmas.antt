@@ -8,7 +8,7 @@ use Rattle.std.proofs.lemmas.List.Elements.{All-weaker}
 use Rattle.instants_prefixes.specs.NoPrefix.{HasNoPrefix}
 use Rattle.instants_sources.specs.Grammar.{Grammar}
 use Rattle.instants_found.specs.Starts.{AreMarked, CannotStand, HasNoDate, IsNoDate, MarkPlaces}
-use Rattle.instants_found.specs.Keys.{AreBytes, stands_at, has_key, NeedsOne, AreKeys}
+use Rattle.instants_found.specs.Keys.{AreBytes, stands_at, has_key, LacksKeys, NeedsOne, AreKeys}
 use Rattle.instants_found.specs.declared.key.Key.{Key}
 use Rattle.instants_found.specs.declared.keys.Keys.{Keys}
 use Rattle.instants_found.specs.Marks.{AreMarks, IsUnmarked}
@@ -25,10 +25,10 @@ no_key_after key line start none = ap (λ (n : ℕ). n == key.byte) (get_or-drop
 
 module _ (sources : List Grammar) (line : List ℕ) where
   -- neither key stands after the place
-  pub unkeyed_none : (keys : Keys) (start : ℕ) → AreKeys sources keys → AreBytes line → stands_at keys.first line start ≡ false → stands_at keys.second line start ≡ false → IsNoDate sources line start
-  unkeyed_none keys start are few first second =
+  pub unkeyed_none : (keys : Keys) (start : ℕ) → AreKeys sources keys → AreBytes line → LacksKeys keys line start → IsNoDate sources line start
+  unkeyed_none keys start are few (each, first, second) =
       no_prefix_there sources line start
-      (All-weaker (NeedsOne keys) (HasNoPrefix (drop start line)) (λ grammar needs. needs (drop start line) (bytes_after line start few) (no_key_after keys.first line start first) (no_key_after keys.second line start second)) sources are)
+      (All-weaker (NeedsOne keys) (HasNoPrefix (drop start line)) (λ grammar needs. needs (drop start line) (bytes_after line start few) each (no_key_after keys.first line start first) (no_key_after keys.second line start second)) sources are)
 
   -- the byte at the fourth place after it can't stand there
   fourth_none : (start byte : ℕ) → All (CannotStand 3 byte) sources → get_or line (start + 3) 0 ≡ byte → IsNoDate sources line start
@@ -38,7 +38,7 @@ module _ (sources : List Grammar) (line : List ℕ) where
   pub unmarked_none : (starts : List Bool) (marks : Marks) (start : ℕ) → AreMarked 0 sources starts → AreMarks sources starts marks → AreBytes line → IsUnmarked marks line start → IsNoDate sources line start
   unmarked_none starts marks start are right few none =
       elim none [
-        | inl keys ↦ unkeyed_none marks.keys start right.keys few keys.0 keys.1
+        | inl keys ↦ unkeyed_none marks.keys start right.keys few keys
         | inr (inl first) ↦ none_starts sources starts line start are (right.first (get_or line start 0) (few start) first)
         | inr (inr fourth) ↦ fourth_none start (get_or line (start + 3) 0) (right.fourth (get_or line (start + 3) 0) (few (start + 3)) fourth) refl
       ]

@@ -8,8 +8,9 @@ use Rattle.std.specs.Simd.Lanes.{mask_l}
 use Rattle.std.proofs.lemmas.Simd.{bit_mask_l, bitmask_splat}
 use Rattle.std.proofs.lemmas.Bool.{cases_lt}
 use Rattle.std.proofs.lemmas.List.{get_or-map, get_or-drop}
-use Rattle.std.proofs.lemmas.Nat.Bits.{bit_at_and, bit_at_or}
+use Rattle.std.proofs.lemmas.Nat.Bits.{bit_at_and, bit_at_ones, bit_at_or}
 use Rattle.instants_found.specs.Keys.{stands_at}
+use Rattle.instants_found.specs.Lanes.{AreAllOrNone}
 use Rattle.instants_found.specs.declared.key.Key.{Key}
 
 none_where : (b : Bool) → cond {A = ℕ} b 1 0 ≡ 0 → b ≡ false
@@ -36,6 +37,9 @@ both_none a b k e = min_none (bit_at a k) (bit_at b k) (sym (bit_at_and a b k) �
 
 pub either_none : (a b k : ℕ) → bit_at (bit_or a b) k ≡ 0 → (bit_at a k ≡ 0) × (bit_at b k ≡ 0)
 either_none a b k e = let most : max (bit_at a k) (bit_at b k) ≡ 0 = sym (bit_at_or a b k) ∙ e in (omega (arith, most), omega (arith, most))
+
+pub all_set : AreAllOrNone 65_535
+all_set k lt none = absurd (omega (arith, bit_at_ones 16 k lt, none))
 
 -- a key after the place of a lane
 pub stands_not : (key : Key) (line over v : List ℕ) (at : ℕ) → over ≡ drop key.place line → ((k : ℕ) → k < 16 → get_or v k 0 ≡ get_or over (at + k) 0) → (k : ℕ) → k < 16 → (get_or v k 0 == key.byte) ≡ false → stands_at key line (at + k) ≡ false

@@ -1,5 +1,5 @@
 -- A date on the clock of a zone lies where the date that was read lies.
-use Rattle.std.proofs.Common.{◌≡◌, inl, inr, ap, ◌∙◌, ◌-ℤ◌, ◌+ℤ◌, ◌*ℤ◌, pos, ◌+◌, ◌*◌, ◌<◌, ◌≤◌, Bool, true, false, ℤ, ℕ, List, Option, Some, None, Ok, refl, sym, subst, arith, if◌then◌else◌}
+use Rattle.std.proofs.Common.{◌≡◌, inl, inr, ap, ◌∙◌, ◌-ℤ◌, ◌+ℤ◌, ◌*ℤ◌, pos, ◌+◌, ◌*◌, ◌<◌, ◌≤◌, Bool, true, false, ℤ, ℕ, List, Option, Some, None, Ok, refl, sym, arith}
 use Rattle.std.specs.Prelude.{nat_lt, unsigned_abs}
 use Rattle.std.proofs.lemmas.Bool.Decides.{nat_tests}
 use Rattle.std.proofs.lemmas.Int.{ints}
@@ -10,10 +10,8 @@ use Rattle.datetime_types.proofs.UnixLemmas.{wall_parts}
 use Rattle.parsing_values.specs.Moment.{moment_of, time_of_fields}
 use Rattle.parsing_values.specs.declared.fields.Fields.{Fields}
 use Rattle.parsing_values.proofs.lemmas.Moments.{moment_of_parts}
-use Rattle.instants_edges.specs.Beside.{word_after}
-use Rattle.instants_found.specs.declared.doubt.Doubt.TheVariants.{AnotherOffset}
 use Rattle.calendar.specs.UtcOffset.{offset_of_seconds}
-use Rattle.zones_clock.specs.Steps.{IsOffset, offset_at}
+use Rattle.zones_clock.specs.Steps.{IsOffset}
 use Rattle.std.specs.Borrow.{Bor}
 use Rattle.zones_clock.specs.declared.zone.Zone.{Zone}
 use Rattle.zones_clock.specs.declared.zone.Moments.{Moments}
@@ -24,7 +22,7 @@ use Rattle.instants_prefixes.specs.declared.prefix.Prefix.{Prefix}
 use Rattle.zones_clock.specs.Clock.{AreTheMoments}
 use Rattle.zones_clock.proofs.MomentLemmas.{answer_is}
 use Rattle.instants_found.specs.declared.zoned.Settled.{Settled}
-use Rattle.instants_found.specs.Zoned.{EachIsAtTheMoment, IsTheMoment, ShowsAt, ahead_by, at_offset, by_moments, has_name, chosen, is_said, reading, settled_by}
+use Rattle.instants_found.specs.Zoned.{EachIsAtTheMoment, IsTheMoment, ShowsAt, at_offset, by_moments, chosen, is_said, reading, settled_by}
 
 chosen_within : (bytes : List ℕ) (prefix : Prefix) (first second : ℤ) (one other : Bool) → IsWithin bytes prefix → IsWithin bytes (chosen prefix first second one other).prefix
 chosen_within bytes prefix first second true true within = within
@@ -50,39 +48,16 @@ of_zone offset is =
     let small : nat_lt 93_599 (unsigned_abs offset) ≡ false = grind (arith, nat_tests) in
     rw small refl
 
--- the only moment, by how far the clock is ahead there; numbers may have gone through a call
-pub at_only_is : (zone : Zone) (line : List ℕ) (ends : ℕ) (prefix : Prefix) (ahead passed moment shown : ℤ) (date : Settled) → passed ≡ ahead → shown ≡ reading prefix.moment → moment ≡ reading prefix.moment -ℤ ahead → moments_of zone.first zone.steps.items shown ≡ One (shown -ℤ ahead)
-    → date ≡ ahead_by prefix passed (if has_name zone (word_after line ends) moment then None else Some AnotherOffset) → date ≡ by_moments zone line ends prefix (moments_of zone.first zone.steps.items (reading prefix.moment))
-at_only_is zone line ends prefix ahead passed moment shown date through shows is only e =
-    let offset : passed ≡ reading prefix.moment -ℤ moment = omega (arith, ints, through, is) in
-    let same : One moment ≡ moments_of zone.first zone.steps.items (reading prefix.moment) =
-    ap One (let m : moment ≡ shown -ℤ ahead = omega (arith, ints, is, shows) in m) ∙ sym only ∙ ap (moments_of zone.first zone.steps.items) shows in
-    e ∙ ap (λ (o : ℤ). ahead_by prefix o (if has_name zone (word_after line ends) moment then None else Some AnotherOffset)) offset ∙ ap (by_moments zone line ends prefix) same
+-- ---- by the moments; numbers may have gone through a call
 
--- ---- near a step; numbers may have gone through a call
+shown_by : (zone : Zone) (prefix : Prefix) (passed : ℤ) (found moments : Moments) → passed ≡ reading prefix.moment → AreTheMoments zone.first zone.steps.items passed found → found ≡ moments → AreTheMoments zone.first zone.steps.items (reading prefix.moment) moments
+shown_by zone prefix passed found moments p f is = rw (← p, ← is) f
 
-answer-at : (zone : Zone) (prefix : Prefix) (passed : ℤ) (found : Moments) → passed ≡ reading prefix.moment → found ≡ moments_of zone.first zone.steps.items passed → moments_of zone.first zone.steps.items (reading prefix.moment) ≡ found
-answer-at zone prefix passed found p f = ap (moments_of zone.first zone.steps.items) (sym p) ∙ sym f
+pub one_shown : (zone : Zone) (prefix : Prefix) (passed m : ℤ) (found : Moments) → passed ≡ reading prefix.moment → AreTheMoments zone.first zone.steps.items passed found → found ≡ One m → ShowsAt zone prefix m
+one_shown zone prefix passed m found p f is = (shown_by zone prefix passed found (One m) p f is).0
 
-answer-of : (zone : Zone) (prefix : Prefix) (moments : Moments) → moments_of zone.first zone.steps.items (reading prefix.moment) ≡ moments → AreTheMoments zone.first zone.steps.items (reading prefix.moment) moments
-answer-of zone prefix moments e = subst (AreTheMoments zone.first zone.steps.items (reading prefix.moment)) e (answer_is zone.first zone.steps.items (reading prefix.moment))
-
-pub both_shown : (zone : Zone) (prefix : Prefix) (passed first second : ℤ) (found : Moments) → passed ≡ reading prefix.moment → found ≡ moments_of zone.first zone.steps.items passed → found ≡ Repeated first second
-    → ShowsAt zone prefix first × ShowsAt zone prefix second
-both_shown zone prefix passed first second found p f is =
-    let at : AreTheMoments zone.first zone.steps.items (reading prefix.moment) (Repeated first second) = answer-of zone prefix _ (answer-at zone prefix passed found p f ∙ is) in
-    (at.0.0, at.0.1)
-
-pub one_is : (zone : Zone) (line : List ℕ) (ends : ℕ) (prefix : Prefix) (passed m gone ahead given : ℤ) (found : Moments) (date : Settled) → passed ≡ reading prefix.moment → found ≡ moments_of zone.first zone.steps.items passed → found ≡ One m
-    → gone ≡ m → ahead ≡ offset_at zone.first zone.steps.items gone → given ≡ ahead → date ≡ ahead_by prefix given (if has_name zone (word_after line ends) gone then None else Some AnotherOffset)
-    → date ≡ by_moments zone line ends prefix (moments_of zone.first zone.steps.items (reading prefix.moment))
-one_is zone line ends prefix passed m gone ahead given found date p f is g a h e =
-    let one = answer-at zone prefix passed found p f ∙ is in
-    let at : AreTheMoments zone.first zone.steps.items (reading prefix.moment) (One m) = answer-of zone prefix (One m) one in
-    let shows : m +ℤ offset_at zone.first zone.steps.items m ≡ reading prefix.moment = at.0.shown in
-    let same : ahead ≡ offset_at zone.first zone.steps.items m = a ∙ ap (offset_at zone.first zone.steps.items) g in
-    let offset : given ≡ reading prefix.moment -ℤ m = omega (arith, ints, shows, same, h) in
-    rw one (e ∙ ap (λ (x : ℤ). ahead_by prefix given (if has_name zone (word_after line ends) x then None else Some AnotherOffset)) g ∙ ap (λ (o : ℤ). ahead_by prefix o (if has_name zone (word_after line ends) m then None else Some AnotherOffset)) offset)
+pub both_shown : (zone : Zone) (prefix : Prefix) (passed m n : ℤ) (found : Moments) → passed ≡ reading prefix.moment → AreTheMoments zone.first zone.steps.items passed found → found ≡ Repeated m n → ShowsAt zone prefix m × ShowsAt zone prefix n
+both_shown zone prefix passed m n found p f is = let at = (shown_by zone prefix passed found (Repeated m n) p f is).0 in (at.0, at.1)
 
 -- ---- the moment of a date
 

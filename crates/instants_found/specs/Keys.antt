@@ -36,9 +36,13 @@ IsKeyOf first_bytes key = (line : List ℕ) → AreBytes line → has_key key li
 abbrev pub NeedsKey : Key → Grammar → Type 0
 NeedsKey key grammar = (bytes : List ℕ) → AreBytes bytes → has_key key bytes ≡ false → HasNoPrefix bytes grammar
 
--- nor one with neither of two keys
+-- nor one with neither of two keys, where each date has one
 abbrev pub NeedsOne : Keys → Grammar → Type 0
-NeedsOne keys grammar = (bytes : List ℕ) → AreBytes bytes → has_key keys.first bytes ≡ false → has_key keys.second bytes ≡ false → HasNoPrefix bytes grammar
+NeedsOne keys grammar = (bytes : List ℕ) → AreBytes bytes → keys.keyless ≡ 0 → has_key keys.first bytes ≡ false → has_key keys.second bytes ≡ false → HasNoPrefix bytes grammar
+
+-- neither of two keys stands after this place of a line, and each date has one
+abbrev pub LacksKeys : Keys → List ℕ → ℕ → Type 0
+LacksKeys keys line place = (keys.keyless ≡ 0) × (stands_at keys.first line place ≡ false) × (stands_at keys.second line place ≡ false)
 
 -- a line from where each key stands
 pub record IsKeyedBy (keys : Keys) (line : List ℕ) (keyed : KeyedLine) : Type 0 where

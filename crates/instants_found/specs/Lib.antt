@@ -8,6 +8,7 @@ pub mod IsFound
 pub mod Ranges
 pub mod Starts
 pub mod Keys
+pub mod Lanes
 pub mod Marks
 pub mod Finder
 pub mod Tried

@@ -151,17 +151,6 @@ fn assumes_nothing(offset: Option<UtcOffset>, given: &Given) -> bool
     offset.is_none() && given.time.is_none() && matches!(given.years, Years::Unknown)
 }
 
-/// Whether nothing is given.
-#[inline(always)]
-pub(crate) fn gives_nothing(given: &Given) -> bool
-    ensures offset { result ≡ true → is_some given.now.offset ≡ false }
-    ensures zone { result ≡ true → given.now.zone ≡ None }
-    ensures years { result ≡ true → given.now.years ≡ Unknown }
-    ensures time { result ≡ true → is_some given.now.time ≡ false }
-{
-    assumes_nothing(given.offset, given) && given.zone.is_none()
-}
-
 // What the line says otherwise beside a date than what was given for it. What was read is asked only where it says something.
 #[inline(never)]
 fn otherwise(

@@ -1,17 +1,19 @@
 //! What is found at one place of a line.
-ghost use Rattle.std.specs.Prelude.{◌≡◌, ◌<◌, ◌+◌, false, length, map, option_map, Some, IfSome};
+ghost use Rattle.std.specs.Prelude.{◌≡◌, ◌<◌, ◌+◌, true, false, length, map, option_map, Some, IfSome};
+ghost use Rattle.instants_edges.specs.Edge.{is_edge};
 ghost use Rattle.instants_prefixes.specs.DateSource.{grammar_in};
+ghost use Rattle.instants_prefixes.specs.Given.{nothing};
 ghost use Rattle.instants_found.specs.Candidate.{candidate, longest};
 ghost use Rattle.instants_found.specs.Found.{at_place, finding};
 ghost use Rattle.instants_found.specs.Starts.{HaveNoPrefix};
 ghost use Rattle.instants_found.specs.declared.found.Finding.TheVariants.{There};
 
-use crate::beside::{after, gives_nothing, is_read, joined, why};
+use crate::beside::{after, is_read, joined, why};
 use crate::candidate::{Candidate, candidate_with, found_at, longer, read_candidate};
 use crate::found::{Finding, Found};
 use crate::zoned::Settled;
 use instants_edges::is_edge;
-use instants_prefixes::{DateSource, Given, lacks_byte, rules_out};
+use instants_prefixes::{DateSource, Given, NOTHING, lacks_byte, rules_out};
 
 // What is found by the longest date at a place.
 #[inline(always)]
@@ -118,24 +120,15 @@ fn by_sources(
     None
 }
 
-// The date that the source of this number reads at a place, where it is found at once: a plan reads it, nothing is given, and
+// The date that the source of this number reads at a place where nothing is given, if it is found at once: a plan reads it, and
 // nothing joins it.
 #[inline(always)]
-fn plain_date(
-    source: &DateSource<'_>,
-    given: &Given,
-    line: &[u8],
-    start: usize,
-    number: usize,
-) -> Option<Found>
+fn plain_date(source: &DateSource<'_>, line: &[u8], start: usize, number: usize) -> Option<Found>
     requires { start < length line.now }
     ensures { IfSome result (λ date. Some (There date)
-        ≡ option_map (finding start) (candidate given.now line.now start number (grammar_in source.now))) }
+        ≡ option_map (finding start) (candidate nothing line.now start number (grammar_in source.now))) }
 {
-    if !gives_nothing(given) {
-        return None;
-    }
-    let Some(prefix) = source.read_planned(after(line, start), given) else {
+    let Some(prefix) = source.read_planned(after(line, start), &NOTHING) else {
         return None;
     };
     if !is_read(source, line, start, &prefix) {
@@ -147,18 +140,14 @@ fn plain_date(
     Some(found_at(start, number, prefix))
 }
 
-// What all sources find at a place, where the first that may read a date there finds it at once, and no other may read one.
+// What all sources find at a place where nothing is given, if the first that may read a date there finds it at once, and no other
+// may read one.
 #[inline(always)]
 #[tactic(auto, unfolding(crate::specs::Candidate::longest))]
-fn plain_by_sources(
-    sources: &[DateSource<'_>],
-    given: &Given,
-    line: &[u8],
-    start: usize,
-) -> Option<Found>
+fn plain_by_sources(sources: &[DateSource<'_>], line: &[u8], start: usize) -> Option<Found>
     requires { start < length line.now }
     ensures { IfSome result (λ date. Some (There date) ≡ option_map (finding start)
-        (longest given.now (map grammar_in sources.now) line.now start (length sources.now))) }
+        (longest nothing (map grammar_in sources.now) line.now start (length sources.now))) }
 {
     let bytes = after(line, start);
     for number in 0..sources.len() {
@@ -169,7 +158,7 @@ fn plain_by_sources(
         if others_may_read(sources, number + 1, bytes) {
             return None;
         }
-        let Some(date) = plain_date(source, given, line, start, number) else {
+        let Some(date) = plain_date(source, line, start, number) else {
             return None;
         };
         return Some(date);
@@ -177,23 +166,16 @@ fn plain_by_sources(
     None
 }
 
-/// The date at a place, where it isn't inside a word and is found at once: `None` says nothing of the place.
+/// The date at a place that isn't inside a word, where nothing is given, if it is found at once: `None` says nothing of the place.
 #[inline(always)]
 #[tactic(auto, unfolding(crate::specs::Found::at_place))]
-pub(crate) fn plain_at(
-    sources: &[DateSource<'_>],
-    given: &Given,
-    line: &[u8],
-    start: usize,
-) -> Option<Found>
-    requires { start < length line.now }
+pub(crate) fn plain_at(sources: &[DateSource<'_>], line: &[u8], start: usize) -> Option<Found>
+    requires within { start < length line.now }
+    requires edge { is_edge line.now start ≡ true }
     ensures { IfSome result (λ date. Some (There date)
-        ≡ at_place given.now (map grammar_in sources.now) line.now start) }
+        ≡ at_place nothing (map grammar_in sources.now) line.now start) }
 {
-    if !is_edge(line, start) {
-        return None;
-    }
-    let Some(date) = plain_by_sources(sources, given, line, start) else {
+    let Some(date) = plain_by_sources(sources, line, start) else {
         return None;
     };
     Some(date)

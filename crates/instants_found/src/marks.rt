@@ -7,6 +7,10 @@ use crate::range::Range;
 use crate::starts::{FOURTH, Place, are_within, marked_at, range_of};
 use instants_sources::Source;
 
+// How many bytes a date may begin with, less one, that marks may tell from others where there are no keys: digits and marks beside
+// them, and not letters.
+const FEW: u8 = 31;
+
 /// What each date of some sources has: one of their keys, and a first and a fourth byte from a range.
 #[derive(Clone, Copy)]
 pub(crate) struct Marks {
@@ -21,14 +25,14 @@ impl Marks {
     ghost use Rattle.instants_found.specs.Keys.{IsKeyedBy};
     ghost use Rattle.instants_found.specs.Marks.{AreMarks, IsUnmarked};
 
-    /// The marks of these sources, whose dates begin with these bytes, if each source has a key and no date of fewer than four
-    /// bytes.
+    /// The marks of these sources, whose dates begin with these bytes, if none has a date of fewer than four bytes, and not most
+    /// places of a text would be marked.
     pub(crate) fn of(sources: &[Source<'_>], starts: &[bool; 256]) -> Option<Marks>
         ensures { IfSome result (AreMarks (map grammar_of sources.now) starts.now) }
     {
-        let keys = Keys::of(sources)?;
+        let keys = Keys::of(sources);
         let first = range_of(starts);
-        if !are_within(starts, &first) {
+        if !are_within(starts, &first) || (keys.are_few() && first.span.byte > FEW) {
             return None;
         }
         let fourths = marked_at(sources, Place::Fourth);

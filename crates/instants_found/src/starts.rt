@@ -45,7 +45,7 @@ fn can_begin(source: &Source<'_>, byte: u8) -> bool
     }
 }
 
-// Whether a byte can stand at the fourth place: RFC 3339 has a year of four digits.
+// Whether a byte can stand at the fourth place: RFC 3339 has a year of four digits, and ISO 8601 four, or six after a sign.
 fn can_be_fourth(source: &Source<'_>, byte: u8) -> bool
     ensures { result ≡ false → CannotStand 3 byte (grammar_of source.now) }
 {
@@ -54,7 +54,8 @@ fn can_be_fourth(source: &Source<'_>, byte: u8) -> bool
             .first_bytes()
             .can_stand(FOURTH, byte),
         Source::Rfc3339 => byte.is_ascii_digit(),
-        _ => true,
+        Source::Iso8601 => byte.is_ascii_digit(),
+        Source::Rfc2822 => true,
     }
 }
 

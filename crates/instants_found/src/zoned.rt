@@ -1,5 +1,5 @@
 //! Dates that say no offset, on the clock of a zone.
-ghost use Rattle.std.specs.Prelude.{◌≡◌, ◌<◌, ◌≤◌, ◌+◌, ℕ, List, Some, None, drop, length, if◌then◌else◌};
+ghost use Rattle.std.specs.Prelude.{◌≡◌, ◌<◌, ◌≤◌, ◌+◌, ℕ, List, Some, None, true, drop, length, IfSome, if◌then◌else◌};
 ghost use Rattle.instants_prefixes.specs.DateSource.{grammar_in, IsWithin};
 ghost use Rattle.instants_prefixes.specs.Reading.{record_at};
 ghost use Rattle.instants_edges.specs.Beside.{word_after};
@@ -71,6 +71,27 @@ fn reading(date: &Named) -> i64
     }
 }
 
+// The same date and time at another offset: by its fields, where these are kept and the offset has whole minutes.
+#[inline(always)]
+#[tactic(auto, unfolding(parsing_values::specs::Moment::moment_of))]
+fn at_offset(date: &Named, offset: UtcOffset) -> Named
+    ensures { result ≡ record date.now { offset = offset } }
+{
+    let seconds = offset.whole_seconds();
+    match date.fields() {
+        Some(fields) if seconds % 60 == 0 => Named::of_fields(Fields {
+            year: fields.year,
+            month: fields.month,
+            day: fields.day,
+            minute: fields.minute,
+            offset: seconds / 60,
+            second: fields.second,
+            fraction: fields.fraction,
+        }),
+        _ => Named::of_moment(date.moment().replace_offset(offset)),
+    }
+}
+
 // An offset of a zone's clock, in seconds, as one of the calendar.
 fn calendar_offset(ahead: i32) -> UtcOffset
     requires { Steps.IsOffset ahead }
@@ -113,14 +134,40 @@ fn is_said(zone: &Zone, line: &[u8], ends: usize, moment: i64) -> bool
     has_name(zone, line, ends, moment) && has_offset(zone, offset_said(line, ends), moment)
 }
 
+// How far the clock of a zone is ahead of UTC at the only moment at which it shows a date, in the usual case: the source reads no
+// offset, no step is near, and no abbreviation of the zone can stand after the date. `None` says nothing.
+#[inline(never)]
+fn sure_ahead(
+    zone: &Zone,
+    source: &DateSource<'_>,
+    line: &[u8],
+    start: usize,
+    prefix: &Prefix,
+) -> Option<i32>
+    requires within { start < length line.now }
+    requires ends { start + prefix.now.ends ≤ length line.now }
+    ensures offset { IfSome result Steps.IsOffset }
+    ensures takes { IfSome result (λ ahead.
+        Zoned.takes_offset (record_at (grammar_in source.now) (drop start line.now)) ≡ true) }
+    ensures is { IfSome result (λ ahead. Zoned.ahead_by prefix.now ahead None
+        ≡ Zoned.by_moments zone.now line.now (start + prefix.now.ends) prefix.now
+        (moments_of zone.now.first zone.now.steps.items (Zoned.reading prefix.now.moment))) }
+{
+    if !source.is_local() || zone.can_begin(first_after(line, start + prefix.ends)) {
+        return None;
+    }
+    zone.sure_offset(reading(&prefix.moment))
+}
+
 impl Settled {
     // A date on a clock that is so many seconds ahead of UTC.
+    #[inline(always)]
     fn ahead_by(prefix: Prefix, ahead: i32, doubt: Option<Doubt>) -> Settled
         requires { Steps.IsOffset ahead }
         ensures { result ≡ Zoned.ahead_by prefix ahead doubt }
     {
         let offset = calendar_offset(ahead);
-        let moment = prefix.moment.replace_offset(offset);
+        let moment = at_offset(&prefix.moment, offset);
         Settled {
             prefix: Prefix { moment, ..prefix },
             offset: Some(offset),
@@ -136,18 +183,11 @@ impl Settled {
         Settled::ahead_by(prefix, zone.offset_at(moment), doubt)
     }
 
-    // A date at the only moment at which the clock of a zone, which is so many seconds ahead of UTC there, shows it.
-    fn at_only(
-        zone: &Zone,
-        line: &[u8],
-        ends: usize,
-        prefix: Prefix,
-        ahead: i32,
-        moment: i64,
-    ) -> Settled
+    // A date at the only moment at which the clock of a zone shows it.
+    fn at_only(zone: &Zone, line: &[u8], ends: usize, prefix: Prefix, moment: i64) -> Settled
         requires ends { ends ≤ length line.now }
-        requires offset { Steps.IsOffset ahead }
-        ensures { result ≡ Zoned.ahead_by prefix ahead
+        requires shown { Zoned.ShowsAt zone.now prefix moment }
+        ensures { result ≡ Zoned.at_moment prefix moment
             (if Zoned.has_name zone.now (word_after line.now ends) moment then None else Some AnotherOffset) }
     {
         let doubt = if has_name(zone, line, ends, moment) {
@@ -155,7 +195,7 @@ impl Settled {
         } else {
             Some(Doubt::AnotherOffset)
         };
-        Settled::ahead_by(prefix, ahead, doubt)
+        Settled::at(zone, prefix, moment, doubt)
     }
 
     // A date at no moment.
@@ -198,9 +238,8 @@ impl Settled {
         }
     }
 
-    // A date within 26 hours of a step of the clock of a zone.
-    #[inline(never)]
-    fn near_step(zone: &Zone, line: &[u8], ends: usize, prefix: Prefix, shown: i64) -> Settled
+    // A date that takes an offset, on the clock of a zone.
+    fn on_clock(zone: &Zone, line: &[u8], ends: usize, prefix: Prefix, shown: i64) -> Settled
         requires ends { ends ≤ length line.now }
         requires shown { shown ≡ Zoned.reading prefix.moment }
         requires bound { Steps.IsReading shown }
@@ -208,30 +247,12 @@ impl Settled {
             (moments_of zone.now.first zone.now.steps.items (Zoned.reading prefix.moment)) }
     {
         match zone.moments(shown) {
-            Moments::One(moment) => {
-                Settled::at_only(zone, line, ends, prefix, zone.offset_at(moment), moment)
-            }
+            Moments::One(moment) => Settled::at_only(zone, line, ends, prefix, moment),
             Moments::Repeated(first, second) => {
                 Settled::chosen(zone, line, ends, prefix, first, second)
             }
             Moments::Skipped => Settled::nowhere(prefix, Doubt::Skipped),
             Moments::Several(_, _, _) => Settled::nowhere(prefix, Doubt::Repeated),
-        }
-    }
-
-    // A date that takes an offset, on the clock of a zone.
-    fn on_clock(zone: &Zone, line: &[u8], ends: usize, prefix: Prefix) -> Settled
-        requires { ends ≤ length line.now }
-        ensures { result ≡ Zoned.by_moments zone.now line.now ends prefix
-            (moments_of zone.now.first zone.now.steps.items (Zoned.reading prefix.moment)) }
-    {
-        let shown = reading(&prefix.moment);
-        match zone.sure_offset(shown) {
-            Some(ahead) => {
-                let moment = shown - i64::from(ahead);
-                Settled::at_only(zone, line, ends, prefix, ahead, moment)
-            }
-            None => Settled::near_step(zone, line, ends, prefix, shown),
         }
     }
 
@@ -251,7 +272,8 @@ impl Settled {
             (Zoned.takes_offset (record_at (grammar_in source.now) (drop start line.now))) line.now start prefix }
     {
         if takes_offset(source, after(line, start)) {
-            return Settled::on_clock(zone, line, start + prefix.ends, prefix);
+            let shown = reading(&prefix.moment);
+            return Settled::on_clock(zone, line, start + prefix.ends, prefix, shown);
         }
         Settled {
             prefix,
@@ -276,7 +298,10 @@ impl Settled {
         ensures within { (b : List ℕ) → IsWithin b prefix → IsWithin b result.prefix }
     {
         match given.zone {
-            Some(zone) => Settled::on_zone(zone, source, given.offset, line, start, prefix),
+            Some(zone) => match sure_ahead(zone, source, line, start, &prefix) {
+                Some(ahead) => Settled::ahead_by(prefix, ahead, None),
+                None => Settled::on_zone(zone, source, given.offset, line, start, prefix),
+            },
             None => Settled {
                 prefix,
                 offset: given.offset,

@@ -1,5 +1,6 @@
 //! What is given for dates that lack it, beside a zone.
-ghost use Rattle.std.specs.Prelude.{◌≡◌};
+ghost use Rattle.std.specs.Prelude.{◌≡◌, None, true};
+ghost use Rattle.instants_prefixes.specs.Given.{nothing};
 ghost use Rattle.instants_lines.specs.Showing.{given_of};
 
 use calendar::UtcOffset;
@@ -15,6 +16,16 @@ pub(crate) struct Known {
 }
 
 impl Known {
+    /// Whether nothing is given beside a zone.
+    pub(crate) fn is_nothing(self) -> bool
+        ensures { result ≡ true → given_of self None ≡ nothing }
+    {
+        matches!(
+            (self.offset, self.years, self.time),
+            (None, Years::Unknown, None)
+        )
+    }
+
     /// The same, with a zone.
     #[inline(always)]
     pub(crate) fn on(self, zone: Option<&Zone>) -> Given<'_>

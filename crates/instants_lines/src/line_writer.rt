@@ -1,6 +1,8 @@
 //! What writes lines.
-ghost use Rattle.std.specs.Prelude.{◌≡◌, ◌≤◌, [], ◌∷◌, ◌++◌, length};
+ghost use Rattle.std.specs.Prelude.{◌≡◌, ◌≤◌, true, [], ◌∷◌, ◌++◌, length};
 ghost use Rattle.base.specs.Bytes.{tab};
+ghost use Rattle.instants_prefixes.specs.Given.{nothing};
+ghost use Rattle.instants_lines.specs.Showing.{given_of};
 
 mod calls;
 mod writes;
@@ -19,6 +21,8 @@ pub(crate) struct LineWriter<'a, 'b, 'p> {
     dates: &'a DateSources<'b, 'p>,
     known: Known,
     zone: Option<&'a Zone>,
+    // Whether nothing is given, which is found once.
+    is_plain: bool,
     label: Option<&'a str>,
     key: Answer,
     // The same and a tab, which are written at once.
@@ -27,6 +31,7 @@ pub(crate) struct LineWriter<'a, 'b, 'p> {
     storage: Answer,
     // How deep the last line with a date begins.
     indent: Option<usize>,
+    ghost plain: { is_plain ≡ true → given_of known zone ≡ nothing },
     // There is room for a tab after it.
     ghost room: { length key ≤ 63 },
     ghost tabbed_is: { tabbed ≡ key ++ tab ∷ [] },

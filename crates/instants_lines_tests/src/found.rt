@@ -36,7 +36,7 @@ fn told_in_two(finder: &Finder, line: &[u8]) -> Told {
 // What is found at once, where bytes are passed over before it.
 fn told_at_once(finder: &Finder, line: &[u8]) -> Told {
     let start = finder.undated_len(line)?;
-    let date = finder.plain_date(&NOTHING, line, start)?;
+    let date = finder.plain_date(line, start)?;
     as_told(Some(Finding::There(date)))
 }
 

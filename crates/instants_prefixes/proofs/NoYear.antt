@@ -1,5 +1,5 @@
 -- A text of ISO 8601 in which no year is read names no moment: it says no day, and none is given.
-use Rattle.std.proofs.Common.{◌≡◌, ◌||◌, ℕ, ℤ, true, false, eqb, List, [], ◌∷◌, get_or, Option, None, Some, Ok, Err, refl, ap, arith}
+use Rattle.std.proofs.Common.{◌≡◌, ◌<◌, ◌||◌, ℕ, suc, ℤ, true, false, eqb, List, [], ◌∷◌, get_or, Option, None, Some, Ok, Err, refl, ap, arith}
 use Rattle.std.specs.Prelude.{option_map}
 use Rattle.std.specs.Char.{is_ascii_digit}
 use Rattle.std.proofs.lemmas.Bool.Decides.{nat_tests}
@@ -63,26 +63,13 @@ none_without_year text given none = elim (iso8601_times.time Unknown false text)
 
 -- ---- where no year is read
 
-no_sign : (c : ℕ) → is_ascii_digit c ≡ true → ((eqb c plus) || (eqb c hyphen)) ≡ false
-no_sign c digit = grind (arith, nat_tests)
-
--- a year without a sign has four digits
-pub no_year_of_few : (text : List ℕ) → is_ascii_digit (get_or text 0 0) ≡ true → is_ascii_digit (get_or text 3 0) ≡ false → iso8601_numbers.year text ≡ None
-unfolding iso8601_numbers.year iso8601_numbers.plain_year byte_of digits
-no_year_of_few [] digit other = absurd cc
-no_year_of_few (c ∷ rest) digit other = rw (no_sign c digit, few_digits (c ∷ rest) other) refl
-
--- after a sign digits stand
-pub no_year_of_mark : (text : List ℕ) → is_ascii_digit (get_or text 0 0) ≡ false → is_ascii_digit (get_or text 1 0) ≡ false → iso8601_numbers.year text ≡ None
+-- after its first byte three digits stand, which may be a sign
+pub no_year_of : (text : List ℕ) (n : ℕ) → n < 3 → is_ascii_digit (get_or text (suc n) 0) ≡ false → iso8601_numbers.year text ≡ None
 unfolding iso8601_numbers.year iso8601_numbers.plain_year iso8601_numbers.signed_year byte_of digits
-no_year_of_mark [] digit other = refl
-no_year_of_mark (c ∷ []) digit other = elim ((eqb c plus) || (eqb c hyphen)) as (λ b. ((eqb c plus) || (eqb c hyphen)) ≡ b → iso8601_numbers.year (c ∷ []) ≡ None) [
-  | true ↦ λ e. rw e refl
-  | false ↦ λ e. rw (e, digit) refl
-] refl
-no_year_of_mark (c ∷ d ∷ rest) digit other = elim ((eqb c plus) || (eqb c hyphen)) as (λ b. ((eqb c plus) || (eqb c hyphen)) ≡ b → iso8601_numbers.year (c ∷ d ∷ rest) ≡ None) [
-  | true ↦ λ e. rw (e, other) refl
-  | false ↦ λ e. rw (e, digit) refl
+no_year_of [] n lt other = refl
+no_year_of (c ∷ rest) n lt other = elim ((eqb c plus) || (eqb c hyphen)) as (λ b. ((eqb c plus) || (eqb c hyphen)) ≡ b → iso8601_numbers.year (c ∷ rest) ≡ None) [
+  | true ↦ λ e. rw (e, few_digits rest n 6 (omega (arith, lt)) other) refl
+  | false ↦ λ e. rw (e, few_digits (c ∷ rest) (suc n) 4 (omega (arith, lt)) other) refl
 ] refl
 
 -- a year begins with a digit or a sign

@@ -1,5 +1,5 @@
 -- Texts by which a source names nothing.
-use Rattle.std.proofs.Common.{◌≡◌, ◌≤◌, ◌+◌, ◌-◌, ◌*◌, ◌∙◌, ◌⊎◌, inl, inr, length, ℕ, zero, suc, Bool, true, false, eqb, List, [], ◌∷◌, get_or, drop, Option, None, Some, Ok, Err, refl, arith}
+use Rattle.std.proofs.Common.{◌≡◌, ◌<◌, ◌≤◌, ◌+◌, ◌-◌, ◌*◌, ◌∙◌, ◌⊎◌, inl, inr, length, ℕ, zero, suc, Bool, true, false, eqb, List, [], ◌∷◌, get_or, drop, Option, None, Some, Ok, Err, refl, arith}
 use Rattle.std.specs.Prelude.{codes, nat_le, if◌then◌else◌}
 use Rattle.std.specs.Result.{result_ok}
 use Rattle.std.specs.Char.{is_ascii_digit, is_ascii_alphanumeric}
@@ -55,14 +55,14 @@ pub hyphen_none : (text : List ℕ) → eqb (get_or text 4 0) hyphen ≡ false �
 unfolding prefix_named reads_rfc3339 rfc3339.rfc3339 rfc3339.date digits
 hyphen_none text other given = let none = no_byte hyphen text 4 other in none_prefix given (reads_rfc3339 empty text) (grind (arith, nat_tests))
 
--- where the fourth byte is no digit there are fewer than four
-pub few_digits : (text : List ℕ) → is_ascii_digit (get_or text 3 0) ≡ false → nat_le 4 (digit_count text) ≡ false
-few_digits text e = grind (arith, nat_tests, prefix_len_passes is_ascii_digit text 3 0)
+-- where a byte is no digit no more digits than it has before it begin the text
+pub few_digits : (text : List ℕ) (n count : ℕ) → n < count → is_ascii_digit (get_or text n 0) ≡ false → nat_le count (digit_count text) ≡ false
+few_digits text n count lt e = grind (arith, nat_tests, prefix_len_passes is_ascii_digit text n 0)
 
 -- its year has four digits
 pub year_none : (text : List ℕ) → is_ascii_digit (get_or text 3 0) ≡ false → (given : Given) → prefix_named given Rfc3339 text ≡ None
 unfolding prefix_named reads_rfc3339 rfc3339.rfc3339 rfc3339.date digits
-year_none text other given = none_prefix given (reads_rfc3339 empty text) (rw (few_digits text other) refl)
+year_none text other given = none_prefix given (reads_rfc3339 empty text) (rw (few_digits text 3 4 (omega arith) other) refl)
 
 -- ---- RFC 2822
 

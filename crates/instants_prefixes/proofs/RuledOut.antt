@@ -1,5 +1,5 @@
 -- Bytes at which no date begins, as their first ones show.
-use Rattle.std.proofs.Common.{◌≡◌, ◌≤◌, ◌⊎◌, inl, inr, ℕ, zero, suc, Bool, true, false, eqb, List, [], ◌∷◌, get_or, take, None, refl, sym, ap, ◌∙◌, arith}
+use Rattle.std.proofs.Common.{◌≡◌, ◌<◌, ◌≤◌, ◌⊎◌, inl, inr, ℕ, zero, suc, Bool, true, false, eqb, List, [], ◌∷◌, get_or, take, None, refl, sym, ap, ◌∙◌, arith}
 use Rattle.std.specs.Result.{result_ok}
 use Rattle.std.specs.Char.{is_ascii_digit}
 use Rattle.base.specs.Bytes.{hyphen}
@@ -11,8 +11,8 @@ use Rattle.instants_prefixes.specs.Given.{Given}
 use Rattle.instants_prefixes.specs.NoPrefix.{HasNoPrefix}
 use Rattle.instants_prefixes.specs.Reading.{text_for, prefix_named}
 use Rattle.instants_prefixes.proofs.NoneNamed.{after_day, described_none, hyphen_none, year_none, comma_none, space_none, nothing_rfc2822}
-use Rattle.instants_prefixes.proofs.NoYear.{no_year_of_few, no_year_of_mark, nothing_iso8601, without_year}
-use Rattle.instants_prefixes.proofs.Windows.{first_of_text, text_byte, text_prefix}
+use Rattle.instants_prefixes.proofs.NoYear.{no_year_of, without_year}
+use Rattle.instants_prefixes.proofs.Windows.{text_byte, text_prefix}
 
 -- a test that no byte passes that is not there
 still_fails : (p : ℕ → Bool) (there byte : ℕ) → p 0 ≡ false → (there ≡ byte) ⊎ (there ≡ 0) → p byte ≡ false → p there ≡ false
@@ -67,20 +67,10 @@ space_due bytes digit h given =
     ap (prefix_named given Rfc2822) is ∙ none_near count bytes digit there given
 
 -- ISO 8601: no moment is named where no year is read
-pub four_digits_due : (bytes : List ℕ) → is_ascii_digit (get_or bytes 0 0) ≡ true → is_ascii_digit (get_or bytes 3 0) ≡ false → HasNoPrefix bytes Iso8601
-four_digits_due bytes digit other given =
+pub digit_due : (bytes : List ℕ) (n : ℕ) → n < 3 → is_ascii_digit (get_or bytes (suc n) 0) ≡ false → HasNoPrefix bytes Iso8601
+digit_due bytes n lt other given =
     let text = text_for Iso8601 bytes in
-    elim (first_of_text Iso8601 bytes) [
-      | inl e ↦ rw e (nothing_iso8601 given)
-      | inr e ↦ without_year text given (no_year_of_few text (ap is_ascii_digit e ∙ digit) (still_fails is_ascii_digit (get_or text 3 0) (get_or bytes 3 0) refl (text_byte Iso8601 bytes 3) other))
-    ]
-
-pub digit_due : (bytes : List ℕ) → is_ascii_digit (get_or bytes 0 0) ≡ false → is_ascii_digit (get_or bytes 1 0) ≡ false → HasNoPrefix bytes Iso8601
-digit_due bytes digit other given =
-    let text = text_for Iso8601 bytes in
-    without_year text given
-    (no_year_of_mark text (still_fails is_ascii_digit (get_or text 0 0) (get_or bytes 0 0) refl (text_byte Iso8601 bytes 0) digit)
-    (still_fails is_ascii_digit (get_or text 1 0) (get_or bytes 1 0) refl (text_byte Iso8601 bytes 1) other))
+    without_year text given (no_year_of text n lt (still_fails is_ascii_digit (get_or text (suc n) 0) (get_or bytes (suc n) 0) refl (text_byte Iso8601 bytes (suc n)) other))
 
 pub described_due : (written : Written) (bytes text : List ℕ) → text ≡ text_for (Described written) bytes → ((r : Record) → result_ok (reads_written written r text) ≡ None) → HasNoPrefix bytes (Described written)
 described_due written bytes text is refused given = ap (prefix_named given (Described written)) (sym is) ∙ described_none written text refused given

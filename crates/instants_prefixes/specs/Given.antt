@@ -15,6 +15,10 @@ pub use Rattle.instants_prefixes.specs.declared.given.Given.{Given}
 pub use Rattle.instants_prefixes.specs.declared.given.Years.{Years}
 pub use Rattle.instants_prefixes.specs.declared.given.Years.TheVariants.{Unknown, In, Near}
 
+-- nothing is given
+abbrev pub nothing : Given
+nothing = record { offset = None; zone = None; years = Unknown; time = None }
+
 -- ---- what was not read
 
 -- no hour of an offset was read

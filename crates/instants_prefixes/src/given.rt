@@ -28,3 +28,11 @@ pub struct Given<'z> {
     /// The time of day in minutes.
     pub time: Option<u16>,
 }
+
+/// Nothing is given.
+pub const NOTHING: Given<'static> = Given {
+    offset: None,
+    zone: None,
+    years: Years::Unknown,
+    time: None,
+};

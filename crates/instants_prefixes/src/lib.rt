@@ -17,7 +17,7 @@ mod window;
 
 pub use completed::{lacks_offset, lacks_time, lacks_year};
 pub use date_source::DateSource;
-pub use given::{Given, Years};
+pub use given::{Given, NOTHING, Years};
 pub use lacks::Lack;
 pub use prefix::Prefix;
 pub use ruled_out::{lacks_byte, rules_out};

@@ -34,15 +34,15 @@ fn lacks_mark(bytes: &[u8]) -> bool
     byte_at(bytes, 3) != b','
 }
 
-// Whether a date of ISO 8601 lacks a digit of its year, which has four, or more after a sign.
+// Whether a date of ISO 8601 lacks a digit of its year, which has four, or six after a sign.
 #[inline(never)]
 fn lacks_digit(bytes: &[u8]) -> bool
     ensures { result ≡ true → HasNoPrefix bytes.now Iso8601 }
 {
-    if byte_at(bytes, 0).is_ascii_digit() {
+    if byte_at(bytes, 1).is_ascii_digit() {
         return !byte_at(bytes, 3).is_ascii_digit();
     }
-    !byte_at(bytes, 1).is_ascii_digit()
+    true
 }
 
 /// Whether a byte that is due in each date of a format is not there, so that no prefix of the bytes names a moment by a source,

@@ -1,6 +1,5 @@
 //! The moment that a text names, kept as it was read.
 
-use calendar::UtcOffset;
 use datetime_types::OffsetDateTime;
 use parsing_values::Fields;
 use std::marker::Model;
@@ -50,27 +49,6 @@ impl Named {
     {
         Named {
             kept: Kept::Moment(moment),
-        }
-    }
-
-    /// The same date and time at another offset.
-    #[inline(always)]
-    #[tactic(auto, unfolding(parsing_values::specs::Moment::moment_of))]
-    pub fn replace_offset(&self, offset: UtcOffset) -> Named
-        ensures { result ≡ record self.now { offset = offset } }
-    {
-        let seconds = offset.whole_seconds();
-        match &self.kept {
-            Kept::Fields(fields) if seconds % 60 == 0 => Named::of_fields(Fields {
-                year: fields.year,
-                month: fields.month,
-                day: fields.day,
-                minute: fields.minute,
-                offset: seconds / 60,
-                second: fields.second,
-                fraction: fields.fraction,
-            }),
-            _ => Named::of_moment(self.moment().replace_offset(offset)),
         }
     }
 

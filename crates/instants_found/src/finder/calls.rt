@@ -1,5 +1,7 @@
 //! The calls of a finder.
-ghost use Rattle.std.specs.Prelude.{◌≡◌, ◌<◌, ◌≤◌, ◌+◌, length, map, min, false, None, Some, All, IfOk, IfSome, IfNone};
+ghost use Rattle.std.specs.Prelude.{◌≡◌, ◌<◌, ◌≤◌, ◌+◌, length, map, min, true, false, None, Some, All, IfOk, IfSome, IfNone};
+ghost use Rattle.instants_edges.specs.Edge.{is_edge};
+ghost use Rattle.instants_prefixes.specs.Given.{nothing};
 ghost use Rattle.instants_prefixes.specs.declared.given.Given.{Given};
 ghost use Rattle.instants_prefixes.specs.DateSource.{grammar_in};
 ghost use Rattle.instants_sources.specs.Grammar.{grammar_of};
@@ -71,8 +73,8 @@ impl<'a> Finder<'a> {
     #[inline(always)]
     fn can_start(&self, line: &[u8], place: usize) -> bool
         requires { place < length line.now }
-        ensures { result ≡ false
-            → IsNoDate (sources_of self.now) line.now place }
+        ensures none { result ≡ false → IsNoDate (sources_of self.now) line.now place }
+        ensures edge { result ≡ true → is_edge line.now place ≡ true }
     {
         self.starts[usize::from(line[place])] && is_edge(line, place)
     }
@@ -81,8 +83,8 @@ impl<'a> Finder<'a> {
     #[inline(always)]
     fn has_start(&self, line: &[u8], start: usize) -> bool
         requires { start < length line.now }
-        ensures { result ≡ false
-            → IsNoDate (sources_of self.now) line.now start }
+        ensures none { result ≡ false → IsNoDate (sources_of self.now) line.now start }
+        ensures edge { result ≡ true → is_edge line.now start ≡ true }
     {
         if !self.can_start(line, start) {
             return false;
@@ -99,6 +101,7 @@ impl<'a> Finder<'a> {
         ensures within { IfSome result (λ start. (from ≤ start) × (start < length line.now)) }
         ensures passed { IfSome result
             (HasNoDate (sources_of self.now) line.now from) }
+        ensures edge { IfSome result (λ start. is_edge line.now start ≡ true) }
     {
         for place in from..self.end(line) {
             if self.has_start(line, place) {
@@ -119,6 +122,7 @@ impl<'a> Finder<'a> {
         ensures within { IfSome result (λ start. (from ≤ start) × (start < to)) }
         ensures passed { IfSome result
             (HasNoDate (sources_of self.now) line.now from) }
+        ensures edge { IfSome result (λ start. is_edge line.now start ≡ true) }
     {
         let mut at = from;
         let mut left = marks;
@@ -156,6 +160,7 @@ impl<'a> Finder<'a> {
         ensures within { IfSome result (λ place. (from ≤ place) × (place < start + LANES)) }
         ensures passed { IfSome result
             (HasNoDate (sources_of self.now) line.now from) }
+        ensures edge { IfSome result (λ place. is_edge line.now place ≡ true) }
     {
         let bits = marks.bits(line, keyed, start);
         if bits == 0 {
@@ -176,6 +181,7 @@ impl<'a> Finder<'a> {
         ensures within { IfSome result (λ start. (from ≤ start) × (start < length line.now)) }
         ensures passed { IfSome result
             (HasNoDate (sources_of self.now) line.now from) }
+        ensures edge { IfSome result (λ start. is_edge line.now start ≡ true) }
     {
         if from == line.len() - 4 && self.can_start(line, from) {
             return Some(from);
@@ -203,6 +209,7 @@ impl<'a> Finder<'a> {
         ensures within { IfSome result (λ start. (from ≤ start) × (start < length line.now)) }
         ensures passed { IfSome result
             (HasNoDate (sources_of self.now) line.now from) }
+        ensures edge { IfSome result (λ start. is_edge line.now start ≡ true) }
     {
         let last = line.len() - (REACH - LANES);
         if from < last {
@@ -223,6 +230,7 @@ impl<'a> Finder<'a> {
             (min (limit_of self.now) (length line.now))) }
         ensures within { IfSome result (λ start. (from ≤ start) × (start < length line.now)) }
         ensures passed { IfSome result (HasNoDate (sources_of self.now) line.now from) }
+        ensures edge { IfSome result (λ start. is_edge line.now start ≡ true) }
     {
         // (a copy, which is known to stay the same in the loop)
         let marks = *marks;
@@ -249,6 +257,7 @@ impl<'a> Finder<'a> {
             (min (limit_of self.now) (length line.now))) }
         ensures within { IfSome result (λ start. (from ≤ start) × (start < length line.now)) }
         ensures passed { IfSome result (HasNoDate (sources_of self.now) line.now from) }
+        ensures edge { IfSome result (λ start. is_edge line.now start ≡ true) }
     {
         if line.len() < REACH {
             return self.by_bytes(line, from);
@@ -281,6 +290,7 @@ impl<'a> Finder<'a> {
         ensures within { IfSome result (λ start. start < length (looked_at (limit_of self.now) line.now)) }
         ensures passed { IfSome result
             (HasNoDate (sources_of self.now) (looked_at (limit_of self.now) line.now) 0) }
+        ensures edge { IfSome result (λ start. is_edge (looked_at (limit_of self.now) line.now) start ≡ true) }
     {
         self.next_start(self.looked_at(line), 0)
     }
@@ -320,21 +330,21 @@ impl<'a> Finder<'a> {
         self.find_in(given, self.looked_at(line), first)
     }
 
-    /// The date of a line with what is given, where none begins before a place and the date there is found at once: nothing is
-    /// given, a plan reads it, and it stands whole. `None` says nothing of the line. A caller that looks here first has the
+    /// The date of a line where nothing is given, if none begins before a place, which isn't inside a word, and the date there is
+    /// found at once: a plan reads it, and it stands whole. `None` says nothing of the line. A caller that looks here first has the
     /// date's fields without room in memory for all that `find_from` may find.
     #[inline(always)]
-    pub fn plain_date(&self, given: &Given, line: &[u8], first: usize) -> Option<Found>
+    pub fn plain_date(&self, line: &[u8], first: usize) -> Option<Found>
         requires within { first < length (looked_at (limit_of self.now) line.now) }
         requires passed { HasNoDate (sources_of self.now) (looked_at (limit_of self.now) line.now) 0 first }
+        requires edge { is_edge (looked_at (limit_of self.now) line.now) first ≡ true }
         ensures { IfSome result (λ date.
-            Some (There date) ≡ found (limit_of self.now) given.now (sources_of self.now) line.now) }
+            Some (There date) ≡ found (limit_of self.now) nothing (sources_of self.now) line.now) }
     {
         if first >= self.limit {
             return None;
         }
-        let Some(date) = plain_at(self.sources.as_slice(), given, self.looked_at(line), first)
-        else {
+        let Some(date) = plain_at(self.sources.as_slice(), self.looked_at(line), first) else {
             return None;
         };
         Some(date)

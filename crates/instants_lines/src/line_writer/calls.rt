@@ -1,6 +1,7 @@
 //! What is written for lines one after another.
-ghost use Rattle.std.specs.Prelude.{◌≡◌, ◌<◌, ◌≤◌, [], ◌∷◌, ◌++◌, length, option_map, if◌then◌else◌, false, None, Some, IfSome, IfNone, OnOk};
+ghost use Rattle.std.specs.Prelude.{◌≡◌, ◌<◌, ◌≤◌, [], ◌∷◌, ◌++◌, length, option_map, if◌then◌else◌, true, false, None, Some, IfSome, IfNone, OnOk};
 ghost use Rattle.base.specs.Bytes.{tab, line_feed};
+ghost use Rattle.instants_edges.specs.Edge.{is_edge};
 ghost use Rattle.instants_found.specs.Found.{looked_at};
 ghost use Rattle.instants_found.specs.Starts.{HasNoDate};
 ghost use Rattle.instants_found.specs.declared.found.Finding.TheVariants.{Doubtful, There};
@@ -41,6 +42,7 @@ impl<'a, 'b, 'p> LineWriter<'a, 'b, 'p> {
         ensures { going_of result ≡ beginning mode (option_map (λ text. text.now) label.entry)
             (search_in dates.now (given_of known zone.entry)) }
     {
+        let (knows_nothing, has_zone) = (known.is_nothing(), zone.is_some());
         let mut key = Answer::new();
         key.push_bytes(b"! none");
         LineWriter {
@@ -48,6 +50,7 @@ impl<'a, 'b, 'p> LineWriter<'a, 'b, 'p> {
             dates,
             known,
             zone,
+            is_plain: knows_nothing && !has_zone,
             label,
             key,
             tabbed: tabbed(key),
@@ -91,6 +94,7 @@ impl<'a, 'b, 'p> LineWriter<'a, 'b, 'p> {
                 dates: self.dates,
                 known: self.known,
                 zone: self.zone,
+                is_plain: self.is_plain,
                 label: self.label,
                 key: self.storage,
                 tabbed: tabbed(self.storage),
@@ -127,6 +131,7 @@ impl<'a, 'b, 'p> LineWriter<'a, 'b, 'p> {
             Some(_) => date.moment.moment().replace_offset(UtcOffset::UTC),
             None => date.moment.moment(),
         };
+        self.is_plain = false;
         self.known = Known {
             offset: self.known.offset,
             years: Years::Near(above),
@@ -222,6 +227,7 @@ impl<'a, 'b, 'p> LineWriter<'a, 'b, 'p> {
         requires within { first < length (looked_at (going_of self.old).search.limit line.now) }
         requires passed { HasNoDate (going_of self.old).search.setting.sources
             (looked_at (going_of self.old).search.limit line.now) 0 first }
+        requires edge { is_edge (looked_at (going_of self.old).search.limit line.now) first ≡ true }
         requires own { goes_on (going_of self.old).mode (going_of self.old).indent line.now ≡ false }
         requires whole { (going_of self.old).search.part ≡ None }
         ensures wrote { IfSome result (λ end. Wrote W.ByteWriter writer.old writer.new end
@@ -229,7 +235,10 @@ impl<'a, 'b, 'p> LineWriter<'a, 'b, 'p> {
         ensures next { IfSome result (λ end. OnOk end (going_of self.new ≡ below (going_of self.old) line.now)) }
         ensures same { IfNone result ((going_of self.new ≡ going_of self.old) × (writer.new ≡ writer.old)) }
     {
-        let Some(date) = self.dates.finder.plain_date(&self.given(), line, first) else {
+        if !self.is_plain {
+            return None;
+        }
+        let Some(date) = self.dates.finder.plain_date(line, first) else {
             return None;
         };
         Some(self.write_dated(&date, line, writer))

@@ -5,17 +5,18 @@ use Rattle.instants_found.specs.Candidate.{candidate}
 use Rattle.instants_found.specs.Found.{finding}
 use Rattle.instants_found.proofs.ReadAt.{no_candidate}
 use Rattle.instants_found.proofs.Longest.{alone, one_more, none_after}
+use Rattle.instants_prefixes.specs.Given.{nothing}
 use Rattle.instants_found.proofs.finding.plain_by_sources.Goals as goal
 
 pub loop-number-preserved : goal.loop-number-preserved
 loop-number-preserved c =
     let source = c.index-sources-number.result in
-    let none = no_candidate c.args.given.now c.args.line.now c.args.start c.loop-number.number (grammar_in source) (rw (c.after-bytes.ensures, c.source.ensures) at (c.lacks_byte.ensures c.if-lacks_byte.true)) in
-    one_more c.args.given.now c.args.line.now c.args.start c.args.sources.now c.loop-number.number source None None (omega arith) c.index-sources-number.is c.loop-number.invariant (sym none)
+    let none = no_candidate nothing c.args.line.now c.args.start c.loop-number.number (grammar_in source) (rw (c.after-bytes.ensures, c.source.ensures) at (c.lacks_byte.ensures c.if-lacks_byte.true)) in
+    one_more nothing c.args.line.now c.args.start c.args.sources.now c.loop-number.number source None None (omega arith) c.index-sources-number.is c.loop-number.invariant (sym none)
 
 pub returns-in-loop-number : goal.returns-in-loop-number
 returns-in-loop-number c =
-    let given = c.args.given.now in
+    let given = nothing in
     let line = c.args.line.now in
     let start = c.args.start in
     let sources = c.args.sources.now in

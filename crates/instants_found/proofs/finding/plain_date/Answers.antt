@@ -10,6 +10,7 @@ use Rattle.instants_found.specs.declared.found.Found.{Found}
 use Rattle.instants_found.specs.declared.found.Finding.TheVariants.{Doubtful, There}
 use Rattle.instants_found.proofs.Needless.{nothing_why}
 use Rattle.instants_found.proofs.ReadAt.{by_read}
+use Rattle.instants_prefixes.specs.Given.{nothing}
 use Rattle.instants_found.proofs.finding.plain_date.Goals as goal
 
 pub returns : goal.returns
@@ -18,12 +19,11 @@ returns c =
     let start = c.args.start in
     let grammar = grammar_in c.args.source.now in
     let prefix = c.in-Some.prefix in
-    let date : Settled = record { prefix = prefix; offset = c.args.given.now.offset; doubt = None } in
-    let settles : date ≡ settled_at c.args.given.now grammar line start prefix = rw (c.gives_nothing.ensures.zone c.if-not-gives_nothing.false) refl in
-    let whole : is_none (why c.args.given.now grammar line start date) ≡ true =
-    ap is_none (sym (nothing_why c.args.given.now grammar line start date c.in-None.ensures refl
-    (c.gives_nothing.ensures.offset c.if-not-gives_nothing.false) (c.gives_nothing.ensures.years c.if-not-gives_nothing.false) (c.gives_nothing.ensures.time c.if-not-gives_nothing.false))) in
+    let date : Settled = record { prefix = prefix; offset = None; doubt = None } in
+    let settles : date ≡ settled_at nothing grammar line start prefix = refl in
+    let whole : is_none (why nothing grammar line start date) ≡ true =
+    ap is_none (sym (nothing_why nothing grammar line start date c.in-None.ensures refl refl refl refl)) in
     ap (λ (d : Found). Some (There d)) c.found_at.ensures
     ∙ ap (λ (b : Bool). Some (if b then There (found_at start c.args.number prefix) else Doubtful start)) (sym whole)
-    ∙ ap (λ (d : Settled). option_map (finding start) (Some (as_candidate c.args.given.now line start c.args.number grammar d))) settles
-    ∙ ap (option_map (finding start)) (by_read c.args.given.now line start c.args.number grammar prefix true (rw c.after.ensures at c.in-Some.ensures.prefix) (sym c.if-not-is_read.false ∙ c.is_read.ensures))
+    ∙ ap (λ (d : Settled). option_map (finding start) (Some (as_candidate nothing line start c.args.number grammar d))) settles
+    ∙ ap (option_map (finding start)) (by_read nothing line start c.args.number grammar prefix true (rw c.after.ensures at c.in-Some.ensures.prefix) (sym c.if-not-is_read.false ∙ c.is_read.ensures))

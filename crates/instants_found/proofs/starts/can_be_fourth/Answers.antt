@@ -1,7 +1,7 @@
-use Rattle.std.proofs.Common.{◌∙◌, sym}
+use Rattle.std.proofs.Common.{◌∙◌, sym, arith}
 use Rattle.instants_sources.specs.Grammar.{written}
 use Rattle.instants_sources.proofs.Form.{by_description}
-use Rattle.instants_prefixes.proofs.RuledOut.{year_due}
+use Rattle.instants_prefixes.proofs.RuledOut.{digit_due, year_due}
 use Rattle.instants_found.proofs.SourceKeys.{described_fourth}
 use Rattle.instants_found.proofs.starts.can_be_fourth.Goals as goal
 
@@ -11,3 +11,6 @@ returns-in-Items c = λ e.
 
 pub returns-in-Rfc3339 : goal.returns-in-Rfc3339
 returns-in-Rfc3339 c = λ e bytes there. rw c.in-Rfc3339.is (year_due bytes (rw there (sym c.is_ascii_digit.ensures.value ∙ e)))
+
+pub returns-in-Iso8601 : goal.returns-in-Iso8601
+returns-in-Iso8601 c = λ e bytes there. rw c.in-Iso8601.is (digit_due bytes 2 (omega arith) (rw there (sym c.is_ascii_digit-in-Iso8601.ensures.value ∙ e)))

@@ -9,6 +9,6 @@ returns-clause-none c =
     let sources = sources_of c.args.self.now in
     let line = c.args.line.now in
     elim c.else-from-line.branch [
-      | else-from-line-via-then-from-line+else-can_start w ↦ none_at_end sources line c.args.from c.requires.long c.requires.end (λ _. w.can_start.ensures w.if-can_start.false)
+      | else-from-line-via-then-from-line+else-can_start w ↦ none_at_end sources line c.args.from c.requires.long c.requires.end (λ _. w.can_start.ensures.none w.if-can_start.false)
       | else-from-line-via-else-from-line w ↦ none_at_end sources line c.args.from c.requires.long c.requires.end (λ here. absurd (w.if-from-line.false (omega (arith, here))))
     ]

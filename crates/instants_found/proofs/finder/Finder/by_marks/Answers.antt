@@ -35,7 +35,7 @@ loop-left-preserved c =
     record {
       low = omega arith;
       high = omega arith;
-      passed = none_at_more sources line c.args.from (l.at + after) passed (c.can_start.ensures c.if-can_start.false);
+      passed = none_at_more sources line c.args.from (l.at + after) passed (c.can_start.ensures.none c.if-can_start.false);
       marks = marks_after sources line l.at c.args.to l.left after l.invariant.marks;
     }
 

@@ -8,13 +8,12 @@ use Rattle.instants_found.proofs.keys.Keys.of.Goals as goal
 
 pub loop-number-preserved : goal.loop-number-preserved
 loop-number-preserved c =
-    let keys = c.in_ok-keys.keys in
+    let keys = c.with_source-keys.result in
     let sources = c.args.sources.now in
     let number = c.loop-number.number in
     let source = c.index-sources-number.result in
-    let others = All-weaker (λ (source : Source). NeedsOne c.loop-number.keys (grammar_of source)) (λ (source : Source). NeedsOne keys (grammar_of source)) (λ source needs. c.in_ok-keys.ensures.others (grammar_of source) needs) (take number sources) c.loop-number.invariant in
-    All-more (λ (source : Source). NeedsOne keys (grammar_of source)) sources number source (omega arith) others
-    (rw (← c.index-sources-number.is) (c.in_ok-keys.ensures.key (grammar_of source) c.in_ok-key_of-2.ensures.key))
+    let others = All-weaker (λ (source : Source). NeedsOne c.loop-number.keys (grammar_of source)) (λ (source : Source). NeedsOne keys (grammar_of source)) (λ source needs. c.with_source-keys.ensures.others (grammar_of source) needs) (take number sources) c.loop-number.invariant in
+    All-more (λ (source : Source). NeedsOne keys (grammar_of source)) sources number source (omega arith) others (rw (← c.index-sources-number.is) c.with_source-keys.ensures.source)
 
 pub returns : goal.returns
 returns c =

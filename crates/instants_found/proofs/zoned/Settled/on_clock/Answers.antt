@@ -1,10 +1,22 @@
-use Rattle.std.proofs.Common.{arith}
+use Rattle.std.proofs.Common.{◌≡◌, w64, to_z, of_z, arith}
 use Rattle.std.proofs.lemmas.Int.{ints}
-use Rattle.instants_found.proofs.ZonedLemmas.{at_only_is}
+use Rattle.instants_found.proofs.ZonedLemmas.{both_shown, one_shown}
 use Rattle.instants_found.proofs.zoned.Settled.on_clock.Goals as goal
 
-pub returns-in-Some : goal.returns-in-Some
-returns-in-Some c =
-    let shows = c.reading-shown.ensures.value in
-    at_only_is c.args.zone.now c.args.line.now c.args.ends c.args.prefix c.in-Some.ahead _ _ _ c.at_only.result (omega (arith, ints, c.in-Some.ensures.bound)) (omega (arith, ints, shows, c.reading-shown.ensures.bound))
-    (omega (arith, ints, shows, c.reading-shown.ensures.bound, c.in-Some.ensures.bound, c.from.ensures)) c.in-Some.ensures.only c.at_only.ensures
+pub chosen-requires-clause-first : goal.chosen-requires-clause-first
+chosen-requires-clause-first c =
+    let both = both_shown c.args.zone.now c.args.prefix _ c.in-Repeated.first c.in-Repeated.second c.moments.result (omega (arith, ints, c.requires.shown, c.requires.bound)) c.moments.ensures.relation c.in-Repeated.is in
+    let same : to_z w64 (of_z w64 c.in-Repeated.first) ≡ c.in-Repeated.first = omega (arith, ints, c.in-Repeated.ensures) in
+    rw same both.0
+
+pub chosen-requires-clause-second : goal.chosen-requires-clause-second
+chosen-requires-clause-second c =
+    let both = both_shown c.args.zone.now c.args.prefix _ c.in-Repeated.first c.in-Repeated.second c.moments.result (omega (arith, ints, c.requires.shown, c.requires.bound)) c.moments.ensures.relation c.in-Repeated.is in
+    let same : to_z w64 (of_z w64 c.in-Repeated.second) ≡ c.in-Repeated.second = omega (arith, ints, c.in-Repeated.ensures) in
+    rw same both.1
+
+pub at_only-requires-clause-shown : goal.at_only-requires-clause-shown
+at_only-requires-clause-shown c =
+    let one = one_shown c.args.zone.now c.args.prefix _ c.in-One.moment c.moments.result (omega (arith, ints, c.requires.shown, c.requires.bound)) c.moments.ensures.relation c.in-One.is in
+    let same : to_z w64 (of_z w64 c.in-One.moment) ≡ c.in-One.moment = omega (arith, ints, c.in-One.ensures) in
+    rw same one
