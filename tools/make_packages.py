@@ -37,6 +37,8 @@ SOURCES = ("c", "postgres", "rust", "sqlite")
 # What each package has: the licence, and the notice of whose code is in it. The crates for Rust have copies of their own.
 TERMS = ("LICENSE", "NOTICE")
 CRATES = tuple(ROOT / "bindings" / "rust" / it for it in ("sys", ""))
+# The names of files with a licence or a notice.
+LICENCE = re.compile(r"(?:licen[cs]e|copying|copyright|notice)\b", re.I)
 # The file of the checksums.
 SUMS = "SHA256SUMS"
 
@@ -66,6 +68,16 @@ def stale_terms() -> list[str]:
     """Returns the copies of the licence and the notice that a crate for Rust lacks, or that differ from the repository's."""
     copies = [(ROOT / name, crate / name) for crate in CRATES for name in TERMS]
     return [str(copy.relative_to(ROOT)) for of, copy in copies if not copy.is_file() or copy.read_bytes() != of.read_bytes()]
+
+
+def licences_of_kit() -> list[str]:
+    """Returns the files with a licence that the kit's folder has of its own, or of the code that it puts into programs, where a
+    kit is there. The notice says that there are none."""
+    if not shutil.which("rt"):
+        return []
+    kit = build_library.kit()
+    folders = [kit, kit / "c", *(kit / "rattle" / it for it in ("", "core")), *(kit / "rattle").glob("std*")]
+    return [str(it.relative_to(kit)) for folder in folders for it in folder.iterdir() if LICENCE.match(it.name)]
 
 
 def programs() -> dict[str, Program]:

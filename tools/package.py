@@ -12,9 +12,10 @@ They are put into FOLDER (`packages` in the system's temporary folder if left ou
 
 and `instants-VERSION-x86_64-linux.tar.gz`, with all of it, `make install PREFIX=`, and a wheel for pip; and
 `instants-VERSION.spdx.json`, the list of what is in them and of its licences (tools/spdx_list.py); and `SHA256SUMS`. The README has
-the sizes of the programs without their symbols, and which glibc they need; both are compared with what is measured here. The
-programs and the library are those that were built last; where they are not, or are older than their sources, they are proved and
-built first. The same commit gives the same bytes: each file is as old as the commit, and all is made twice and compared.
+the sizes of the programs without their symbols, and which glibc they need; both are compared with what is measured here. NOTICE
+says that the kit's folder has no licence of its own; this fails where it has one. The programs and the library are those that
+were built last; where they are not, or are older than their sources, they are proved and built first. The same commit gives the
+same bytes: each file is as old as the commit, and all is made twice and compared.
 
 With --try they are installed and tried as tools/try_packages.py says, in a root of Debian that is downloaded; it has to be root
 for that. The last line counts what passed; the status is 1 where anything failed.
@@ -34,7 +35,7 @@ import build_library
 import build_program
 import tries
 import try_packages
-from make_packages import CHECK, PROGRAMS, Commit, PackagingFailed, make, programs, stale_terms
+from make_packages import CHECK, PROGRAMS, Commit, PackagingFailed, licences_of_kit, make, programs, stale_terms
 from program import BuildFailed
 
 
@@ -60,6 +61,8 @@ def main() -> int:
         tries.report("the README's sizes of the programs, and their glibc", not wrong, "; ".join(wrong))
         stale = stale_terms()
         tries.report("the licence and the notice of the crates for Rust", not stale, f"not as the repository has them: {stale}")
+        known = licences_of_kit()
+        tries.report("the kit's folder has no licence of its own, as the notice says", not known, f"it has {known}")
         if given.is_tried:
             try_packages.try_packages(made, measured.glibc)
     except (BuildFailed, PackagingFailed) as fault:
