@@ -5,6 +5,7 @@ import base64
 import codecs
 import doctest
 import email
+import email.utils
 import gzip
 import hashlib
 import io
@@ -720,7 +721,10 @@ class Packed(unittest.TestCase):
 
     def test_what_it_says_of_itself(self):
         said = email.message_from_string(self.maker.metadata())
-        self.assertEqual((said["Name"], said["Version"], said["Author"]), ("instants", instants.__version__, "The Fuzhelik authors"))
+        self.assertEqual((said["Name"], said["Version"]), ("instants", instants.__version__))
+        ((name, address),) = email.utils.getaddresses(said.get_all("Author-email"))
+        self.assertIn(f'authors = [{{ name = "{name}", email = "{address}" }}]', PROJECT.read_text().split("\n"))
+        self.assertRegex(address, r"\A[^@\s]+@[^@\s]+\Z")
         self.assertIn("License :: OSI Approved :: Apache Software License", said.get_all("Classifier"))
         self.assertIn("# instants", said.get_payload())
 

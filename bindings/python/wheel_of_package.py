@@ -53,10 +53,16 @@ def listed(name: str) -> list[str]:
 RELEASE = f"{PACKAGE}-{field('version')}"
 
 
+def authors() -> str:
+    """Returns the authors of pyproject.toml, each with an address."""
+    found = re.findall(r'\{ name = "([^"]*)", email = "([^"]*)" \}', PROJECT)
+    return ", ".join(f"{name} <{address}>" for name, address in found)
+
+
 def metadata() -> str:
     """Returns the package's METADATA."""
     heads = ["Metadata-Version: 2.1", f"Name: {PACKAGE}", f"Version: {field('version')}", f"Summary: {field('description')}"]
-    heads += [f"Author: {', '.join(listed('authors'))}", "License: Apache-2.0", f"Keywords: {','.join(listed('keywords'))}"]
+    heads += [f"Author-email: {authors()}", "License: Apache-2.0", f"Keywords: {','.join(listed('keywords'))}"]
     heads += [f"Classifier: {it}" for it in listed("classifiers")]
     heads.append(f"Requires-Python: {field('requires-python')}")
     for extra, needed in re.findall(r'^(\w+) = \["(\w+)"\]$', PROJECT, re.M):
