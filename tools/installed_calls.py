@@ -13,7 +13,7 @@ from collections.abc import Sequence
 from typing import NamedTuple
 
 from installed_pages import commands_in
-from make_packages import CHECK, PAGES, SCRIPT, programs, version
+from make_packages import SCRIPT, manual, programs, version
 from make_root import in_root
 from program import Command, sure
 from tries import report
@@ -115,7 +115,7 @@ def try_python(it: Installed) -> None:
 
 def try_manual(it: Installed) -> None:
     """Tries whether each manual page is found below the prefix, and shown."""
-    for page in (*PAGES, *([f"{CHECK.name}.1"] if CHECK.name in programs() else [])):
+    for page in manual():
         name, _, section = page.rpartition(".")
         found = it.ran(["man", "--where", section, name]).stdout.decode().strip()
         ran = it.ran(["man", "--pager=cat", section, name])

@@ -29,7 +29,6 @@ DOCUMENTS = ("README.md", "SECURITY.md", "docs/GUIDE.md", "docs/FORMATS.md", "do
              "docs/CLAIMS.md", "docs/PROMISES.md", "docs/DIFFERENCES.md", "docs/PEERS.md", "docs/SPEED.md")
 # The pictures of these documents.
 PICTURES = ("docs/speed.svg",)
-PAGES = ("instants.1", "instants-lines.1", "instants-merge.1", "instants-descriptions.7")
 # The script over the programs, and what it calls.
 SCRIPT, HELPERS = "instants-merge", ("follow_logs.py",)
 # Which of the bindings are handed on as sources.
@@ -83,6 +82,12 @@ def licences_of_kit() -> list[str]:
 def programs() -> dict[str, Program]:
     """Returns the programs that are packaged, by their names."""
     return {**PROGRAMS, **({CHECK.name: CHECK} if CHECK.is_current() else {})}
+
+
+def manual() -> list[str]:
+    """Returns the manual pages: all that there are, but for that of a program that is not packaged."""
+    absent = "" if CHECK.name in programs() else f"{CHECK.name}.1"
+    return [it.name for it in sorted((ROOT / "docs").glob("*.[1-9]")) if it.name != absent]
 
 
 class Commit:
@@ -149,7 +154,7 @@ def lay_out(top: pathlib.Path) -> None:
     for name in (build_library.ARCHIVE, build_library.SHARED):
         put(build_library.out() / name, top / "lib" / name)
     put(ROOT / "include" / "instants.h", top / "include" / "instants.h")
-    for name in (*PAGES, *([f"{CHECK.name}.1"] if CHECK.name in programs() else [])):
+    for name in manual():
         put(ROOT / "docs" / name, top / "man" / name)
     lay_out_documents(top / "doc")
     # (Debian wants no folder of examples among examples)
