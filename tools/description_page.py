@@ -25,10 +25,9 @@ HEAD = r"""\
 """
 TAIL = r"""
 .Sh SEE ALSO
+.Xr instants 1 ,
+.Xr instants-lines 1 ,
 .Xr strftime 3
-.Pp
-The program's own page is
-.Pa docs/instants.1 .
 """
 
 

@@ -2,11 +2,12 @@
 
 - each program answers, with the examples at the head of the installed README, and `import instants` does;
 - `instants-merge --follow` finds what it calls, and writes the lines that two files have;
-- `man` finds and shows each manual page;
+- `man` finds and shows each manual page, and the documents that it names are there;
 - bash, zsh and fish find the completions where they look by themselves, and offer words.
 """
 
 import pathlib
+import re
 import subprocess
 import tempfile
 from collections.abc import Sequence
@@ -31,6 +32,8 @@ CALLS: tuple[tuple[str, Sequence[str], bytes, bytes], ...] = (
     (SCRIPT, ["-f", "rfc3339", "-l", "here", "-"], LINE, ANSWER[:-1] + b"\there\t" + LINE),
     ("description_check", ["strftime"], b"%F %T %z", b"well formed\n"),
 )
+# A document in a manual page as it is shown.
+DOCUMENT = re.compile(r"[\w./-]*\bdocs/[\w.-]*\w")
 # Beginnings of words, and one that is offered there.
 BEGUN = (("instants-lines", "ca", "carry"), (SCRIPT, "--st", "--strict"), ("description_check", "strf", "strftime"))
 # How a shell is asked what it offers for a program's first word.
@@ -114,7 +117,7 @@ def try_python(it: Installed) -> None:
 
 
 def try_manual(it: Installed) -> None:
-    """Tries whether each manual page is found below the prefix, and shown."""
+    """Tries whether each manual page is found below the prefix, and shown, and names no document that is not there."""
     for page in manual():
         name, _, section = page.rpartition(".")
         found = it.ran(["man", "--where", section, name]).stdout.decode().strip()
@@ -122,6 +125,9 @@ def try_manual(it: Installed) -> None:
         is_shown = ran.returncode == 0 and f"{name} \N{EM DASH} ".encode() in ran.stdout
         is_own = found and (it.root / found[1:]).resolve().is_relative_to((it.share() / "man").resolve())
         it.report(f"the manual page {page}", is_shown and is_own, f"{found} {ran}")
+        named = DOCUMENT.findall(ran.stdout.decode())
+        lost = [file for file in named if not file.startswith("/") or not (it.root / file[1:]).is_file()]
+        it.report(f"the {len(named)} documents that {page} names", not lost, f"{lost}")
 
 
 def try_completions(it: Installed) -> None:
