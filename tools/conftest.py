@@ -1,10 +1,12 @@
-"""What the tries that pytest runs share: the built programs, which options may name."""
+"""What the tries that pytest runs share: the built programs, which options may name, and modules of Debian's packages."""
 
+import importlib.util
 import os
 import pathlib
 import sys
 import tempfile
 from collections.abc import Iterator
+from typing import Any
 
 sys.dont_write_bytecode = True
 
@@ -13,6 +15,13 @@ import pytest
 from program import Program
 
 PROGRAMS = {it.name: it for it in (Program("instants_program", "instants"), Program("instants_lines_program", "instants-lines"))}
+
+
+def needed(module: str, package: str) -> Any:
+    """Returns a module, which Debian has in a package. Another Python than Debian's, as one may stand first on the PATH, may lack it."""
+    if not importlib.util.find_spec(module):
+        pytest.fail(f"{sys.executable} has no module {module}; Debian's /usr/bin/python3 has it by the package {package}", pytrace=False)
+    return importlib.import_module(module)
 
 
 def pytest_addoption(parser: pytest.Parser) -> None:

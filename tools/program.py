@@ -2,7 +2,6 @@
 
 import os
 import pathlib
-import re
 import sys
 from collections.abc import Sequence
 from typing import TypeVar

@@ -24,18 +24,19 @@ import sys
 import time
 from collections.abc import Callable, Iterator
 
-import psutil
 import pytest
 
 sys.dont_write_bytecode = True
 
 import build_library
+from conftest import needed
 from program import ENDED_WITH_CALLER, ROOT, Command
 
 sys.path.insert(0, str(ROOT / "bench"))
 
 import lines as bench_lines
 
+psutil = needed("psutil", "python3-psutil")
 # Debian's own, which has the modules of Debian's packages.
 PYTHON = "/usr/bin/python3"
 WORDS = ["+00:00", "-", "1048576", "rfc3339", "rfc2822", "strftime", "%d/%b/%Y:%H:%M:%S %z"]

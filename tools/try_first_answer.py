@@ -34,13 +34,14 @@ import uuid
 from collections.abc import Sequence
 from typing import Any
 
-import psutil
 import pytest
 
 sys.dont_write_bytecode = True
 
+from conftest import needed
 from program import ROOT, sure
 
+psutil = needed("psutil", "python3-psutil")
 MARK = "FUZHELIK_TRIED"
 WORDS = ["+00:00", "-", "100", "rfc3339", "rfc2822"]
 LINES = [b"2021-01-02T03:04:05Z\n", b"Fri, 21 Nov 1997 09:55:06 -0600\n", b"x\n"]

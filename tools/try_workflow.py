@@ -28,10 +28,11 @@ from typing import Any
 sys.dont_write_bytecode = True
 
 import pytest
-import yaml
+from conftest import needed
 from make_packages import SUMS, version
 from program import ROOT
 
+yaml = needed("yaml", "python3-yaml")
 FILE = ROOT / "packaging" / "release.yml"
 SOURCES = "actions/checkout@v4"
 # The steps that take long, and what is attached in a try without them.
