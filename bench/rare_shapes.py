@@ -105,7 +105,7 @@ def many_digits(rng: random.Random) -> str:
 
 
 def optional(rng: random.Random) -> str:
-    day, _, clocks, offsets = parts(rng)
+    day, _, clocks, _ = parts(rng)
     return f"{day}T{clocks[0]}{rng.choice(['', f'.{rng.randrange(1000):03}'])}+00:00"
 
 

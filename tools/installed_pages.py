@@ -2,6 +2,8 @@
 
 import re
 
+# A link or a picture: its words, the file, the heading.
+LINK = re.compile(r"!?\[([^\]]*)\]\(([^)#\s]*)(#[^)\s]*)?\)")
 # What stands between these is left out.
 SOURCES = re.compile(r"^<!-- sources -->\n.*?^<!-- /sources -->\n+|<!-- sources -->.*?<!-- /sources -->", re.M | re.S)
 # What stands for what. Below `bindings/` are the examples, whose folder packaging/Makefile puts in.

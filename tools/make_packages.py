@@ -17,8 +17,7 @@ sys.dont_write_bytecode = True
 
 import build_library
 import spdx_list
-from installed_pages import installed
-from page_links import LINK
+from installed_pages import LINK, installed
 from program import ROOT, Command, Program, sure
 
 PACKAGING = ROOT / "packaging"

@@ -22,9 +22,10 @@ import tempfile
 
 sys.dont_write_bytecode = True
 
+from installed_pages import LINK
+from make_packages import lay_out_documents
+
 ROOT = pathlib.Path(__file__).resolve().parent.parent
-# A link or a picture: its words, the file, the heading.
-LINK = re.compile(r"!?\[([^\]]*)\]\(([^)#\s]*)(#[^)\s]*)?\)")
 FENCE = re.compile(r"^```.*?^```$", re.M | re.S)
 
 
@@ -85,11 +86,9 @@ def pages_of_repository() -> list[pathlib.Path]:
 
 def lost_where_installed() -> tuple[list[str], int]:
     """Returns what is wrong with the links of the pages that are installed, and how many pages these are."""
-    import make_packages
-
     with tempfile.TemporaryDirectory(prefix="installed-") as room:
         folder = pathlib.Path(room).resolve()
-        make_packages.lay_out_documents(folder)
+        lay_out_documents(folder)
         pages = sorted(folder.rglob("*.md"))
         return lost_in(folder, pages), len(pages)
 

@@ -54,8 +54,7 @@ def command(crate: str, kept: str, of_tests: bool) -> list[str]:
 
 def module_times(kept: str, began: float) -> list[tuple[float, str]]:
     """Returns the modules that a check kept, each with the seconds that it took."""
-    files = [it for it in pathlib.Path(kept).glob("*/*.oantt")]
-    done = sorted((it.stat().st_mtime, it.stem) for it in files)
+    done = sorted((it.stat().st_mtime, it.stem) for it in pathlib.Path(kept).glob("*/*.oantt"))
     return [(now - before, name) for (before, _), (now, name) in zip([(began, ""), *done], done)]
 
 

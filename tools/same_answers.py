@@ -58,7 +58,7 @@ MODES = ["key", "carry", "replace", "explain"]
 
 def varied(rng: random.Random) -> str:
     """Returns a line of a shape that few have."""
-    day, hour, minute, second, fraction, offset = bench.moment(rng)
+    day, hour, minute, second, _, offset = bench.moment(rng)
     clock = f"{hour:02}:{minute:02}:{second:02}"
     colon, plain = bench.offset_text(offset, ":", True), bench.offset_text(offset, "", False)
     week, month = bench.DAYS[day.weekday()], bench.MONTHS[day.month - 1]
@@ -103,11 +103,15 @@ def changed(rng: random.Random, line: str) -> str:
     return line
 
 
+def date_line(rng: random.Random) -> str:
+    """Returns a line of any kind."""
+    return rng.choice([*bench.FILES[:11], varied, varied, varied, bench.garbage])(rng)
+
+
 def answered_lines(rng: random.Random, count: int) -> Iterator[str]:
     """Gives lines of all kinds, half of them changed."""
-    kinds = [*bench.FILES[:11], varied, varied, varied, bench.garbage]
     for number in range(count):
-        line = rng.choice(kinds)(rng)
+        line = date_line(rng)
         yield changed(rng, line) if number % 2 else line
 
 
@@ -118,7 +122,7 @@ def dated_lines(rng: random.Random, count: int) -> Iterator[str]:
         line = rng.choice(kinds)(rng)
         for _ in range(rng.randrange(3)):
             at = rng.choice([0, rng.randrange(len(line) + 1)])
-            line = line[:at] + next(answered_lines(rng, 1)) + rng.choice(["", " ", "]", ": "]) + line[at:]
+            line = line[:at] + date_line(rng) + rng.choice(["", " ", "]", ": "]) + line[at:]
         yield changed(rng, line) if number % 2 else line
 
 

@@ -116,7 +116,9 @@ def century(component: Component, text: bytes, at: int, field: str) -> Said:
 
 
 def offset_hour(component: Component, text: bytes, at: int) -> Said:
-    bare = lambda it: padded(component.padding, text, it, 2, 2)
+    def bare(place: int) -> tuple[int, int] | None:
+        return padded(component.padding, text, place, 2, 2)
+
     found = signed(text, at, component.is_signed, bare, bare)
     if not found or found[1] > 25:
         return None
@@ -125,7 +127,10 @@ def offset_hour(component: Component, text: bytes, at: int) -> Said:
 
 def unix(component: Component, text: bytes, at: int) -> Said:
     nanoseconds, most = UNITS[component.unit]
-    bare = lambda it: digits(text, it, 1, most)
+
+    def bare(place: int) -> tuple[int, int] | None:
+        return digits(text, place, 1, most)
+
     found = signed(text, at, component.is_signed, bare, bare)
     if not found:
         return None

@@ -4,6 +4,7 @@ from __future__ import annotations
 
 import io
 import itertools
+import math
 from typing import IO, Any, Iterable, Iterator, NamedTuple, Union
 
 Line = Union[str, bytes, bytearray, memoryview]
@@ -56,7 +57,7 @@ def column_of(lines: Column) -> tuple[Stream, list[int]]:
 
 def is_missing(line: object) -> bool:
     """Returns whether something stands for a line that is missing."""
-    return type(line).__name__ in MISSING or (isinstance(line, float) and line != line)
+    return type(line).__name__ in MISSING or (isinstance(line, float) and math.isnan(line))
 
 
 def whole_stream(text: bytes) -> Stream:

@@ -120,7 +120,7 @@ def _iterated(handle: Handle, blocks: Iterator[Stream], raising: bool) -> Iterat
         texts = answers.split("\n")
         texts.pop()
         if raising and "!" in answers:
-            place = next(place for place, text in enumerate(texts) if text[0] == "!")
+            place = [text[0] for text in texts].index("!")
             yield from texts[:place]
             raise fault_at(stream.text, place, texts[place][2:], before)
         yield from texts
