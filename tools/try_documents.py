@@ -31,7 +31,8 @@ error, so that none is left out by a slip, and so is a fence of another kind but
 The page of each family's crate, the `//!` lines at the head of its `src/lib.rt`, has one fence, whose lines stand one
 after the other in the file `src/page.rt` of a crate of tests, which the gate proves and runs.
 
-Without --document it also asks the tools that write pages from the sources, or compare one with them, whether each is current.
+Without --document it also asks the tools that write pages from the sources, or compare one with them, whether each is current, and
+`mandoc -T lint` whether a manual page is malformed; that is passed over where mandoc is not installed.
 
 What is run are the programs and the library as they were built last; `./instants --build`, `tools/build_program.py
 description_check` and `tools/build_library.py` build them, and --instants and --instants-lines name others. Calls from other
@@ -243,7 +244,8 @@ def sections_of(name: str) -> tuple[list[list[Example]], list[str]]:
 
 def pytest_generate_tests(metafunc: pytest.Metafunc) -> None:
     named = metafunc.config.getoption("--document")
-    rows = {"name": named or DOCUMENTS, "crate": () if named else PAGES, "check": () if named else CHECKS}
+    manual = sorted(it.name for it in (ROOT / "docs").glob("*.[1-9]"))
+    rows = {"name": named or DOCUMENTS, "crate": () if named else PAGES, "check": () if named else CHECKS, "manual_page": () if named else manual}
     for it in rows.keys() & {*metafunc.fixturenames}:
         metafunc.parametrize(it, rows[it], ids=lambda row: row if isinstance(row, str) else row[0])
     if "examples" in metafunc.fixturenames:
@@ -300,6 +302,13 @@ def test_page(crate: str) -> None:
     rows = [row.strip() for row in (ROOT / "crates" / PAGES[crate] / "src" / "page.rt").read_text().split("\n")]
     due = fences[0]
     assert due and any(rows[at : at + len(due)] == due for at in range(len(rows)))
+
+
+@pytest.mark.skipif(not shutil.which("mandoc"), reason="there is no mandoc")
+def test_manual_page(manual_page: str) -> None:
+    """A manual page is well formed."""
+    ran = subprocess.run(["mandoc", "-T", "lint", "-W", "warning", ROOT / "docs" / manual_page], stdout=subprocess.PIPE, text=True, check=False)
+    assert (ran.returncode, ran.stdout) == (0, "")
 
 
 def test_check(check: tuple[str, ...]) -> None:
