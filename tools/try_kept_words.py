@@ -118,12 +118,16 @@ def test_rust(watched: pathlib.Path) -> None:
     ends_well(["cargo", "test", "--quiet", "--offline"], cwd=watched / "rust", env={**places, "INSTANTS_LIB_DIR": str(watched)})
 
 
+def answered_in_sql(source: pathlib.Path, room: pathlib.Path, watched: pathlib.Path) -> tuple[int, str]:
+    """Compiles the functions for SQLite in a folder, and returns what the shell answers there."""
+    ends_well(["gcc", "-shared", "-fPIC", f"-I{INCLUDE}", "-o", room / "instant.so", source, watched / build_library.ARCHIVE])
+    return run(["sqlite3", "-batch", "-bail"], IN_SQL.encode(), cwd=room)
+
+
 @needs("sqlite3")
 def test_sqlite(watched: pathlib.Path) -> None:
     """Words that stay, and words that change."""
-    source = BINDINGS / "sqlite" / "instant.c"
-    ends_well(["gcc", "-shared", "-fPIC", f"-I{INCLUDE}", "-o", watched / "instant.so", source, watched / build_library.ARCHIVE])
-    assert run(["sqlite3", "-batch", "-bail"], IN_SQL.encode(), cwd=watched) == (0, "1000\n")
+    assert answered_in_sql(BINDINGS / "sqlite" / "instant.c", watched, watched) == (0, "1000\n")
 
 
 @needs(str(try_postgres.BIN / "initdb"))
