@@ -14,10 +14,9 @@ from collections.abc import Sequence
 from typing import NamedTuple
 
 from installed_pages import commands_in
-from make_packages import SCRIPT, manual, programs, version
+from make_packages import CHECK, SCRIPT, programs, version
 from make_root import in_root
-from program import Command, sure
-from tries import report
+from program import ROOT, Command, sure
 
 LINE, ANSWER = b"2021-01-02T04:04:05+01:00\n", b"2021-01-02T03:04:05.000000000Z\n"
 WORDS = ["+00:00", "-", "100", "rfc3339"]
@@ -53,81 +52,91 @@ PATIENCE = 60
 
 
 class Installed(NamedTuple):
-    """What was installed, in a root, below a prefix, and where its libraries lie."""
+    """What was installed, in a root, below a prefix; where its libraries lie; and the packages, each of which has a folder of
+    documents."""
 
     what: str
     root: pathlib.Path
     prefix: str
     libdir: str
+    packages: Sequence[str]
 
     def share(self) -> pathlib.Path:
         return self.root / self.prefix[1:] / "share"
 
-    def report(self, what: str, is_well: object, why: object = "") -> bool:
-        return report(f"{self.what}: {what}", is_well, why)
+    def documents(self) -> pathlib.Path:
+        """Returns the folder with the README and the other documents."""
+        return self.share() / "doc" / "instants"
+
+    def holds(self, what: str, is_well: object, why: object = "") -> None:
+        """Something has to be so of it."""
+        assert is_well, f"{self.what}: {what}{f': {why}' if why else ''}"
 
     def ran(self, command: Command, given: bytes = b"", **places: str) -> subprocess.CompletedProcess[bytes]:
         return subprocess.run(in_root(self.root, command), input=given, capture_output=True, check=False, env={**PLACES, **places})
 
 
-def try_absent(it: Installed) -> None:
-    """Tries whether the root has neither the kit nor a compiler."""
+def try_absent(root: pathlib.Path) -> None:
+    """Tries whether a root has neither the kit nor a compiler."""
+    it = Installed("the root", root, "/usr", "/usr/lib", ())
     ran = it.ran(["sh", "-c", 'for it; do command -v "$it"; done; true', "sh", *ABSENT])
-    it.report("the root has neither the kit nor a compiler", (ran.returncode, ran.stdout) == (0, b""), f"{ran}")
+    it.holds("it has neither the kit nor a compiler", (ran.returncode, ran.stdout) == (0, b""), f"{ran}")
 
 
-def try_calls(it: Installed, folder: str) -> None:
-    """Tries calls of the programs in a folder."""
+def try_calls(it: Installed) -> None:
+    """Tries calls of the programs."""
     for name, words, given, due in CALLS:
         if name in (*programs(), SCRIPT):
-            ran = it.ran([f"{folder}/{name}", *words], given)
-            it.report(f"{folder}/{name} {words[0]}", (ran.returncode, ran.stdout) == (0, due), f"{ran}")
+            ran = it.ran([f"{it.prefix}/bin/{name}", *words], given)
+            it.holds(f"{name} {words[0]}", (ran.returncode, ran.stdout) == (0, due), f"{ran}")
 
 
-def try_followed(it: Installed, folder: str) -> None:
-    """Tries whether the script of a folder writes the lines of two files that may grow."""
+def try_followed(it: Installed) -> None:
+    """Tries whether the script writes the lines of two files that may grow."""
     with tempfile.TemporaryDirectory(dir=it.root / "tmp") as room:
         names = [f"{room}/{name}" for name in "ab"]
         for number, name in enumerate(names):
             pathlib.Path(name).write_bytes(LINE.replace(b":05", f":0{number}".encode()))
-        words = [f"{folder}/{SCRIPT}", "--follow=0.1", "-f", "rfc3339", *(f"/{pathlib.Path(name).relative_to(it.root)}" for name in names)]
+        words = [f"{it.prefix}/bin/{SCRIPT}", "--follow=0.1", "-f", "rfc3339", *(f"/{pathlib.Path(name).relative_to(it.root)}" for name in names)]
         command = in_root(it.root, ["timeout", str(PATIENCE), *words])
         with subprocess.Popen(command, stdin=subprocess.DEVNULL, stdout=subprocess.PIPE, stderr=subprocess.PIPE, env=PLACES) as ran:
             found = [sure(ran.stdout).readline().split(b"\t")[0] for _ in names]
             ran.kill()
             said = sure(ran.stderr).read()
     # (which of two files is read first is not said)
-    it.report(f"{folder}/{SCRIPT} --follow", sorted(found) == [ANSWER[:-1].replace(b":05.", f":0{number}.".encode()) for number in (0, 1)], f"{found} {said!r}")
+    it.holds(f"{SCRIPT} --follow", sorted(found) == [ANSWER[:-1].replace(b":05.", f":0{number}.".encode()) for number in (0, 1)], f"{found} {said!r}")
 
 
 def try_first_examples(it: Installed) -> None:
     """Tries the examples at the head of the installed README, before the first that compiles."""
-    text = (it.share() / "doc" / "instants" / "README.md").read_text()
+    text = (it.documents() / "README.md").read_text()
     due = [(command, said) for command, said in commands_in(text.partition("gcc ")[0].rpartition("```sh")[0]) if said]
-    it.report("the README begins with examples", due)
+    it.holds("the README begins with examples", due)
     for command, said in due:
         ran = it.ran(["sh", "-c", command])
-        it.report(f"the README's example of {command.split()[0]}", (ran.returncode, ran.stdout.decode()) == (0, said), f"{ran}")
+        it.holds(f"the README's example of {command.split()[0]}", (ran.returncode, ran.stdout.decode()) == (0, said), f"{ran}")
 
 
 def try_python(it: Installed) -> None:
     """Tries the package for Python."""
     ran = it.ran(["python3", "-B", "-c", IN_PYTHON])
-    it.report("Python answers", (ran.returncode, ran.stdout) == (0, ANSWER), f"{ran}")
+    it.holds("Python answers", (ran.returncode, ran.stdout) == (0, ANSWER), f"{ran}")
 
 
 def try_manual(it: Installed) -> None:
     """Tries whether each manual page is found below the prefix, and shown, and names no document that is not there."""
-    for page in manual():
+    for page in sorted(file.name for file in (ROOT / "docs").glob("*.[1-9]")):
         name, _, section = page.rpartition(".")
+        if name == CHECK.name and name not in programs():
+            continue
         found = it.ran(["man", "--where", section, name]).stdout.decode().strip()
         ran = it.ran(["man", "--pager=cat", section, name])
         is_shown = ran.returncode == 0 and f"{name} \N{EM DASH} ".encode() in ran.stdout
         is_own = found and (it.root / found[1:]).resolve().is_relative_to((it.share() / "man").resolve())
-        it.report(f"the manual page {page}", is_shown and is_own, f"{found} {ran}")
+        it.holds(f"the manual page {page}", is_shown and is_own, f"{found} {ran}")
         named = DOCUMENT.findall(ran.stdout.decode())
         lost = [file for file in named if not file.startswith("/") or not (it.root / file[1:]).is_file()]
-        it.report(f"the {len(named)} documents that {page} names", not lost, f"{lost}")
+        it.holds(f"the {len(named)} documents that {page} names", not lost, f"{lost}")
 
 
 def try_completions(it: Installed) -> None:
@@ -136,4 +145,4 @@ def try_completions(it: Installed) -> None:
         for shell, words in SHELLS.items() if name in (*programs(), SCRIPT) else ():
             ran = it.ran([shell, *words, name, begun])
             offered = [line.partition("\t")[0] for line in ran.stdout.decode().splitlines()]
-            it.report(f"{shell} completes {name} {begun}", due in offered and not ran.stderr, f"{ran}")
+            it.holds(f"{shell} completes {name} {begun}", due in offered and not ran.stderr, f"{ran}")

@@ -244,6 +244,12 @@ class Made(NamedTuple):
         return [*self.packages(), self.listed, self.sums]
 
 
+def made_in(folder: pathlib.Path) -> Made:
+    """Returns what was made in a folder, if all was."""
+    name = f"instants-{version()}"
+    return Made(folder / f"{name}-x86_64-linux.tar.gz", sorted(folder.glob(f"*_{version()}_*.deb")), folder / f"{name}.spdx.json", folder / SUMS)
+
+
 def write_sums(files: Sequence[pathlib.Path]) -> pathlib.Path:
     """Writes the checksums of the files of a folder there, as `sha256sum --check` reads them, and returns their file."""
     target = files[0].with_name(SUMS)

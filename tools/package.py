@@ -17,15 +17,15 @@ says that the kit's folder has no licence of its own; this fails where it has on
 were built last; where they are not, or are older than their sources, they are proved and built first. The same commit gives the
 same bytes: each file is as old as the commit, and all is made twice and compared.
 
-With --try they are installed and tried as tools/try_packages.py says, in a root of Debian that is downloaded; it has to be root
-for that. The last line counts what passed; the status is 1 where anything failed.
+A line counts what passed of this. With --try they are then installed and tried as tools/try_packages.py says, by pytest, in a root of
+Debian that is downloaded; it has to be root for that. The status is 1 where anything failed.
 
-The packages of Debian: binutils gcc make debhelper dh-python, and for --try cargo debootstrap libsqlite3-dev lintian pkg-config
-sqlite3.
+The packages of Debian: binutils gcc make debhelper dh-python, and for --try python3-pytest and those that tools/try_packages.py names.
 """
 
 import argparse
 import pathlib
+import subprocess
 import sys
 import tempfile
 
@@ -34,9 +34,8 @@ sys.dont_write_bytecode = True
 import build_library
 import build_program
 import tries
-import try_packages
 from make_packages import CHECK, PROGRAMS, Commit, PackagingFailed, licences_of_kit, make, programs, stale_terms
-from program import BuildFailed
+from program import ROOT, BuildFailed
 
 
 def main() -> int:
@@ -63,11 +62,11 @@ def main() -> int:
         tries.report("the licence and the notice of the crates for Rust", not stale, f"not as the repository has them: {stale}")
         known = licences_of_kit()
         tries.report("the kit's folder has no licence of its own, as the notice says", not known, f"it has {known}")
-        if given.is_tried:
-            try_packages.try_packages(made, measured.glibc)
     except (BuildFailed, PackagingFailed) as fault:
         sys.exit(f"package: {fault}")
-    return tries.summary()
+    failed = tries.summary()
+    tried = given.is_tried and subprocess.run([ROOT / "tools" / "try_packages.py", "--packages", given.folder], check=False).returncode
+    return int(bool(failed or tried))
 
 
 if __name__ == "__main__":

@@ -32,6 +32,7 @@ NEEDED = {
     "make": "make",
     "objdump": "binutils",
     "pkg-config": "pkg-config",
+    "pytest": "python3-pytest",
     "sqlite3": "sqlite3",
 }
 

@@ -1,8 +1,12 @@
-"""Tries the packages that tools/package.py makes: called by it, with --try, as root.
+#!/usr/bin/env pytest
+"""Tries the packages that tools/package.py made, as root.
 
-`lintian --pedantic` has nothing to say of Debian's packages, and that of the programs depends on the C library alone. Then these
-and the archive are installed, tried and removed in a root of Debian, which debootstrap makes (tools/make_root.py) with neither the
-kit nor a compiler: by `apt-get install` without a download, and by `make install`.
+    tools/try_packages.py [--packages FOLDER] [-k WORD]    WORD is Debian or archive, or of a part, as manual
+
+FOLDER has the packages; where it is left out, that is where tools/package.py puts them. `lintian --pedantic` has nothing to say of
+Debian's packages, and that of the programs depends on the C library alone. Then these and the archive are installed, tried and
+removed in a root of Debian, which debootstrap makes (tools/make_root.py) with neither the kit nor a compiler: by `apt-get install`
+without a download, and by `make install`.
 
 - The programs, manual pages and completions answer there (tools/installed_calls.py); those of the archive also where it is
   unpacked;
@@ -17,7 +21,7 @@ kit nor a compiler: by `apt-get install` without a download, and by `make instal
 
 `sha256sum` finds all files as SHA256SUMS has them. The list of what is in the packages (tools/spdx_list.py) has each file of the
 archive, each package with its checksum, and relates nothing but what it has. Both crates for Rust hand on the licence and the
-notice (`cargo package --list`).
+notice (`cargo package --list`). The packages of Debian: binutils cargo debootstrap gcc libsqlite3-dev lintian pkg-config sqlite3.
 """
 
 import hashlib
@@ -27,20 +31,23 @@ import pathlib
 import re
 import shutil
 import subprocess
+import sys
 import tempfile
-from collections.abc import Mapping, Sequence
+from collections.abc import Iterator, Mapping, Sequence
 from typing import Any
 
+sys.dont_write_bytecode = True
+
 import build_library
+import pytest
 from header_numbers import of_header
 from installed_calls import (ANSWER, LINE, NEEDED, WORDS, Installed, try_absent, try_calls, try_completions, try_first_examples,
                              try_followed, try_manual, try_python)
 from installed_pages import OF_SOURCES, commands_in
-from make_packages import CRATES, TERMS, Made, run, version
+from make_packages import CRATES, PROGRAMS, TERMS, Made, glibc_of, made_in, run, version
 from make_root import make_root, room_for_roots
 from page_links import lost_in
 from program import ROOT, sure
-from tries import report
 
 LIBDIR = "/usr/lib/x86_64-linux-gnu"
 # Debian's packages.
@@ -49,6 +56,11 @@ PACKAGES = ("instants", "libinstants0", "libinstants-dev", "python3-instants")
 COMPILING = re.compile(r"^(?:gcc .*-linstants|cargo run).*", re.M)
 # Where files come and go beside what is installed: records of packages, and what is thrown away.
 PASSING = ("proc", "root", "run", "tmp", "var")
+# The linker's flags for the shared library and the static one.
+KINDS = {"shared": "-linstants", "static": "-l:libinstants.a"}
+
+
+# ---- what is tried
 
 
 def files_in(root: pathlib.Path) -> set[str]:
@@ -57,73 +69,104 @@ def files_in(root: pathlib.Path) -> set[str]:
     return {str(it.relative_to(root)) for folder in folders for it in folder.rglob("*") if not it.is_dir()}
 
 
-def for_pkg_config(it: Installed) -> dict[str, str]:
-    """Returns the variables by which pkg-config finds what was installed."""
-    places = {"PKG_CONFIG_SYSROOT_DIR": str(it.root), "PKG_CONFIG_LIBDIR": f"{it.root}{it.libdir}/pkgconfig"}
-    # (what is the system's own folder there is none here)
-    return {**places, "PKG_CONFIG_ALLOW_SYSTEM_CFLAGS": "1", "PKG_CONFIG_ALLOW_SYSTEM_LIBS": "1"}
+def do(it: Installed, command: Sequence[str]) -> None:
+    """Runs a command in the root, which has to end well."""
+    ran = it.ran(command)
+    it.holds(" ".join(command), ran.returncode == 0, f"{ran}")
 
 
-def try_in_c(it: Installed) -> None:
-    """Tries a program in C, compiled with what was installed, with the shared library and the static one."""
-    flags = run(["pkg-config", "--cflags", "--libs", "instants"], env={**os.environ, **for_pkg_config(it)}).decode().split()
-    for kind, link in (("shared", flags), ("static", [flag.replace("-linstants", "-l:libinstants.a") for flag in flags])):
-        made = it.root / "tmp" / "answer"
-        run(["gcc", "-std=c11", "-o", made, ROOT / "bindings" / "c" / "answer.c", *link])
-        ran = it.ran(["/tmp/answer", *WORDS], LINE, LD_LIBRARY_PATH=it.libdir)
-        it.report(f"a program in C answers, {kind} library", (ran.returncode, ran.stdout) == (0, ANSWER), f"{ran}")
-        made.unlink()
+def nothing_is_left(it: Installed, before: set[str]) -> None:
+    """The root has to have the files that it had before."""
+    left = files_in(it.root) ^ before
+    it.holds("nothing is left", not left, f"{sorted(left)}")
 
 
-def try_notice(it: Installed, owners: Sequence[str]) -> None:
-    """Tries whether the notice was installed with each package."""
-    due = (ROOT / "NOTICE").read_bytes()
-    for name in owners:
-        notice = it.share() / "doc" / name / "NOTICE"
-        it.report(f"{name} has the notice", notice.is_file() and notice.read_bytes() == due, f"{notice}")
+@pytest.fixture(scope="module")
+def made(pytestconfig: pytest.Config) -> Made:
+    folder = pathlib.Path(pytestconfig.getoption("--packages") or pathlib.Path(tempfile.gettempdir(), "packages"))
+    found = made_in(folder.resolve())
+    missing = [str(it) for it in found.files() if not it.is_file()]
+    if missing or not found.debian:
+        pytest.fail(f"{folder} lacks {missing or 'packages for Debian'}; tools/package.py makes all", pytrace=False)
+    return found
 
 
-def try_crates() -> None:
-    """Tries whether the crates for Rust are packed with the licence and the notice."""
-    for crate in CRATES:
-        listed = run(["cargo", "package", "--list", "--offline", "--allow-dirty"], cwd=crate).decode().split("\n")
-        report(f"the crate in {crate.relative_to(ROOT)} has the licence and the notice", set(TERMS) <= set(listed), f"{listed}")
+@pytest.fixture(scope="module")
+def root() -> Iterator[pathlib.Path]:
+    """A root of Debian."""
+    with room_for_roots() as room:
+        make_root(room / "root", NEEDED)
+        yield room / "root"
 
 
-def try_links(it: Installed) -> None:
-    """Tries whether each link of an installed document leads somewhere."""
-    folder = it.share() / "doc" / "instants"
-    documents = sorted(folder.rglob("*.md"))
-    lost = lost_in(folder, documents)
-    it.report(f"the links of {len(documents)} documents", documents and not lost, "; ".join(lost))
+@pytest.fixture(scope="module")
+def unpacked(root: pathlib.Path, made: Made) -> Installed:
+    """The archive where it is unpacked in the root, which is its prefix."""
+    name = f"/tmp/instants-{version()}"
+    it = Installed("the archive, unpacked", root, name, f"{name}/lib", ())
+    shutil.copy(made.archive, root / "tmp")
+    do(it, ["tar", "-C", "/tmp", "-xzf", f"/tmp/{made.archive.name}"])
+    return it
 
 
-def try_commands(it: Installed) -> None:
-    """Tries the commands of installed documents."""
-    folder = it.share() / "doc" / "instants"
-    wrong: list[str] = []
-    for page in sorted(folder.rglob("*.md")):
-        # (that page tells how the sources are measured)
-        if page.name != "SPEED.md":
-            wrong += [f"{page.name}: {found[0].strip()}" for command, _ in commands_in(page.read_text()) for found in OF_SOURCES.finditer(command)]
-    it.report("no command names a file of the sources", not wrong, "; ".join(wrong))
-    with tempfile.TemporaryDirectory(prefix="libraries-") as libraries:
-        # (without the root's others, with which no program of this machine may run)
-        for file in (it.root / it.libdir[1:]).glob("libinstants.*"):
-            shutil.copy(file, libraries)
-        # (`-linstants`, as where it is the system's own)
-        places = {"C_INCLUDE_PATH": f"{it.root}{it.prefix}/include", "LIBRARY_PATH": libraries, "LD_LIBRARY_PATH": libraries, **for_pkg_config(it)}
-        for page in (folder / "README.md", folder / "docs" / "LIBRARIES.md"):
-            for command, due in commands_in(page.read_text()):
-                if COMPILING.search(command):
-                    try_command(f"{it.what}: {page.name}", re.sub(rf"(?<=[ \"]){it.prefix}/share", str(it.share()), command), due, places)
+def debian(root: pathlib.Path, made: Made) -> Iterator[Installed]:
+    """Installs Debian's packages in a root, and removes them."""
+    it, before = Installed("Debian's packages", root, "/usr", LIBDIR, PACKAGES), files_in(root)
+    for file in made.debian:
+        shutil.copy(file, root / "tmp")
+    do(it, ["apt-get", "install", "--yes", *(f"/tmp/{file.name}" for file in made.debian)])
+    yield it
+    do(it, ["apt-get", "purge", "--yes", *PACKAGES])
+    nothing_is_left(it, before)
 
 
-def try_command(what: str, command: str, due: str | None, places: Mapping[str, str]) -> None:
-    """Tries whether a command of a page prints what the page says."""
-    with tempfile.TemporaryDirectory(prefix="command-") as room:
-        ran = subprocess.run(["sh", "-c", command], cwd=room, env={**os.environ, **places}, capture_output=True, text=True, check=False)
-    report(f"{what}: {sure(COMPILING.search(command))[0]}", ran.returncode == 0 and ran.stdout == due, f"{ran}")
+def archive(root: pathlib.Path, name: str) -> Iterator[Installed]:
+    """Installs the archive of an unpacked folder in a root, and removes it."""
+    it, before = Installed("the archive", root, "/usr/local", "/usr/local/lib", ["instants"]), files_in(root)
+    do(it, ["make", "-C", name, "install"])
+    modules = it.ran(["python3", "-c", "import site; print(site.getsitepackages()[0])"]).stdout.decode().strip()
+    do(it, ["sh", "-c", f"python3 -m zipfile -e {name}/python/*.whl {modules}"])
+    yield it
+    do(it, ["rm", "-r", modules])
+    do(it, ["make", "-C", name, "uninstall"])
+    nothing_is_left(it, before)
+
+
+@pytest.fixture(scope="module", params=["Debian", "archive"])
+def installed(request: pytest.FixtureRequest, root: pathlib.Path, made: Made) -> Iterator[Installed]:
+    """What was installed, which is removed in the end."""
+    if request.param == "Debian":
+        yield from debian(root, made)
+    else:
+        yield from archive(root, request.getfixturevalue("unpacked").prefix)
+
+
+# ---- the files by themselves
+
+
+def test_lintian(made: Made) -> None:
+    said = subprocess.run(["lintian", "--pedantic", "--allow-root", *made.debian], capture_output=True, text=True, check=False)
+    assert (said.returncode, said.stdout.strip()) == (0, ""), said.stderr
+
+
+def test_dependencies(made: Made, unpacked: Installed) -> None:
+    """The programs depend on the C library alone."""
+    (programs,) = (it for it in made.debian if it.name.startswith("instants_"))
+    folder = unpacked.root / unpacked.prefix[1:] / "bin"
+    assert run(["dpkg-deb", "--field", programs, "Depends"]).decode().strip() == f"libc6 (>= {glibc_of([folder / it for it in PROGRAMS])})"
+
+
+def test_checksums(made: Made) -> None:
+    checked = subprocess.run(["sha256sum", "--check", "--strict", made.sums.name], cwd=made.sums.parent, capture_output=True, text=True, check=False)
+    assert checked.returncode == 0, checked.stdout + checked.stderr
+    assert len(checked.stdout.splitlines()) == len(made.files()) - 1
+
+
+@pytest.mark.parametrize("crate", CRATES, ids=lambda it: str(it.name))
+def test_crate(crate: pathlib.Path) -> None:
+    """A crate for Rust is packed with the licence and the notice."""
+    listed = run(["cargo", "package", "--list", "--offline", "--allow-dirty"], cwd=crate).decode().split("\n")
+    assert {*TERMS} - {*listed} == set()
 
 
 def sums_of(entry: Mapping[str, Any]) -> set[str]:
@@ -136,17 +179,17 @@ def has_digest(sums: set[str], path: pathlib.Path) -> bool:
     return hashlib.sha256(path.read_bytes()).hexdigest() in sums
 
 
-def try_list(listed: pathlib.Path, packages: Sequence[pathlib.Path], top: pathlib.Path) -> None:
-    """Tries the list of what is in the packages, of which the archive is unpacked at a top."""
-    told = json.loads(listed.read_text())
+def test_list(made: Made, unpacked: Installed) -> None:
+    """It has each package and each file, and relates what it has, each by a name of its own."""
+    told, top = json.loads(made.listed.read_text()), unpacked.root / unpacked.prefix[1:]
     found = {it["packageFileName"]: sums_of(it) for it in told["packages"] if "packageFileName" in it}
-    report("the list has each package", found.keys() == {it.name for it in packages} and all(has_digest(found[it.name], it) for it in packages), f"{found}")
+    assert found.keys() == {it.name for it in made.packages()} and all(has_digest(found[it.name], it) for it in made.packages())
     files = {f"./{it.relative_to(top)}": it for it in top.rglob("*") if it.is_file()}
     found = {it["fileName"]: sums_of(it) for it in told["files"]}
-    report("the list has each file", found.keys() == files.keys() and all(has_digest(found[name], it) for name, it in files.items()), f"{sorted(found)}")
+    assert found.keys() == files.keys() and all(has_digest(found[name], it) for name, it in files.items())
     known = [told["SPDXID"], *(it["SPDXID"] for it in (*told["packages"], *told["files"]))]
     related = {it[end] for it in told["relationships"] for end in ("spdxElementId", "relatedSpdxElement")}
-    report("the list relates what it has, each by a name of its own", related <= set(known) and len(known) == len(set(known)), f"{related - set(known)}")
+    assert related <= set(known) and len(known) == len(set(known))
 
 
 def names_in(file: pathlib.Path, how: str) -> set[str]:
@@ -155,94 +198,115 @@ def names_in(file: pathlib.Path, how: str) -> set[str]:
     return {it[2] for it in rows if len(it) == 3}
 
 
-def try_libraries(folder: pathlib.Path) -> None:
-    """Tries which names the libraries in a folder have, and whether the shared one tells its build."""
+def test_libraries(unpacked: Installed) -> None:
+    """Both have the header's calls alone, the shared one by a version, and it tells its build."""
     _, calls = of_header()
-    shared, archive = folder / build_library.SHARED, folder / build_library.ARCHIVE
-    version = build_library.VERSION
-    found = names_in(shared, "--dynamic")
-    report("the shared library has the header's calls alone", found == {version, *(f"{it}@@{version}" for it in calls)}, f"{sorted(found)}")
-    found = names_in(archive, "--extern-only")
-    report("so has the static one", found == set(calls), f"{sorted(found)}")
-    notes = run(["readelf", "--notes", shared]).decode()
-    report("the shared library has a build id", re.search(r"Build ID: [0-9a-f]{40}$", notes, re.M), notes)
+    folder, version_node = unpacked.root / unpacked.libdir[1:], build_library.VERSION
+    shared = folder / build_library.SHARED
+    assert names_in(shared, "--dynamic") == {version_node, *(f"{it}@@{version_node}" for it in calls)}
+    assert names_in(folder / build_library.ARCHIVE, "--extern-only") == set(calls)
+    assert re.search(r"Build ID: [0-9a-f]{40}$", run(["readelf", "--notes", shared]).decode(), re.M)
 
 
-def try_installed(it: Installed, owners: Sequence[str]) -> None:
-    """Tries what was installed."""
-    try_calls(it, f"{it.prefix}/bin")
-    try_followed(it, f"{it.prefix}/bin")
-    try_first_examples(it)
-    try_python(it)
-    try_manual(it)
-    try_completions(it)
-    try_links(it)
-    try_commands(it)
-    try_in_c(it)
-    try_notice(it, owners)
+# ---- in the root
 
 
-def is_done(it: Installed, command: Sequence[str]) -> bool:
-    """Tries a command that installs or removes, in the root, and returns whether it ended well."""
-    ran = it.ran(command)
-    return it.report(" ".join(command), ran.returncode == 0, f"{ran}")
+def test_root(root: pathlib.Path) -> None:
+    """It has neither the kit nor a compiler."""
+    try_absent(root)
 
 
-def try_debian(root: pathlib.Path, packages: Sequence[pathlib.Path]) -> None:
-    """Installs Debian's packages in a root, tries and removes them."""
-    it = Installed("Debian's packages", root, "/usr", LIBDIR)
-    before = files_in(root)
-    try_absent(it)
-    for file in packages:
-        shutil.copy(file, root / "tmp")
-    if not is_done(it, ["apt-get", "install", "--yes", *(f"/tmp/{file.name}" for file in packages)]):
-        return
-    try_installed(it, PACKAGES)
-    is_done(it, ["apt-get", "purge", "--yes", *PACKAGES])
-    left = files_in(root) ^ before
-    it.report("nothing is left", not left, f"{sorted(left)}")
+def test_unpacked_programs(unpacked: Installed) -> None:
+    """They answer where the archive is unpacked."""
+    try_calls(unpacked)
+    try_followed(unpacked)
 
 
-def try_archive(root: pathlib.Path, made: Made) -> None:
-    """Unpacks the archive in a root, tries it there and installed, and removes what was installed."""
-    it = Installed("the archive", root, "/usr/local", "/usr/local/lib")
-    before, name = files_in(root), f"/tmp/instants-{version()}"
-    shutil.copy(made.archive, root / "tmp")
-    if not is_done(it, ["tar", "-C", "/tmp", "-xzf", f"/tmp/{made.archive.name}"]):
-        return
-    try_libraries(root / name[1:] / "lib")
-    try_list(made.listed, made.packages(), root / name[1:])
-    try_calls(it, f"{name}/bin")
-    try_followed(it, f"{name}/bin")
-    if not is_done(it, ["make", "-C", name, "install"]):
-        return
-    modules = it.ran(["python3", "-c", "import site; print(site.getsitepackages()[0])"]).stdout.decode().strip()
-    is_done(it, ["sh", "-c", f"python3 -m zipfile -e {name}/python/*.whl {modules}"])
-    try_installed(it, ["instants"])
-    is_done(it, ["rm", "-r", modules])
-    is_done(it, ["make", "-C", name, "uninstall"])
-    left = files_in(root) ^ before
-    it.report("nothing is left", not left, f"{sorted(left)}")
+def test_programs(installed: Installed) -> None:
+    try_calls(installed)
+    try_followed(installed)
 
 
-def try_files(made: Made, glibc: str) -> None:
-    """Tries the files of the packages by themselves."""
-    said = subprocess.run(["lintian", "--pedantic", "--allow-root", *made.debian], capture_output=True, text=True, check=False)
-    report("lintian", said.returncode == 0 and not said.stdout.strip(), said.stdout + said.stderr)
-    (programs,) = (it for it in made.debian if it.name.startswith("instants_"))
-    depends = run(["dpkg-deb", "--field", programs, "Depends"]).decode().strip()
-    report("the programs depend on the C library alone", depends == f"libc6 (>= {glibc})", depends)
-    checked = subprocess.run(["sha256sum", "--check", "--strict", made.sums.name], cwd=made.sums.parent, capture_output=True, text=True, check=False)
-    known = len(checked.stdout.splitlines())
-    report("the checksums of all files", checked.returncode == 0 and known == len(made.files()) - 1, checked.stdout + checked.stderr)
+def test_first_examples(installed: Installed) -> None:
+    try_first_examples(installed)
 
 
-def try_packages(made: Made, glibc: str) -> None:
-    """Tries all that was made, of programs that need so new a glibc."""
-    try_files(made, glibc)
-    try_crates()
-    with room_for_roots() as room:
-        root = room / "root"
-        make_root(root, NEEDED)
-        try_debian(root, made.debian)
-        try_archive(root, made)
+def test_python(installed: Installed) -> None:
+    try_python(installed)
+
+
+def test_manual(installed: Installed) -> None:
+    try_manual(installed)
+
+
+def test_completions(installed: Installed) -> None:
+    try_completions(installed)
+
+
+def test_links(installed: Installed) -> None:
+    """Each link of an installed document leads somewhere."""
+    documents = sorted(installed.documents().rglob("*.md"))
+    assert documents and lost_in(installed.documents(), documents) == []
+
+
+def test_notice(installed: Installed) -> None:
+    """It was installed with each package."""
+    for name in installed.packages:
+        assert (installed.share() / "doc" / name / "NOTICE").read_bytes() == (ROOT / "NOTICE").read_bytes()
+
+
+def test_no_command_of_the_sources(installed: Installed) -> None:
+    """No command of an installed document names a file of the sources."""
+    wrong: list[str] = []
+    for page in sorted(installed.documents().rglob("*.md")):
+        # (that page tells how the sources are measured)
+        if page.name != "SPEED.md":
+            wrong += [f"{page.name}: {found[0].strip()}" for command, _ in commands_in(page.read_text()) for found in OF_SOURCES.finditer(command)]
+    assert wrong == []
+
+
+# ---- on this machine, with what was installed
+
+
+def for_pkg_config(it: Installed) -> dict[str, str]:
+    """Returns the variables by which pkg-config finds what was installed."""
+    places = {"PKG_CONFIG_SYSROOT_DIR": str(it.root), "PKG_CONFIG_LIBDIR": f"{it.root}{it.libdir}/pkgconfig"}
+    # (what is the system's own folder there is none here)
+    return {**places, "PKG_CONFIG_ALLOW_SYSTEM_CFLAGS": "1", "PKG_CONFIG_ALLOW_SYSTEM_LIBS": "1"}
+
+
+@pytest.mark.parametrize("flag", KINDS.values(), ids=KINDS)
+def test_c(installed: Installed, flag: str) -> None:
+    """A program in C, compiled with what was installed, answers in the root."""
+    flags = run(["pkg-config", "--cflags", "--libs", "instants"], env={**os.environ, **for_pkg_config(installed)}).decode()
+    made = installed.root / "tmp" / "answer"
+    run(["gcc", "-std=c11", "-o", made, ROOT / "bindings" / "c" / "answer.c", *flags.replace("-linstants", flag).split()])
+    ran = installed.ran(["/tmp/answer", *WORDS], LINE, LD_LIBRARY_PATH=installed.libdir)
+    made.unlink()
+    assert (ran.returncode, ran.stdout) == (0, ANSWER), f"{ran}"
+
+
+def printed(command: str, places: Mapping[str, str]) -> tuple[int, str]:
+    """Returns the status of a command of a page, and what it prints."""
+    with tempfile.TemporaryDirectory(prefix="command-") as room:
+        ran = subprocess.run(["sh", "-c", command], cwd=room, env={**os.environ, **places}, capture_output=True, text=True, check=False)
+    return ran.returncode, ran.stdout if ran.returncode == 0 else ran.stderr
+
+
+@pytest.mark.parametrize("page", ["README.md", "docs/LIBRARIES.md"])
+def test_commands_that_compile(installed: Installed, page: str, tmp_path: pathlib.Path) -> None:
+    """Those of a page print what it says."""
+    # (without the root's others, with which no program of this machine may run)
+    for file in (installed.root / installed.libdir[1:]).glob("libinstants.*"):
+        shutil.copy(file, tmp_path)
+    # (`-linstants`, as where it is the system's own)
+    places = {"C_INCLUDE_PATH": f"{installed.root}{installed.prefix}/include", "LIBRARY_PATH": str(tmp_path), "LD_LIBRARY_PATH": str(tmp_path)}
+    found = [it for it in commands_in((installed.documents() / page).read_text()) if COMPILING.search(it[0])]
+    assert found
+    for command, due in found:
+        moved = re.sub(rf"(?<=[ \"]){installed.prefix}/share", str(installed.share()), command)
+        assert printed(moved, {**places, **for_pkg_config(installed)}) == (0, due), sure(COMPILING.search(command))[0]
+
+
+if __name__ == "__main__":
+    sys.exit(pytest.main([__file__, *sys.argv[1:]]))
