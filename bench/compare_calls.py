@@ -113,6 +113,7 @@ def rows(of: Measured) -> list[tuple[str, Cells]]:
         ("Python: `answer_bytes`", of.in_python("answer_bytes", COUNTS)),
         ("Python: `answers`", of.in_python("answers", COUNTS)),
         ("Python: `datetimes`", of.in_python("datetimes", COUNTS)),
+        ("Python: `ciso8601`, `astimezone`", of.in_python("ciso8601.datetimes", COUNTS[2:]) * 3),
         ("Python: `to_datetime64`, of bytes", of.in_python("to_datetime64", COUNTS)),
         ("Python: `ciso8601`, `astimezone`, `isoformat`", of.in_python("ciso8601", COUNTS[2:]) * 3),
         ("Python: `python-dateutil`, `isoparse`, `astimezone`, `isoformat`", of.in_python("dateutil", COUNTS[2:]) * 3),

@@ -3,8 +3,8 @@ that a line takes, the least of the rounds.
 
 CALL is `answer_bytes`, `answers`, `datetimes` or `to_datetime64` of the package `instants`, or `Timeline.answer` or
 `Timeline.answers`, by one timeline, the first for each line; or `ciso8601` or `dateutil`, which read RFC 3339 and no words: each
-line's moment is read, moved to UTC and written with six digits of a fraction, which is all that they keep. `answer_bytes` and
-`to_datetime64` are given blocks of bytes, the others lists of texts.
+line's moment is read, moved to UTC and written with six digits of a fraction, which is all that they keep; or `ciso8601.datetimes`,
+which does not write it. `answer_bytes` and `to_datetime64` are given blocks of bytes, the others lists of texts.
 """
 
 import sys
@@ -24,12 +24,19 @@ def moved(parse):
     return answer
 
 
+def moved_alone(parse):
+    """Returns a call that gives the moments of lines, in UTC, by a function that reads one."""
+    from datetime import timezone
+
+    return lambda lines: [parse(line).astimezone(timezone.utc) for line in lines]
+
+
 def call_named(name, words):
     """Returns the call of this name, over a list of texts."""
-    if name == "ciso8601":
+    if name.startswith("ciso8601"):
         import ciso8601
 
-        return moved(ciso8601.parse_datetime)
+        return (moved_alone if name == "ciso8601.datetimes" else moved)(ciso8601.parse_datetime)
     if name == "dateutil":
         from dateutil import parser
 
