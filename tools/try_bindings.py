@@ -21,11 +21,11 @@ their sources, they are proved and built first (tools/build_program.py, tools/bu
   without a network, and what was packed is unpacked and tried outside of the repository, with the library that
   INSTANTS_LIB_DIR names and with that which pkg-config finds; where there is none the build says how to get it.
 - Python: `to_datetime64` of the same lines, against the program's answers; `datetimes` takes no longer than ciso8601 with
-  `astimezone`; the tests of `bindings/python`, by Debian's Python, which has numpy and pandas where their packages are there; its
-  types, by `mypy --strict`; the same lines by its calls, by `python3 -m instants`, and one by one by a timeline; `pip install`,
-  without a network, into an environment of its own, where the package answers with no variable set; the wheel's platform, by the
-  versions that its library needs; the archive of the sources, with a library and without one; and what is said where there is no
-  library, or one of another version.
+  `astimezone`, on lines with offsets; the tests of `bindings/python`, by Debian's Python, which has numpy and pandas where their
+  packages are there; its types, by `mypy --strict`; the same lines by its calls, by `python3 -m instants`, and one by one by a
+  timeline; `pip install`, without a network, into an environment of its own, where the package answers with no variable set; the
+  wheel's platform, by the versions that its library needs; the archive of the sources, with a library and without one; and what is
+  said where there is no library, or one of another version.
 - SQLite: `bindings/sqlite/instant.c` answers the lines that are text as the program does; the answers are the key of a table,
   of an index that SQLite uses, and of generated columns, also where the schema is not trusted; bad calls are errors; words
   that stay from row to row, and words that change, are answered alike; all of it on 2,000 lines under valgrind.
@@ -440,16 +440,19 @@ def test_python_arrays(library: Library, package: None) -> None:
     assert is_same
 
 
-def test_python_pace_of_datetimes(library: Library) -> None:
-    """`datetimes` takes no longer than ciso8601 does with `astimezone`, in turns."""
+@pytest.mark.parametrize("in_utc", [False, True], ids=["of lines with offsets", "of lines in UTC"])
+def test_python_pace_of_datetimes(library: Library, in_utc: bool) -> None:
+    """`datetimes` takes no longer than ciso8601 does with `astimezone`, in turns, on lines with offsets. Lines in UTC that need not
+    move: how long they take is printed (pytest -s shows it)."""
     pytest.importorskip("ciso8601", reason="Debian has it as python3-ciso8601")
     rng, file = random.Random(39), library.room / "rfc3339"
-    file.write_text("".join(f"{bench_lines.rfc3339(rng)}\n" for _ in range(20_000)))
+    lines = (bench_lines.rfc3339(rng) for _ in range(20_000))
+    file.write_text("".join(f"{re.sub('[+-]..:..$', 'Z', it) if in_utc else it}\n" for it in lines))
     places = {"INSTANTS_LIBRARY": str(library.shared), "PYTHONPATH": str(BINDINGS / "python")}
     status, said, wrong = ran([PYTHON, "-B", "-c", RATIO, file], env={**os.environ, **places})
     assert status == 0, wrong.decode(errors="replace")
     print(f"{float(said):.2f} of the time of ciso8601")
-    assert float(said) <= 1
+    assert in_utc or float(said) <= 1
 
 
 def is_refused(named: pathlib.Path, printed: bytes) -> None:
