@@ -7,9 +7,10 @@ FILE, of which there may be several, has a JSON object on each line: `words`, a 
 of them go through one trial of the program (`rt try --cases`) and through the proved program, which is to be built here; what both
 write and their statuses have to be the same. Then, in copies of the sources:
 
-- a call without arguments gives the usage at once;
-- the first call answers within 150 times as long as a piece of work of a fixed size takes here, just before or after, which is
-  a minute on processors of 2.5 GHz that have nothing else to do; it says on standard error first that it builds a trial, then
+- a call without arguments gives the usage at once: within twice as long as a piece of work of a fixed size takes here, just before
+  or after;
+- the first call answers within 150 times as long as that, which is a minute on processors of 2.5 GHz that have nothing else to do;
+  it says on standard error first that it builds a trial, then
   that this is not proved; wrong words get their sentence and status 2;
 - a terminal and an input that is too long are refused, with the command that builds the proved program;
 - a pipe that is silent for five seconds loses nothing;
@@ -50,6 +51,8 @@ ANSWERS = b"2021-01-02T03:04:05.000000000Z\n1997-11-21T15:55:06.000000000Z\n! co
 WORK = "import time; began = time.perf_counter(); sum(it * it % 7 for it in range(3_000_000)); print(time.perf_counter() - began)"
 # A first answer is to come within so many times as long as that takes. A free processor of 2.5 GHz needs some 0.4 seconds for it.
 MOST_PACES = 150
+# What comes within so many times as long as that comes at once.
+AT_ONCE = 2
 
 
 @pytest.fixture(scope="module")
@@ -114,9 +117,13 @@ def test_rows(request: pytest.FixtureRequest, tmp_path: pathlib.Path) -> None:
 
 def test_no_arguments(wrapper: pathlib.Path) -> None:
     """They give the usage at once."""
-    began = time.monotonic()
-    assert answered(wrapper, []) == (2, b"", "instants: usage: instants TARGET ASSUMED LIMIT SOURCE...")
-    assert time.monotonic() - began < 1
+    before, began = pace(), time.monotonic()
+    said = answered(wrapper, [])
+    passed = time.monotonic() - began
+    paces = passed / max(before, pace())
+    print(f"{passed:.1f} s, or {paces:.1f} times the work of a fixed size")
+    assert said == (2, b"", "instants: usage: instants TARGET ASSUMED LIMIT SOURCE...")
+    assert paces < AT_ONCE
 
 
 def test_the_first_call(wrapper: pathlib.Path) -> None:
