@@ -2,20 +2,13 @@
 
 use instants::SourceText;
 use instants_found::{Doubt, Finder, Finding};
-use instants_prefixes::{Given, Years};
+use instants_prefixes::NOTHING;
 use instants_sources::Source;
 use std::alloc::{AllocError, Global};
 use std::test::Fail;
 
 // The place of a date's first byte and that after its last one, and its Unix time.
 type Told = Option<(usize, usize, i64)>;
-
-const NOTHING: Given<'static> = Given {
-    offset: None,
-    zone: None,
-    years: Years::Unknown,
-    time: None,
-};
 
 fn as_told(finding: Option<Finding>) -> Told {
     match finding {

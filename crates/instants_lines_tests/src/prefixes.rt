@@ -3,8 +3,8 @@
 use calendar::UtcOffset;
 use instants::SourceText;
 use instants_prefixes::{
-    DateSource, Given, Lack, Prefix, Years, lacks_byte, lacks_offset, lacks_time, lacks_year,
-    rules_out,
+    DateSource, Given, Lack, NOTHING, Prefix, Years, lacks_byte, lacks_offset, lacks_time,
+    lacks_year, rules_out,
 };
 use instants_sources::Source;
 use std::alloc::Global;
@@ -66,13 +66,6 @@ static LACKS: [(&str, Option<Lack>); 9] = [
     ("%F %T", Some(Lack::Offset)),
     ("%G-W%V-%u %I:%M %p %z", None),
 ];
-
-const NOTHING: Given<'static> = Given {
-    offset: None,
-    zone: None,
-    years: Years::Unknown,
-    time: None,
-};
 
 const AT_UTC: Given<'static> = Given {
     offset: Some(UtcOffset::UTC),
