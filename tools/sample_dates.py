@@ -151,6 +151,8 @@ WAYS = [
     Way(("strftime", "%F %T CEST"), of("{year:04}-{month:02}-{day:02} {clock} CEST"), OFFSET),
     Way(("strftime", "%Y/%m/%d %T"), of("{year:04}/{month:02}/{day:02} {clock}"), OFFSET),
     Way(("strftime", "%c"), of("{wd} {mon} {day:2} {clock} {year:04}"), OFFSET),
+    Way(("strftime", "%a %b %e %T CEST %Y"), of("{wd} {mon} {day:2} {clock} CEST {year:04}"), OFFSET),
+    Way(("v3", "[weekday repr:short] [month repr:short] [day padding:space] [hour]:[minute]:[second][ignore count:5][year]"), of("{wd} {mon} {day:2} {clock} CET {year:04}"), OFFSET),
     Way(("strftime", "%b %e %T"), of("{mon} {day:2} {clock}"), ("offset", "year")),
     Way(("strftime", "%m-%d %T"), of("{month:02}-{day:02} {clock}"), ("offset", "year")),
     Way(("strftime", "%F"), of("{year:04}-{month:02}-{day:02}"), ("offset", "time")),

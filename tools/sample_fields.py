@@ -6,7 +6,7 @@ crates/instants_fields_tests are drawn from these.
     tools/sample_fields.py columns COUNT SEED    LINE<tab>NUMBER<tab>SEPARATOR<tab>the column, or `none`
     tools/sample_fields.py dates COUNT SEED      WORDS, with bars between them, <tab>LINE<tab>what mode `locate` writes
 
-The dates are those of crates/instants_lines_tests/src/parts.rt: each line has several, which differ, and the one that is found is that
+The dates are those of crates/instants_tests/src/parts.rt: each line has several, which differ, and the one that is found is that
 of the field or the column that Python reads.
 """
 

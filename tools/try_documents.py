@@ -71,7 +71,7 @@ DOCUMENTS = (
 PAGES = {
     "calendar": "datetime_tests",
     "datetime": "datetime_tests",
-    "description": "description_tests",
+    "description": "parsing_tests",
     "parsing": "parsing_tests",
     "instants": "instants_tests",
 }

@@ -3,7 +3,7 @@
 
     tools/try_wrong_words.py [--instants-lines PROGRAM] [-k WORD]    crates/instants_lines_program/out/instants_lines_program where none is named
 
-The table of wrong arguments is a test of the gate (crates/instants_lines_tests/src/wrong_words.rt); here is what only a process shows:
+The table of wrong arguments is a test of the gate (crates/instants_tests/src/wrong_words.rt); here is what only a process shows:
 
 - each kind of wrong argument by one row, with status 2 and nothing on standard output, and the hints;
 - an input that can't be read and an output that is full are told with their reason, with status 1;

@@ -290,12 +290,12 @@ def test_lines_of_date(zones: Zones, form: str) -> None:
 
 
 def test_a_name_inside_a_date(zones: Zones) -> None:
-    """Where the abbreviation is text of the description it stands inside of the date, as date(1) has it: the hour that comes twice stays
-    in doubt."""
+    """Where the abbreviation is text of the description it stands inside of the date, as date(1) has it: it settles the hour that comes
+    twice."""
     rows = rows_from(zones.clock("Europe/Berlin"), "2026-10-24T22:00:00", 40, 10)
     sources = [word for name in ("CET", "CEST") for word in ("strftime", f"%a %b %e %T {name} %Y")]
     lines = [it.wall.strftime("%a %b %e %H:%M:%S %Z %Y") for it in rows]
-    assert zones.keys("key", "Z", "Europe/Berlin", *sources, lines=lines) == [it.wanted(False) for it in rows]
+    assert zones.keys("key", "Z", "Europe/Berlin", *sources, lines=lines) == [it.wanted(True) for it in rows]
 
 
 @pytest.mark.parametrize(

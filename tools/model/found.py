@@ -106,10 +106,12 @@ def is_likely(read: Record) -> bool:
 # ---- a date on the clock of a zone
 
 
-def is_said(zone: Zone, line: bytes, ends: int, moment: int) -> bool:
-    """Whether the clock has at a moment what the line says after a date: an offset, and an abbreviation of the zone."""
+def is_said(zone: Zone, line: bytes, start: int, ends: int, moment: int) -> bool:
+    """Whether the clock has at a moment what the line says after a date, an offset and an abbreviation of the zone, and inside of it,
+    each abbreviation of the zone."""
     offset = edges.offset_after(line[ends : ends + edges.REACH])
-    return has_name(zone, line, ends, moment) and offset in (None, zone.offset_at(moment))
+    inside = all(has_name(zone, line, place, moment) for place in range(start, ends) if edges.is_edge(line, place))
+    return inside and has_name(zone, line, ends, moment) and offset in (None, zone.offset_at(moment))
 
 
 def has_name(zone: Zone, line: bytes, ends: int, moment: int) -> bool:
@@ -117,14 +119,14 @@ def has_name(zone: Zone, line: bytes, ends: int, moment: int) -> bool:
     return not zone.is_name(word) or word == zone.name_at(moment)
 
 
-def settled(given: Given, read: Record, line: bytes, ends: int, moment: Moment) -> Settled:
+def settled(given: Given, read: Record, line: bytes, start: int, ends: int, moment: Moment) -> Settled:
     """Returns the moment at which the zone's clock shows a date that says no offset; of two the one of which the line says what the
     clock has there."""
     if given.zone is None or "offset_hour" in read or "unix" in read:
         return Settled(moment, given.offset, None)
     reading = moment.wall // SECOND
     moments = given.zone.moments(reading)
-    said = [it for it in moments if is_said(given.zone, line, ends, it)]
+    said = [it for it in moments if is_said(given.zone, line, start, ends, it)]
     if len(moments) == 1:
         doubt = None if has_name(given.zone, line, ends, moments[0]) else "another offset"
         return Settled(Moment(moment.wall, reading - moments[0]), reading - moments[0], doubt)
@@ -165,7 +167,7 @@ def candidate(given: Given, line: bytes, place: int, number: int, source: Source
     is_edge = edges.is_edge(line, place + edges.trimmed_length(text[:after]))
     if not edges.may_say(line, begins) or ("unix" in read and not is_edge):
         return None
-    date = settled(given, read, line, ends, moment)
+    date = settled(given, read, line, place, ends, moment)
     doubt: str | None
     if not is_edge:
         doubt = "goes on"

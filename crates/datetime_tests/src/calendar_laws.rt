@@ -6,7 +6,9 @@ use calendar::laws::{self, times};
 use calendar::{Date, Month, SignedDuration, Time, UtcOffset, Weekday};
 use std::cmp::Ordering;
 
-fn days(leap: Date) -> [Date; 7] {
+// The days that laws lead to from a day, and the ends of the calendar with the first day of Unix time.
+fn days(leap: Date) -> [Date; 10] {
+    let [least, greatest] = laws::ends_of_calendar();
     [
         answered(laws::day_of_calendar_date(leap)),
         answered(laws::day_of_ordinal_date(leap)),
@@ -15,19 +17,27 @@ fn days(leap: Date) -> [Date; 7] {
         laws::day_and_back(leap, SignedDuration::WEEK).unwrap_or(Date::MIN),
         laws::day_at_difference(Date::MIN, leap).unwrap_or(Date::MIN),
         laws::day_at_difference(leap, Date::MIN).unwrap_or(leap),
+        least,
+        laws::day_of_unix_epoch(),
+        greatest,
     ]
 }
 
-#[test]
-fn laws_of_dates(rt: HostRuntime) {
-    laws::views();
-    laws::both_ends();
-    laws::order_of_days();
-    let (leap, first) = (leap_day(), Date::MIN);
-    assert!(rt; days(leap) == [leap, leap, leap, leap, leap, leap, first]);
-    let [least, greatest] = laws::ends_of_calendar();
-    let ends = [least, laws::day_of_unix_epoch(), greatest];
-    assert!(rt; ends == [first, answered(Date::from_julian_day(2_440_588)), Date::MAX]);
+fn are_days(leap: Date) -> bool {
+    let (first, epoch) = (Date::MIN, answered(Date::from_julian_day(2_440_588)));
+    days(leap)
+        == [
+            leap,
+            leap,
+            leap,
+            leap,
+            leap,
+            leap,
+            first,
+            first,
+            epoch,
+            Date::MAX,
+        ]
 }
 
 type Shown = (
@@ -56,20 +66,22 @@ static SHOWN: Shown = (
     Ordering::Less,
 );
 
-fn offsets(offset: UtcOffset) -> [UtcOffset; 3] {
-    [
+fn are_offsets(offset: UtcOffset) -> bool {
+    let offsets = [
         laws::offset_of_whole_seconds(offset).unwrap_or(UtcOffset::UTC),
         times::turned_twice(offset),
         times::offset_of_utc(),
-    ]
+    ];
+    offsets == [offset, offset, UtcOffset::UTC]
 }
 
 #[test]
-fn laws_of_views_months_and_offsets(rt: HostRuntime) {
-    assert!(rt; shown() == SHOWN);
-    let utc = UtcOffset::UTC;
-    let offset = UtcOffset::from_hms(-3, 30, 0).unwrap_or(utc);
-    assert!(rt; offsets(offset) == [offset, offset, utc]);
+fn laws_of_dates_and_offsets(rt: HostRuntime) {
+    laws::views();
+    laws::both_ends();
+    laws::order_of_days();
+    let offset = UtcOffset::from_hms(-3, 30, 0).unwrap_or(UtcOffset::UTC);
+    assert!(rt; are_days(leap_day()) && shown() == SHOWN && are_offsets(offset));
 }
 
 fn led_to() -> [u64; 4] {
@@ -104,8 +116,9 @@ fn units() -> [SignedDuration; 11] {
 
 #[test]
 fn laws_of_times_and_durations(rt: HostRuntime) {
-    assert!(rt; led_to() == LED_TO);
-    assert!(rt; laws::durations::constants() == units());
-    let (sample, week) = (durations::sample(), SignedDuration::WEEK);
-    assert!(rt; laws::durations::added_and_taken_away(sample, week) == Some(sample));
+    let sample = durations::sample();
+    let back = laws::durations::added_and_taken_away(sample, SignedDuration::WEEK);
+    assert!(rt;
+        led_to() == LED_TO && laws::durations::constants() == units() && back == Some(sample)
+    );
 }

@@ -82,12 +82,13 @@ const RUNS: [Run; 3] = [
 ];
 
 // A run of no calls stays where it starts.
-#[test]
-fn answers_runs(rt: HostRuntime) {
+fn answers_runs(alloc: Global) -> bool {
     for run in &RUNS {
-        assert!(rt; both_answer(rt.alloc(), run.0, &run.1, &run.2, run.3));
+        if !both_answer(alloc, run.0, &run.1, &run.2, run.3) {
+            return false;
+        }
     }
-    assert!(rt; both_answer(rt.alloc(), Timestamp::UNIX_EPOCH, &[], &[], 0));
+    both_answer(alloc, Timestamp::UNIX_EPOCH, &[], &[], 0)
 }
 
 fn every_call() -> [MomentCall; 12] {
@@ -127,11 +128,10 @@ fn every_reply() -> [MomentReply; 12] {
     ]
 }
 
-#[test]
-fn answers_every_call(rt: HostRuntime) {
+fn answers_every_call(alloc: Global) -> bool {
     let (calls, replies) = (every_call(), every_reply());
     let start = timestamp_of(951_782_400, 0);
-    assert!(rt; both_answer(rt.alloc(), start, &calls, &replies, 1_000_000_000));
+    both_answer(alloc, start, &calls, &replies, 1_000_000_000)
 }
 
 static SHOWN: [(i64, u32, Parts); 5] = [
@@ -154,12 +154,14 @@ static SHOWN: [(i64, u32, Parts); 5] = [
     ),
 ];
 
-#[test]
-fn shows_dates_by_both_calendars(rt: HostRuntime) {
+fn shows_dates_by_both_calendars() -> bool {
     for row in &SHOWN {
         let start = timestamp_of(row.0, row.1);
-        assert!(rt; [parts(start), parts(start.to_utc())] == [row.2; 2]);
+        if [parts(start), parts(start.to_utc())] != [row.2; 2] {
+            return false;
+        }
     }
+    true
 }
 
 // What the moment in the reply to a lone call shows.
@@ -173,10 +175,19 @@ fn shown_in(alloc: Global, calls: &[MomentCall]) -> Option<(Parts, UtcOffset)> {
     }
 }
 
-#[test]
-fn shows_at_the_offset(rt: HostRuntime) {
+fn shows_at_the_offset(alloc: Global) -> bool {
     let west = offset_of(-13, 0, 0);
-    let given = shown_in(rt.alloc(), &[MomentCall::CheckedToOffset(west)]);
-    let eve = ((1969, Month::December, 31), (11, 0, 0, 0));
-    assert!(rt; given == Some((eve, west)));
+    let given = shown_in(alloc, &[MomentCall::CheckedToOffset(west)]);
+    given == Some((((1969, Month::December, 31), (11, 0, 0, 0)), west))
+}
+
+#[test]
+fn answers_calls(rt: HostRuntime) {
+    let alloc = rt.alloc();
+    assert!(rt;
+        answers_runs(alloc)
+            && answers_every_call(alloc)
+            && shows_dates_by_both_calendars()
+            && shows_at_the_offset(alloc)
+    );
 }

@@ -12,8 +12,7 @@ static KNOWN_DAYS: [(i32, u8, u8); 4] = [
     (999_999, 12, 31),
 ];
 
-#[test]
-fn known_days_and_places(rt: HostRuntime) {
+fn are_known() -> bool {
     let days = [
         day_of_count(0),
         day_of_count(365_961_662),
@@ -27,7 +26,7 @@ fn known_days_and_places(rt: HostRuntime) {
         place_of_count(365_972_984),
         iso_week_of_count(365_980_291),
     );
-    assert!(rt; days == KNOWN_DAYS && places == (8, 9, 3, (2000, 366), (2020, 53)));
+    days == KNOWN_DAYS && places == (8, 9, 3, (2000, 366), (2020, 53))
 }
 
 // A year, a month and a day; an hour, a minute and a second.
@@ -52,9 +51,16 @@ static SECONDS: [(i64, Shown); 7] = [
     (31_494_784_780_799, ((999_999, 12, 31), (23, 59, 59))),
 ];
 
-#[test]
-fn known_seconds(rt: HostRuntime) {
+fn show_seconds() -> bool {
     for row in &SECONDS {
-        assert!(rt; shown(row.0) == Some(row.1));
+        if shown(row.0) != Some(row.1) {
+            return false;
+        }
     }
+    true
+}
+
+#[test]
+fn known_days_and_seconds(rt: HostRuntime) {
+    assert!(rt; are_known() && show_seconds());
 }

@@ -103,11 +103,13 @@ fn named(day: &Views) -> [Views; 5] {
     ]
 }
 
-#[test]
-fn names_days(rt: HostRuntime) {
+fn names_days() -> bool {
     for day in &DAYS {
-        assert!(rt; named(day) == [*day; 5]);
+        if named(day) != [*day; 5] {
+            return false;
+        }
     }
+    true
 }
 
 // The leap day with a part replaced, and the days beside it.
@@ -131,11 +133,6 @@ static LED_TO: [(i32, Month, u8); 6] = [
     (2024, Month::March, 1),
     (2024, Month::February, 28),
 ];
-
-#[test]
-fn replaces_and_steps(rt: HostRuntime) {
-    assert!(rt; led_to() == LED_TO);
-}
 
 // The day so much later, by each call.
 fn later(day: Date, duration: SignedDuration) -> Option<[Date; 4]> {
@@ -161,24 +158,33 @@ fn earlier(day: Date, duration: SignedDuration) -> Option<[Date; 4]> {
 // Seconds, and the day of March so much later and earlier than the second one: parts of a day are cut.
 static MOVED: [(i64, u8, u8); 2] = [(86_399, 2, 2), (-86_400, 1, 3)];
 
-#[test]
-fn moves_by_durations(rt: HostRuntime) {
-    let second = date_of(2024, Month::March, 2);
+fn moves_by_durations(second: Date) -> bool {
     for row in &MOVED {
         let duration = SignedDuration::seconds(row.0);
         let sum = date_of(2024, Month::March, row.1);
-        assert!(rt; later(second, duration) == Some([sum; 4]));
         let difference = date_of(2024, Month::March, row.2);
-        assert!(rt; earlier(second, duration) == Some([difference; 4]));
+        if later(second, duration) != Some([sum; 4])
+            || earlier(second, duration) != Some([difference; 4])
+        {
+            return false;
+        }
     }
+    true
 }
 
 // A day is the same key however it was found, and another one is another key.
-#[test]
-fn is_apart_and_a_key(rt: HostRuntime) {
-    let (leap, epoch) = (leap_day(), Date::UNIX_EPOCH);
-    assert!(rt; leap - epoch == SignedDuration::days(19_782) && epoch < leap);
+fn is_apart_and_a_key(leap: Date, epoch: Date) -> bool {
     let same = answered(Date::from_julian_day(2_460_370));
-    let keys = [hash_of(leap), hash_of(same), hash_of(epoch)];
-    assert!(rt; keys[0] == keys[1] && keys[0] != keys[2]);
+    let key = hash_of(leap);
+    leap - epoch == SignedDuration::days(19_782)
+        && epoch < leap
+        && key == hash_of(same)
+        && key != hash_of(epoch)
+}
+
+#[test]
+fn names_moves_and_keys(rt: HostRuntime) {
+    assert!(rt; names_days() && led_to() == LED_TO);
+    assert!(rt; moves_by_durations(date_of(2024, Month::March, 2)));
+    assert!(rt; is_apart_and_a_key(leap_day(), Date::UNIX_EPOCH));
 }

@@ -68,12 +68,6 @@ static FINE: [i128; 9] = [
     5_000_001,
 ];
 
-#[test]
-fn counts_units_toward_zero(rt: HostRuntime) {
-    assert!(rt; seconds() == SECONDS);
-    assert!(rt; fine() == FINE);
-}
-
 // The nanoseconds, where there is a duration.
 fn counted(answer: Option<SignedDuration>) -> Option<i128> {
     Some(answer?.whole_nanoseconds())
@@ -142,38 +136,32 @@ static ADDED: [i128; 8] = [
     -9_223_372_036_854_775_808_999_999_999,
 ];
 
-#[test]
-fn adds_and_ends(rt: HostRuntime) {
-    assert!(rt; checked() == CHECKED);
-    assert!(rt; added() == ADDED);
+fn has_a_sign(sample: SignedDuration) -> bool {
+    sample.is_negative()
+        && !sample.is_positive()
+        && !sample.is_zero()
+        && SignedDuration::MIN < sample
 }
 
-#[test]
-fn tells_signs(rt: HostRuntime) {
-    let sample = sample();
-    let signs = [
-        sample.is_negative(),
-        sample.is_positive(),
-        sample.is_zero(),
-        SignedDuration::MIN < sample,
-    ];
-    assert!(rt; signs == [true, false, false, true]);
-}
-
-#[test]
-fn converts_and_refuses(rt: HostRuntime) {
-    let (one, other) = (Duration::new(1, 500), SignedDuration::new(1, 500));
+fn converts(one: Duration, other: SignedDuration) -> bool {
     let signed = [
         signed_from_std(one),
         signed_from_std(Duration::from_secs(9_223_372_036_854_775_807)),
         signed_from_std(Duration::from_secs(9_223_372_036_854_775_808)),
     ];
-    let longest = SignedDuration::seconds(i64::MAX);
-    assert!(rt; signed == [Ok(other), Ok(longest), Err(ConversionRange)]);
     let given = [
         std_from_signed(other),
         std_from_signed(SignedDuration::ZERO),
         std_from_signed(SignedDuration::nanoseconds(-1)),
     ];
-    assert!(rt; given == [Ok(one), Ok(Duration::ZERO), Err(ConversionRange)]);
+    let longest = SignedDuration::seconds(i64::MAX);
+    signed == [Ok(other), Ok(longest), Err(ConversionRange)]
+        && given == [Ok(one), Ok(Duration::ZERO), Err(ConversionRange)]
+}
+
+#[test]
+fn counts_adds_and_converts(rt: HostRuntime) {
+    assert!(rt; seconds() == SECONDS && fine() == FINE && checked() == CHECKED && added() == ADDED);
+    assert!(rt; has_a_sign(sample()));
+    assert!(rt; converts(Duration::new(1, 500), SignedDuration::new(1, 500)));
 }

@@ -29,20 +29,15 @@ fn is_replaced<T: WallClock>(value: T) -> bool {
     true
 }
 
-fn shows_and_replaces<T: WallClock>(value: T) -> [bool; 2] {
-    [views(value) == VIEWS, is_replaced(value)]
+fn shows_and_replaces<T: WallClock>(value: T) -> bool {
+    views(value) == VIEWS && is_replaced(value)
 }
 
-#[test]
-fn shows_and_replaces_parts(rt: HostRuntime) {
-    let (plain, utc, timestamp, shown) = evenings(leap_day());
-    let holds = [
-        shows_and_replaces(plain),
-        shows_and_replaces(utc),
-        shows_and_replaces(timestamp),
-        shows_and_replaces(shown),
-    ];
-    assert!(rt; holds == [[true; 2]; 4]);
+fn show_and_replace((plain, utc, timestamp, shown): Evenings) -> bool {
+    shows_and_replaces(plain)
+        && shows_and_replaces(utc)
+        && shows_and_replaces(timestamp)
+        && shows_and_replaces(shown)
 }
 
 // The day and the time of day by the calls that each type has for itself.
@@ -53,13 +48,38 @@ fn shown_alone((plain, utc, timestamp, shown): Evenings) -> ([Date; 4], [Time; 4
     )
 }
 
+// The time of day by the calls of a moment.
+type Clock = (
+    (u8, u8, u8),
+    (u8, u8, u8, u16),
+    (u8, u8, u8, u32),
+    (u8, u8, u8, u32),
+);
+
+fn clock(shown: OffsetDateTime) -> Clock {
+    (
+        shown.to_hms(),
+        shown.to_hms_milli(),
+        shown.to_hms_micro(),
+        shown.to_hms_nano(),
+    )
+}
+
+static CLOCK: Clock = (
+    (23, 59, 58),
+    (23, 59, 58, 123),
+    (23, 59, 58, 123_456),
+    (23, 59, 58, 123_456_789),
+);
+
 #[test]
-fn shows_alone(rt: HostRuntime) {
-    assert!(rt; shown_alone(evenings(leap_day())) == ([leap_day(); 4], [evening(); 4]));
-    let shown = OffsetDateTime::new_in_offset(leap_day(), evening(), east());
-    let times = (shown.to_hms(), shown.to_hms_milli(), shown.to_hms_micro());
-    assert!(rt; times == ((23, 59, 58), (23, 59, 58, 123), (23, 59, 58, 123_456)));
-    assert!(rt; shown.to_hms_nano() == (23, 59, 58, 123_456_789));
+fn shows_and_replaces_parts(rt: HostRuntime) {
+    let evenings = evenings(leap_day());
+    assert!(rt;
+        show_and_replace(evenings)
+            && shown_alone(evenings) == ([leap_day(); 4], [evening(); 4])
+            && clock(evenings.3) == CLOCK
+    );
 }
 
 // How a value is ordered beside a later one, both ways, whether it is equal to itself alone, and whether its hash is its own.
@@ -76,25 +96,26 @@ fn compared<T: Ord + Hash + Copy + Drop>(
     (value.cmp(&later), later.partial_cmp(&value), equal)
 }
 
-#[test]
-fn are_ordered(rt: HostRuntime) {
-    let (plain, utc, timestamp, shown) = evenings(leap_day());
-    let later = Time::from_hms_nano(23, 59, 58, 123_456_790).unwrap_or(Time::MIDNIGHT);
+fn are_ordered((plain, utc, timestamp, shown): Evenings, later: Time) -> bool {
     let given = [
         compared(plain, plain.replace_time(later)),
         compared(utc, utc.replace_time(later)),
         compared(timestamp, timestamp.replace_time(later)),
         compared(shown, shown.replace_time(later)),
     ];
-    let wanted = (Ordering::Less, Some(Ordering::Greater), [true, false, true]);
-    assert!(rt; given == [wanted; 4]);
+    given == [(Ordering::Less, Some(Ordering::Greater), [true, false, true]); 4]
 }
 
 // Before 1970 too the units begin at whole numbers of the clock.
+fn are_cut((plain, utc, timestamp, shown): Evenings) -> bool {
+    [cut(plain), cut(utc), cut(timestamp), cut(shown)] == [CUT; 4]
+        && shown.truncate_to_day().offset() == east()
+        && parts(utc) == parts(shown)
+}
+
 #[test]
-fn cuts_to_units(rt: HostRuntime) {
-    let (plain, utc, timestamp, shown) = evenings(date_of(1969, Month::December, 31));
-    let given = [cut(plain), cut(utc), cut(timestamp), cut(shown)];
-    assert!(rt; given == [CUT; 4]);
-    assert!(rt; shown.truncate_to_day().offset() == east() && parts(utc) == parts(shown));
+fn orders_and_cuts(rt: HostRuntime) {
+    let later = Time::from_hms_nano(23, 59, 58, 123_456_790).unwrap_or(Time::MIDNIGHT);
+    assert!(rt; are_ordered(evenings(leap_day()), later));
+    assert!(rt; are_cut(evenings(date_of(1969, Month::December, 31))));
 }

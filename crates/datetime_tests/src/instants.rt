@@ -30,16 +30,15 @@ fn next_morning() -> OffsetDateTime {
     OffsetDateTime::new_in_offset(date, time, east())
 }
 
-#[test]
-fn converts_instants(rt: HostRuntime) {
-    let (timestamp, utc, _) = leap_evening();
+fn converts_instants((timestamp, utc, _): Instants) -> bool {
     let shown = [
         shown(OffsetDateTime::from(utc)),
         shown(OffsetDateTime::from(timestamp)),
         shown(OffsetDateTime::new_utc(leap_day(), evening())),
     ];
-    assert!(rt; shown == [((LEAP_DAY, EVENING), UtcOffset::UTC); 3]);
-    assert!(rt; (Timestamp::from(utc), UtcDateTime::from(timestamp)) == (timestamp, utc));
+    shown == [((LEAP_DAY, EVENING), UtcOffset::UTC); 3]
+        && Timestamp::from(utc) == timestamp
+        && UtcDateTime::from(timestamp) == utc
 }
 
 type Answers = ([bool; 6], [Ordering; 6]);
@@ -83,19 +82,15 @@ fn differences(
     ]
 }
 
+fn compares_and_subtracts() -> bool {
+    answers(leap_evening(), leap_evening()) == ([true; 6], [Ordering::Equal; 6])
+        && answers(leap_evening(), second_later()) == ([false; 6], [Ordering::Less; 6])
+        && differences(leap_evening(), second_later()) == [SignedDuration::seconds(1); 6]
+}
+
 #[test]
-fn compares_and_subtracts(rt: HostRuntime) {
-    let given = [
-        answers(leap_evening(), leap_evening()),
-        answers(leap_evening(), second_later()),
-    ];
-    let wanted = [
-        ([true; 6], [Ordering::Equal; 6]),
-        ([false; 6], [Ordering::Less; 6]),
-    ];
-    assert!(rt; given == wanted);
-    let apart = differences(leap_evening(), second_later());
-    assert!(rt; apart == [SignedDuration::seconds(1); 6]);
+fn converts_and_compares(rt: HostRuntime) {
+    assert!(rt; converts_instants(leap_evening()) && compares_and_subtracts());
 }
 
 // The nanoseconds since 1970, and none for a refusal.
@@ -170,12 +165,9 @@ static COUNTED: [([i64; 4], i128); 2] = [
     ([-1; 4], -1),
 ];
 
-#[test]
-fn counts_units_from_1970(rt: HostRuntime) {
-    assert!(rt; made() == MADE);
-    let before = timestamp_of(-1, 999_999_999);
+fn counts_units(before: Timestamp) -> bool {
     let before = (before, before.to_utc(), OffsetDateTime::from(before));
-    assert!(rt; [counted(leap_evening()), counted(before)] == COUNTED);
+    [counted(leap_evening()), counted(before)] == COUNTED
 }
 
 fn out_of_range() -> [Refused; 12] {
@@ -215,8 +207,9 @@ static OUT_OF_RANGE: [Refused; 12] = [
 ];
 
 #[test]
-fn refuses_what_is_out_of_range(rt: HostRuntime) {
-    assert!(rt; out_of_range() == OUT_OF_RANGE);
+fn makes_counts_and_refuses(rt: HostRuntime) {
+    let before = timestamp_of(-1, 999_999_999);
+    assert!(rt; made() == MADE && counts_units(before) && out_of_range() == OUT_OF_RANGE);
 }
 
 // By each call of two types.
@@ -230,23 +223,26 @@ fn shown_at(east: UtcOffset) -> Option<[(Parts, UtcOffset); 4]> {
     ])
 }
 
-#[test]
-fn is_shown_elsewhere(rt: HostRuntime) {
-    assert!(rt; shown_at(east()) == Some([shown(next_morning()); 4]));
+fn is_shown_elsewhere(east: UtcOffset) -> bool {
     let past = [
-        Timestamp::MAX.checked_to_offset(east()),
-        Timestamp::MAX.to_utc().checked_to_offset(east()),
+        Timestamp::MAX.checked_to_offset(east),
+        Timestamp::MAX.to_utc().checked_to_offset(east),
     ];
-    assert!(rt; past == [None; 2]);
+    past == [None; 2] && shown_at(east) == Some([shown(next_morning()); 4])
 }
 
-#[test]
-fn assumes_an_offset(rt: HostRuntime) {
-    let value = PlainDateTime::new(leap_day(), evening());
+fn assumes_an_offset(value: PlainDateTime, east: UtcOffset) -> bool {
     let moments = [
         shown(value.assume_utc()),
         shown(OffsetDateTime::from(value.as_utc())),
+        shown(value.assume_offset(east)),
     ];
-    assert!(rt; moments == [((LEAP_DAY, EVENING), UtcOffset::UTC); 2]);
-    assert!(rt; shown(value.assume_offset(east())) == ((LEAP_DAY, EVENING), east()));
+    let (utc, wall) = (UtcOffset::UTC, (LEAP_DAY, EVENING));
+    moments == [(wall, utc), (wall, utc), (wall, east)]
+}
+
+#[test]
+fn shows_at_offsets(rt: HostRuntime) {
+    let value = PlainDateTime::new(leap_day(), evening());
+    assert!(rt; is_shown_elsewhere(east()) && assumes_an_offset(value, east()));
 }

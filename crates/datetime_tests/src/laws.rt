@@ -8,27 +8,15 @@ use datetime::{
 use std::alloc::Global;
 use std::cmp::Ordering;
 
-fn pins_the_constants() -> [bool; 4] {
+fn pins_the_constants() -> bool {
     let first = PlainDateTime::new(Date::MIN, Time::MIDNIGHT);
     let last = PlainDateTime::new(Date::MAX, Time::MAX);
     let epoch = UtcDateTime::from_unix_timestamp(0).unwrap_or(last.as_utc());
     let ends = [first.as_utc(), epoch, last.as_utc()];
-    [
-        laws::ends_of_wall_clocks() == [first, last],
-        laws::constants_of_utc() == ends,
-        laws::constants_of_timestamps() == ends.map(Timestamp::from),
-        laws::epoch_at_offset_zero() == OffsetDateTime::from(epoch),
-    ]
-}
-
-#[test]
-fn holds(rt: HostRuntime) {
-    laws::cuts();
-    laws::times_show_their_parts();
-    laws::wall_clocks_show_their_parts();
-    laws::timestamps_print_apart();
-    laws::timestamps_print_tidily();
-    assert!(rt; pins_the_constants() == [true; 4]);
+    laws::ends_of_wall_clocks() == [first, last]
+        && laws::constants_of_utc() == ends
+        && laws::constants_of_timestamps() == ends.map(Timestamp::from)
+        && laws::epoch_at_offset_zero() == OffsetDateTime::from(epoch)
 }
 
 type Moved = (
@@ -47,18 +35,23 @@ fn day_and_back((wall, utc, timestamp, moment): Evenings) -> Moved {
     )
 }
 
+fn leads_back(evenings: Evenings) -> bool {
+    let (wall, utc, timestamp, moment) = evenings;
+    day_and_back(evenings) == (Some(wall), Some(utc), Some(timestamp), Some(moment))
+        && laws::utc_and_back(utc) == utc
+        && laws::timestamp_and_back(timestamp) == timestamp
+        && laws::milliseconds_and_back(-1) == Some(-1)
+        && laws::milliseconds_and_back(i64::MAX) == None
+}
+
 #[test]
-fn leads_back(rt: HostRuntime) {
-    let (wall, utc, timestamp, moment) = evenings(leap_day());
-    let back = (laws::utc_and_back(utc), laws::timestamp_and_back(timestamp));
-    assert!(rt; back == (utc, timestamp));
-    let milliseconds = [
-        laws::milliseconds_and_back(-1),
-        laws::milliseconds_and_back(i64::MAX),
-    ];
-    assert!(rt; milliseconds == [Some(-1), None]);
-    let wanted = (Some(wall), Some(utc), Some(timestamp), Some(moment));
-    assert!(rt; day_and_back(evenings(leap_day())) == wanted);
+fn holds(rt: HostRuntime) {
+    laws::cuts();
+    laws::times_show_their_parts();
+    laws::wall_clocks_show_their_parts();
+    laws::timestamps_print_apart();
+    laws::timestamps_print_tidily();
+    assert!(rt; pins_the_constants() && leads_back(evenings(leap_day())));
 }
 
 type Led = (
@@ -77,8 +70,7 @@ fn led(one: PlainDateTime, other: PlainDateTime) -> Led {
     )
 }
 
-fn leads_moments() -> [bool; 2] {
-    let moment = PlainDateTime::new(leap_day(), evening()).assume_offset(east());
+fn leads_moments(moment: OffsetDateTime) -> bool {
     let epoch = laws::epoch_at_offset_zero();
     let last = laws::ends_of_wall_clocks()[1].assume_utc();
     let led = [
@@ -87,31 +79,19 @@ fn leads_moments() -> [bool; 2] {
         laws::shown_at_own_offset(moment),
     ];
     let shown = laws::shown_by_way_of(moment, UtcOffset::UTC, moment.offset());
-    [
-        led == [Some(epoch), None, Some(moment)],
-        shown == Some(Some(moment)),
-    ]
+    led == [Some(epoch), None, Some(moment)] && shown == Some(Some(moment))
 }
 
-#[test]
-fn leads_by_differences(rt: HostRuntime) {
+fn leads_by_differences() -> bool {
     let [first, last] = laws::ends_of_wall_clocks();
-    let to_first = (Some(first), Some(first.as_utc()), Some(Timestamp::MIN));
-    let to_last = (Some(last), Some(last.as_utc()), Some(Timestamp::MAX));
-    assert!(rt; [led(last, first), led(first, last)] == [to_first, to_last]);
-    assert!(rt; leads_moments() == [true; 2]);
+    led(last, first) == (Some(first), Some(first.as_utc()), Some(Timestamp::MIN))
+        && led(first, last) == (Some(last), Some(last.as_utc()), Some(Timestamp::MAX))
 }
 
-#[test]
-fn orders_moments(rt: HostRuntime) {
-    let wall = PlainDateTime::new(leap_day(), evening());
-    let (moment, utc) = (wall.assume_offset(east()), wall.assume_utc());
-    let answers = (
-        laws::equal_as_instants(moment, moment),
-        laws::equal_as_instants(moment, utc),
-        laws::order_of_instants(moment, utc),
-    );
-    assert!(rt; answers == (true, false, Ordering::Less));
+fn orders_moments(moment: OffsetDateTime, utc: OffsetDateTime) -> bool {
+    laws::equal_as_instants(moment, moment)
+        && !laws::equal_as_instants(moment, utc)
+        && laws::order_of_instants(moment, utc) == Ordering::Less
 }
 
 const CALLS: [MomentCall; 2] = [MomentCall::Weekday, MomentCall::InstantNanos];
@@ -133,6 +113,13 @@ fn both_reply(alloc: Global, start: Timestamp) -> bool {
 }
 
 #[test]
-fn answers_alike(rt: HostRuntime) {
-    assert!(rt; both_reply(rt.alloc(), timestamp_of(1_709_251_198, 0)));
+fn leads_orders_and_answers(rt: HostRuntime) {
+    let wall = PlainDateTime::new(leap_day(), evening());
+    let moment = wall.assume_offset(east());
+    assert!(rt;
+        leads_by_differences()
+            && leads_moments(moment)
+            && orders_moments(moment, wall.assume_utc())
+            && both_reply(rt.alloc(), timestamp_of(1_709_251_198, 0))
+    );
 }

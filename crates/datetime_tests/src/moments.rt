@@ -27,14 +27,13 @@ fn in_utc(value: OffsetDateTime) -> Option<[Parts; 4]> {
     ])
 }
 
-#[test]
-fn shows_in_utc(rt: HostRuntime) {
-    let late = moment_of(date_of(9999, Month::December, 31), (23, 59, 59), -1);
+// Also of the last evening of a year, which is the next year there.
+fn shows_in_utc(late: OffsetDateTime) -> bool {
     let wanted = [
         Some([(LEAP_DAY, (18, 29, 58, 123_456_789)); 4]),
         Some([((10_000, Month::January, 1), (0, 59, 59, 0)); 4]),
     ];
-    assert!(rt; [in_utc(leap_evening()), in_utc(late)] == wanted);
+    [in_utc(leap_evening()), in_utc(late)] == wanted
 }
 
 type Shown = (Parts, UtcOffset);
@@ -53,21 +52,23 @@ fn changed(value: OffsetDateTime, west: UtcOffset) -> Option<([Shown; 2], [Shown
     ))
 }
 
-#[test]
-fn shows_and_replaces(rt: HostRuntime) {
-    let west = offset_of(-1, 0, 0);
+fn shows_and_replaces(west: UtcOffset) -> bool {
     let elsewhere = [((LEAP_DAY, (17, 29, 58, 123_456_789)), west); 2];
     let replaced = [((LEAP_DAY, EVENING), west), (FIRST, east())];
-    assert!(rt; changed(leap_evening(), west) == Some((elsewhere, replaced)));
+    changed(leap_evening(), west) == Some((elsewhere, replaced))
+}
+
+#[test]
+fn shows_elsewhere(rt: HostRuntime) {
+    let late = moment_of(date_of(9999, Month::December, 31), (23, 59, 59), -1);
+    assert!(rt; shows_in_utc(late) && shows_and_replaces(offset_of(-1, 0, 0)));
 }
 
 // Half past midnight of a new year in UTC, and an hour after, are one instant by each call.
-#[test]
-fn compares_instants(rt: HostRuntime) {
+fn compares_instants() -> bool {
     let utc = moment_of(date_of(2021, Month::January, 1), (0, 30, 0), 0);
     let same = moment_of(date_of(2020, Month::December, 31), (23, 30, 0), -1);
-    let compared = (utc == same, utc.cmp(&same), hash_of(utc) == hash_of(same));
-    assert!(rt; compared == (true, Ordering::Equal, true));
+    utc == same && utc.cmp(&same) == Ordering::Equal && hash_of(utc) == hash_of(same)
 }
 
 // The moment in UTC in two types and as one of its own, its seconds, and the moment at its own offset.
@@ -90,14 +91,16 @@ fn without_utc(value: OffsetDateTime) -> WithoutUtc {
 }
 
 // Moments whose UTC days lie beyond both ends of the calendar.
+fn need_no_utc_date(first: OffsetDateTime, last: OffsetDateTime) -> bool {
+    without_utc(first) == (None, None, None, -31_619_087_600_400, Some(first))
+        && without_utc(last) == (None, None, None, 31_494_784_784_399, Some(last))
+        && first < OffsetDateTime::new_utc(Date::MIN, Time::MIDNIGHT)
+        && first < last
+}
+
 #[test]
-fn needs_no_utc_date(rt: HostRuntime) {
+fn compares_and_needs_no_utc_date(rt: HostRuntime) {
     let first = moment_of(Date::MIN, (0, 0, 0), 1);
     let last = moment_of(Date::MAX, (23, 59, 59), -1);
-    let wanted = [
-        (None, None, None, -31_619_087_600_400, Some(first)),
-        (None, None, None, 31_494_784_784_399, Some(last)),
-    ];
-    assert!(rt; [without_utc(first), without_utc(last)] == wanted);
-    assert!(rt; first < OffsetDateTime::new_utc(Date::MIN, Time::MIDNIGHT) && first < last);
+    assert!(rt; compares_instants() && need_no_utc_date(first, last));
 }

@@ -1,5 +1,5 @@
 //! Every type of date-time moved by durations.
-use crate::each_type::evenings;
+use crate::each_type::{Evenings, evenings};
 use crate::rows::{date_of, east, leap_day};
 use calendar::{Month, SignedDuration};
 use datetime::{OffsetDateTime, PlainDateTime, Timestamp, UtcDateTime, laws};
@@ -131,144 +131,130 @@ fn moment_earlier_by_std(value: OffsetDateTime) -> Option<[OffsetDateTime; 3]> {
     Some([difference, value - day, earlier])
 }
 
-#[test]
-fn moves_by_a_day(rt: HostRuntime) {
-    let (plain, utc, timestamp, moment) = evenings(leap_day());
-    let later = evenings(date_of(2024, Month::March, 1));
-    let earlier = evenings(date_of(2024, Month::February, 28));
-    assert!(rt;
-        [plain_later(plain), plain_earlier(plain)] == [Some([later.0; 4]), Some([earlier.0; 4])]
-    );
-    assert!(rt; [utc_later(utc), utc_earlier(utc)] == [Some([later.1; 4]), Some([earlier.1; 4])]);
-    assert!(rt;
-        [timestamp_later(timestamp), timestamp_earlier(timestamp)]
-            == [Some([later.2; 4]), Some([earlier.2; 4])]
-    );
-    assert!(rt;
-        [moment_later(moment), moment_earlier(moment)] == [Some([later.3; 4]), Some([earlier.3; 4])]
-    );
-    let apart = [
+fn differences(later: Evenings, (plain, utc, timestamp, moment): Evenings) -> [SignedDuration; 4] {
+    [
         later.0 - plain,
         later.1 - utc,
         later.2 - timestamp,
         later.3 - moment,
-    ];
-    assert!(rt; apart == [DAY; 4]);
+    ]
+}
+
+fn leads_later(evenings: Evenings, later: Evenings) -> bool {
+    plain_later(evenings.0) == Some([later.0; 4])
+        && utc_later(evenings.1) == Some([later.1; 4])
+        && timestamp_later(evenings.2) == Some([later.2; 4])
+        && moment_later(evenings.3) == Some([later.3; 4])
+        && differences(later, evenings) == [DAY; 4]
+}
+
+fn leads_earlier(evenings: Evenings, earlier: Evenings) -> bool {
+    plain_earlier(evenings.0) == Some([earlier.0; 4])
+        && utc_earlier(evenings.1) == Some([earlier.1; 4])
+        && timestamp_earlier(evenings.2) == Some([earlier.2; 4])
+        && moment_earlier(evenings.3) == Some([earlier.3; 4])
+}
+
+fn leads_later_by_std(evenings: Evenings, later: Evenings) -> bool {
+    plain_later_by_std(evenings.0) == Some([later.0; 3])
+        && utc_later_by_std(evenings.1) == Some([later.1; 3])
+        && timestamp_later_by_std(evenings.2) == Some([later.2; 3])
+        && moment_later_by_std(evenings.3) == Some([later.3; 3])
+}
+
+fn leads_earlier_by_std(evenings: Evenings, earlier: Evenings) -> bool {
+    plain_earlier_by_std(evenings.0) == Some([earlier.0; 3])
+        && utc_earlier_by_std(evenings.1) == Some([earlier.1; 3])
+        && timestamp_earlier_by_std(evenings.2) == Some([earlier.2; 3])
+        && moment_earlier_by_std(evenings.3) == Some([earlier.3; 3])
 }
 
 #[test]
-fn moves_by_a_day_of_std(rt: HostRuntime) {
-    let (plain, utc, timestamp, moment) = evenings(leap_day());
+fn moves_by_a_day(rt: HostRuntime) {
+    let evening = evenings(leap_day());
     let later = evenings(date_of(2024, Month::March, 1));
     let earlier = evenings(date_of(2024, Month::February, 28));
-    assert!(rt;
-        [plain_later_by_std(plain), plain_earlier_by_std(plain)]
-            == [Some([later.0; 3]), Some([earlier.0; 3])]
-    );
-    assert!(rt;
-        [utc_later_by_std(utc), utc_earlier_by_std(utc)]
-            == [Some([later.1; 3]), Some([earlier.1; 3])]
-    );
-    assert!(rt;
-        [
-            timestamp_later_by_std(timestamp),
-            timestamp_earlier_by_std(timestamp)
-        ] == [Some([later.2; 3]), Some([earlier.2; 3])]
-    );
-    assert!(rt;
-        [moment_later_by_std(moment), moment_earlier_by_std(moment)]
-            == [Some([later.3; 3]), Some([earlier.3; 3])]
-    );
+    assert!(rt; leads_later(evening, later) && leads_earlier(evening, earlier));
+    assert!(rt; leads_later_by_std(evening, later) && leads_earlier_by_std(evening, earlier));
 }
 
 // Past both ends of the calendar there is nothing for the calls that answer so, and the other calls stop there.
 
-fn plain_ends(
-    first: PlainDateTime,
-    last: PlainDateTime,
-) -> ([Option<PlainDateTime>; 4], [PlainDateTime; 4]) {
+fn ends_plain(first: PlainDateTime, last: PlainDateTime) -> bool {
     let std_step = Duration::from_nanos(1);
-    (
-        [
-            last.checked_add(STEP),
-            last.checked_add_std(std_step),
-            first.checked_sub(STEP),
-            first.checked_sub_std(std_step),
-        ],
-        [
-            last.saturating_add(STEP),
-            first.saturating_add(SignedDuration::MAX),
-            first.saturating_sub(STEP),
-            last.saturating_sub(SignedDuration::MAX),
-        ],
-    )
+    let past = [
+        last.checked_add(STEP),
+        last.checked_add_std(std_step),
+        first.checked_sub(STEP),
+        first.checked_sub_std(std_step),
+    ];
+    let stopped = [
+        last.saturating_add(STEP),
+        first.saturating_add(SignedDuration::MAX),
+        first.saturating_sub(STEP),
+        last.saturating_sub(SignedDuration::MAX),
+    ];
+    past == [None; 4] && stopped == [last, last, first, first]
 }
 
-fn utc_ends(first: UtcDateTime, last: UtcDateTime) -> ([Option<UtcDateTime>; 4], [UtcDateTime; 4]) {
+fn ends_utc(first: UtcDateTime, last: UtcDateTime) -> bool {
     let std_step = Duration::from_nanos(1);
-    (
-        [
-            last.checked_add(STEP),
-            last.checked_add_std(std_step),
-            first.checked_sub(STEP),
-            first.checked_sub_std(std_step),
-        ],
-        [
-            last.saturating_add(STEP),
-            first.saturating_add(SignedDuration::MAX),
-            first.saturating_sub(STEP),
-            last.saturating_sub(SignedDuration::MAX),
-        ],
-    )
+    let past = [
+        last.checked_add(STEP),
+        last.checked_add_std(std_step),
+        first.checked_sub(STEP),
+        first.checked_sub_std(std_step),
+    ];
+    let stopped = [
+        last.saturating_add(STEP),
+        first.saturating_add(SignedDuration::MAX),
+        first.saturating_sub(STEP),
+        last.saturating_sub(SignedDuration::MAX),
+    ];
+    past == [None; 4] && stopped == [last, last, first, first]
 }
 
-fn timestamp_ends(first: Timestamp, last: Timestamp) -> ([Option<Timestamp>; 4], [Timestamp; 4]) {
+fn ends_timestamp(first: Timestamp, last: Timestamp) -> bool {
     let std_step = Duration::from_nanos(1);
-    (
-        [
-            last.checked_add(STEP),
-            last.checked_add_std(std_step),
-            first.checked_sub(STEP),
-            first.checked_sub_std(std_step),
-        ],
-        [
-            last.saturating_add(STEP),
-            first.saturating_add(SignedDuration::MAX),
-            first.saturating_sub(STEP),
-            last.saturating_sub(SignedDuration::MAX),
-        ],
-    )
+    let past = [
+        last.checked_add(STEP),
+        last.checked_add_std(std_step),
+        first.checked_sub(STEP),
+        first.checked_sub_std(std_step),
+    ];
+    let stopped = [
+        last.saturating_add(STEP),
+        first.saturating_add(SignedDuration::MAX),
+        first.saturating_sub(STEP),
+        last.saturating_sub(SignedDuration::MAX),
+    ];
+    past == [None; 4] && stopped == [last, last, first, first]
 }
 
-fn moment_ends(
-    first: OffsetDateTime,
-    last: OffsetDateTime,
-) -> ([Option<OffsetDateTime>; 4], [OffsetDateTime; 4]) {
+fn ends_moment(first: OffsetDateTime, last: OffsetDateTime) -> bool {
     let std_step = Duration::from_nanos(1);
-    (
-        [
-            last.checked_add(STEP),
-            last.checked_add_std(std_step),
-            first.checked_sub(STEP),
-            first.checked_sub_std(std_step),
-        ],
-        [
-            last.saturating_add(STEP),
-            first.saturating_add(SignedDuration::MAX),
-            first.saturating_sub(STEP),
-            last.saturating_sub(SignedDuration::MAX),
-        ],
-    )
+    let past = [
+        last.checked_add(STEP),
+        last.checked_add_std(std_step),
+        first.checked_sub(STEP),
+        first.checked_sub_std(std_step),
+    ];
+    let stopped = [
+        last.saturating_add(STEP),
+        first.saturating_add(SignedDuration::MAX),
+        first.saturating_sub(STEP),
+        last.saturating_sub(SignedDuration::MAX),
+    ];
+    past == [None; 4] && stopped == [last, last, first, first]
 }
 
 #[test]
 fn ends_with_the_calendar(rt: HostRuntime) {
     let [first, last] = laws::ends_of_wall_clocks();
-    assert!(rt; plain_ends(first, last) == ([None; 4], [last, last, first, first]));
-    let (start, end) = (first.as_utc(), last.as_utc());
-    assert!(rt; utc_ends(start, end) == ([None; 4], [end, end, start, start]));
-    let (start, end) = (Timestamp::MIN, Timestamp::MAX);
-    assert!(rt; timestamp_ends(start, end) == ([None; 4], [end, end, start, start]));
-    let (start, end) = (first.assume_offset(east()), last.assume_offset(east()));
-    assert!(rt; moment_ends(start, end) == ([None; 4], [end, end, start, start]));
+    assert!(rt;
+        ends_plain(first, last)
+            && ends_utc(first.as_utc(), last.as_utc())
+            && ends_timestamp(Timestamp::MIN, Timestamp::MAX)
+            && ends_moment(first.assume_offset(east()), last.assume_offset(east()))
+    );
 }

@@ -37,6 +37,5 @@ fn ends() -> [Option<Date>; 4] {
 
 #[test]
 fn refuses_and_ends(rt: HostRuntime) {
-    assert!(rt; all_refused() == REFUSED);
-    assert!(rt; ends() == [None, None, None, Some(Date::MAX)]);
+    assert!(rt; all_refused() == REFUSED && ends() == [None, None, None, Some(Date::MAX)]);
 }

@@ -35,26 +35,17 @@ const LONGEST: &str =
     "-999999-01-01 23:59:59.999999999 -25:59:59|-999999-01-01 23:59:59.999999999 -25:59:59|\
     _-999999-01-01 23:59:59.999999999 -25:59:59_";
 
-fn prints_moments(alloc: Global) -> [bool; 5] {
+fn prints_moments(alloc: Global) -> bool {
     let (plain, utc, _, shown) = evenings(leap_day());
     let time = Time::from_hms_milli(7, 5, 0, 250).unwrap_or(Time::MIDNIGHT);
     let date = date_of(2024, Month::June, 19);
-    let longest = offset_of(-25, -59, -59);
-    [
-        prints(alloc, plain, PLAIN),
-        prints(alloc, utc, UTC),
-        prints(alloc, shown, EAST),
-        prints(
-            alloc,
-            OffsetDateTime::new_in_offset(date, time, east()),
-            MORNING,
-        ),
-        prints(
-            alloc,
-            OffsetDateTime::new_in_offset(Date::MIN, Time::MAX, longest),
-            LONGEST,
-        ),
-    ]
+    let morning = OffsetDateTime::new_in_offset(date, time, east());
+    let longest = OffsetDateTime::new_in_offset(Date::MIN, Time::MAX, offset_of(-25, -59, -59));
+    prints(alloc, plain, PLAIN)
+        && prints(alloc, utc, UTC)
+        && prints(alloc, shown, EAST)
+        && prints(alloc, morning, MORNING)
+        && prints(alloc, longest, LONGEST)
 }
 
 // Seconds and nanoseconds since 1970, as a timestamp is printed.
@@ -97,12 +88,13 @@ static TIMESTAMPS: [(i64, u32, &str); 8] = [
     ),
 ];
 
-#[test]
-fn prints_all_types(rt: HostRuntime) {
-    assert!(rt; prints_moments(rt.alloc()) == [true; 5]);
+fn prints_timestamps(alloc: Global) -> bool {
     for row in &TIMESTAMPS {
-        assert!(rt; prints(rt.alloc(), timestamp_of(row.0, row.1), row.2));
+        if !prints(alloc, timestamp_of(row.0, row.1), row.2) {
+            return false;
+        }
     }
+    true
 }
 
 fn prints_days(alloc: Global) -> [bool; 5] {
@@ -204,8 +196,9 @@ fn prints_refusals(alloc: Global) -> [bool; 4] {
 }
 
 #[test]
-fn prints_members(rt: HostRuntime) {
+fn prints_all_types(rt: HostRuntime) {
     let alloc = rt.alloc();
+    assert!(rt; prints_moments(alloc) && prints_timestamps(alloc));
     assert!(rt; prints_days(alloc) == [true; 5] && prints_refusals(alloc) == [true; 4]);
     assert!(rt; prints_times_and_durations(alloc) == [true; 6]);
 }

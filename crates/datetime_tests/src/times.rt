@@ -51,11 +51,6 @@ static PARTS: Parts = (
     ),
 );
 
-#[test]
-fn tells_parts_and_orders(rt: HostRuntime) {
-    assert!(rt; parts(sample()) == PARTS && sample() < Time::MAX);
-}
-
 // The nanosecond of the day of an answer: that of no time for a refusal.
 fn answered(answer: Result<Time, ComponentRange>) -> u64 {
     match answer {
@@ -121,9 +116,9 @@ static CUT: [u64; 7] = [
 ];
 
 #[test]
-fn makes_and_cuts(rt: HostRuntime) {
-    assert!(rt; made() == MADE);
-    assert!(rt; cut() == CUT);
+fn tells_makes_and_cuts(rt: HostRuntime) {
+    let sample = sample();
+    assert!(rt; parts(sample) == PARTS && sample < Time::MAX && made() == MADE && cut() == CUT);
 }
 
 // Moved by an hour, and a day, where the last one is the sample's. Then the seconds between both, on and back, and over
@@ -150,25 +145,20 @@ fn moved() -> ([Time; 5], [i64; 4]) {
     )
 }
 
-#[test]
-fn goes_round_the_clock(rt: HostRuntime) {
-    let (sample, later) = (sample(), Time::from_seconds_nanoseconds(1250, 123_456_789));
+fn goes_round_the_clock(sample: Time, later: Time) -> bool {
     let seconds = [3600, 3600, 82_800, -82_800];
-    assert!(rt; moved() == ([later, later, sample, sample, sample], seconds));
+    moved() == ([later, later, sample, sample, sample], seconds)
+}
+
+fn moves_over_midnight(first: Time, last: Time) -> bool {
+    last.adjusting_add(SignedDuration::NANOSECOND) == (DateAdjustment::Next, first)
+        && first.adjusting_sub(SignedDuration::NANOSECOND) == (DateAdjustment::Previous, last)
 }
 
 #[test]
-fn moves_over_midnight(rt: HostRuntime) {
-    let (first, last) = (Time::MIDNIGHT, Time::MAX);
-    let adjusted = [
-        last.adjusting_add(SignedDuration::NANOSECOND),
-        first.adjusting_sub(SignedDuration::NANOSECOND),
-    ];
+fn moves(rt: HostRuntime) {
+    let later = Time::from_seconds_nanoseconds(1250, 123_456_789);
     assert!(rt;
-        adjusted
-            == [
-                (DateAdjustment::Next, first),
-                (DateAdjustment::Previous, last)
-            ]
+        goes_round_the_clock(sample(), later) && moves_over_midnight(Time::MIDNIGHT, Time::MAX)
     );
 }

@@ -25,15 +25,11 @@ fn counted_by_a_copy() -> Option<usize> {
     Some(three_days().clone().ok()?.count())
 }
 
-#[test]
-fn walks_days(rt: HostRuntime) {
-    let before = Some(date_of(2024, Month::February, 28));
-    let leap = Some(date_of(2024, Month::February, 29));
-    let after = Some(date_of(2024, Month::March, 1));
-    assert!(rt; walked() == [leap, after, None, after, before, after, before]);
-    let days = three_days();
-    let counts = (days.len(), days.size_hint(), counted_by_a_copy());
-    assert!(rt; counts == (3, (3, Some(3)), Some(3)) && days.is_sorted());
+fn counts_days(days: DateIter) -> bool {
+    days.len() == 3
+        && days.size_hint() == (3, Some(3))
+        && counted_by_a_copy() == Some(3)
+        && days.is_sorted()
 }
 
 // The Julian days of the next such weekday and of the `n`th later one, as both calls say.
@@ -79,11 +75,22 @@ static FOUND: [(Weekday, u8, Found, Found); 3] = [
     (Weekday::Friday, 0, None, None),
 ];
 
-#[test]
-fn finds_weekdays(rt: HostRuntime) {
-    let epoch = Date::UNIX_EPOCH;
+fn finds_weekdays(epoch: Date) -> bool {
     for row in &FOUND {
-        assert!(rt; found_later(epoch, row.0, row.1) == row.2);
-        assert!(rt; found_earlier(epoch, row.0, row.1) == row.3);
+        if found_later(epoch, row.0, row.1) != row.2
+            || found_earlier(epoch, row.0, row.1) != row.3
+        {
+            return false;
+        }
     }
+    true
+}
+
+#[test]
+fn walks_and_finds(rt: HostRuntime) {
+    let before = Some(date_of(2024, Month::February, 28));
+    let leap = Some(date_of(2024, Month::February, 29));
+    let after = Some(date_of(2024, Month::March, 1));
+    assert!(rt; walked() == [leap, after, None, after, before, after, before]);
+    assert!(rt; counts_days(three_days()) && finds_weekdays(Date::UNIX_EPOCH));
 }

@@ -1,5 +1,5 @@
 -- Bytes that begin in no form of a list, by their first byte.
-use Rattle.std.proofs.Common.{◌≡◌, ◌∙◌, ℕ, suc, ◌+◌, ◌<◌, ◌==◌, true, false, List, [], ◌∷◌, length, take, drop, get_or, if◌then◌else◌, sym, ap, refl, arith}
+use Rattle.std.proofs.Common.{◌≡◌, ◌∙◌, ℕ, suc, ◌+◌, ◌<◌, ◌≤◌, ◌==◌, Bool, true, false, List, [], ◌∷◌, length, take, drop, get_or, if◌then◌else◌, sym, ap, refl, arith}
 use Rattle.std.specs.List.{prefix_len}
 use Rattle.std.proofs.lemmas.List.{get_or-drop}
 use Rattle.std.specs.Prelude.{codes}
@@ -7,6 +7,7 @@ use Rattle.std.specs.Char.{is_ascii_alphabetic, is_ascii_digit, is_ascii_lowerca
 use Rattle.std.proofs.Math.Bool.{and-false}
 use Rattle.std.proofs.lemmas.Bool.Decides.{nat_tests}
 use Rattle.instants_edges.specs.Edge.{is_sign}
+use Rattle.instants_edges.specs.Beside.{is_offset}
 use Rattle.instants_edges.specs.Words.{fits, begin_so, begun, word, signs, names_of_utc, halves, clocks}
 
 -- a form is no longer than what begins in it
@@ -39,6 +40,18 @@ pub no_utc_inside : (bytes : List ℕ) → IsNo 117 bytes → IsNo 103 bytes →
 unfolding word begin_so
 no_utc_inside [] u g z = refl
 no_utc_inside (byte ∷ bytes) u g z = rw (u, g, z) refl
+
+-- a digit begins no offset inside of a date, nor does a point, a slash or a colon
+pub no_offset : (is_other : Bool) (line : List ℕ) (place : ℕ) → 46 ≤ get_or line place 0 → get_or line place 0 ≤ 58 → is_offset is_other line place ≡ false
+no_offset is_other line place low high =
+    let first : ℕ = get_or (drop place line) 0 0 in
+    let at : first ≡ get_or line place 0 = get_or-drop place line 0 0 ∙ ap (λ i. get_or line i 0) (omega arith) in
+    let sign : is_sign (get_or line place 0) ≡ false = grind (arith, nat_tests, low, high) in
+    let small : to_ascii_lowercase first ≡ first = grind (arith, nat_tests, low, high, at) in
+    let u : IsNo 117 (drop place line) = rw small (grind (arith, nat_tests, high, at)) in
+    let g : IsNo 103 (drop place line) = rw small (grind (arith, nat_tests, high, at)) in
+    let z : IsNo 122 (drop place line) = rw small (grind (arith, nat_tests, high, at)) in
+    rw (sign, no_utc_inside (drop place line) u g z) (and-false is_other)
 
 pub no_half : (bytes : List ℕ) → IsNo 97 bytes → IsNo 112 bytes → word halves bytes ≡ 0
 unfolding word begin_so

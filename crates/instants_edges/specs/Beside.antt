@@ -109,11 +109,14 @@ is_signed_year line place =
 abbrev pub is_utc : List ℕ → ℕ → Bool
 is_utc line place = not (word (codes "utc" ∷ codes "gmt" ∷ codes "z" ∷ []) (drop place line) == 0) && is_edge line place
 
--- the line says another offset after a date that is read from a place up to another, or there is one inside of what is read, or UTC is named there
+-- here stands an offset inside of what is read, or UTC is named where that is another one
+abbrev pub is_offset : Bool → List ℕ → ℕ → Bool
+is_offset is_other line place = is_signed_year line place || (is_other && is_utc line place)
+
+-- the line says another offset after a date that is read from a place up to another, or inside of what is read
 unfoldable pub has_another_offset : List ℕ → ℕ → ℕ → ℤ → Bool
 has_another_offset line start ends given =
-    option_map_or (λ said. not (int_eq said given)) (offset_after (after line ends)) false || is_any (is_signed_year line) start ends ||
-    (not (int_eq given (pos 0)) && is_any (is_utc line) start ends)
+    option_map_or (λ said. not (int_eq said given)) (offset_after (after line ends)) false || is_any (is_offset (not (int_eq given (pos 0))) line) start ends
 
 -- ---- a time of day
 

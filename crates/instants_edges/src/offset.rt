@@ -176,26 +176,27 @@ fn is_utc(line: &[u8], place: usize) -> bool
         && is_edge(line, place)
 }
 
-// Whether a sign and four digits do at a place from one up to another.
-#[tactic(auto, using(crate::proofs::Anywhere::any_more, crate::proofs::Anywhere::any_none))]
-fn has_signed_year(line: &[u8], start: usize, ends: usize) -> bool
-    ensures { result ≡ Beside.is_any (Beside.is_signed_year line.now) start ends }
+// Whether an offset is said at a place inside of what is read: by a sign and four digits, or, where that is another one, by a name
+// of UTC. The digits of a date begin neither, nor do the marks between them but a hyphen.
+#[inline(always)]
+#[tactic(auto, using(crate::proofs::FirstBytes::no_offset))]
+fn says_offset(line: &[u8], place: usize, is_other: bool) -> bool
+    ensures { result ≡ Beside.is_offset is_other line.now place }
 {
-    for place in start..ends {
-        if is_signed_year(line, place) {
-            return true;
-        }
+    let first = byte_at(line, place);
+    if first >= b'.' && first <= b':' {
+        return false;
     }
-    false
+    is_signed_year(line, place) || (is_other && is_utc(line, place))
 }
 
-// Whether UTC is named at one of them.
+// Whether one is at a place from one up to another.
 #[tactic(auto, using(crate::proofs::Anywhere::any_more, crate::proofs::Anywhere::any_none))]
-fn has_utc(line: &[u8], start: usize, ends: usize) -> bool
-    ensures { result ≡ Beside.is_any (Beside.is_utc line.now) start ends }
+fn has_offset_inside(line: &[u8], start: usize, ends: usize, is_other: bool) -> bool
+    ensures { result ≡ Beside.is_any (Beside.is_offset is_other line.now) start ends }
 {
     for place in start..ends {
-        if is_utc(line, place) {
+        if says_offset(line, place, is_other) {
             return true;
         }
     }
@@ -210,6 +211,5 @@ pub fn has_another_offset(line: &[u8], start: usize, ends: usize, given: UtcOffs
     ensures { result ≡ Beside.has_another_offset line.now start ends given }
 {
     matches!(offset_after(after(line, ends)), Some(said) if said != given.whole_seconds())
-        || has_signed_year(line, start, ends)
-        || (given.whole_seconds() != 0 && has_utc(line, start, ends))
+        || has_offset_inside(line, start, ends, given.whole_seconds() != 0)
 }

@@ -5,3 +5,4 @@ pub mod FoundLemmas
 pub mod ColumnLemmas
 pub mod PlainLemmas
 pub mod LawLemmas
+pub mod PlainRuns

@@ -9,7 +9,7 @@ use Rattle.instants_fields.specs.Laws.{IsPlain}
 use Rattle.instants_fields.specs.declared.string.Character.TheVariants.{Plain}
 use Rattle.instants_fields.proofs.Turns.{one_turn, if_below}
 
-plain_character : (c : ℕ) (rest : List ℕ) → IsPlain c → character (c ∷ rest) ≡ Some (Some (Plain c), rest)
+pub plain_character : (c : ℕ) (rest : List ℕ) → IsPlain c → character (c ∷ rest) ≡ Some (Some (Plain c), rest)
 unfolding character
 plain_character c rest h =
     let a : (c == 34) ≡ false = grind (arith, nat_tests, h.no_mark) in

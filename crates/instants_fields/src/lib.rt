@@ -4,6 +4,7 @@
 mod columns;
 mod json;
 pub mod laws;
+mod plain;
 mod space;
 mod string;
 mod value;

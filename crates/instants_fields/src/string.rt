@@ -5,6 +5,8 @@ ghost use Rattle.instants_fields.specs.Pieces as Pieces;
 ghost use Rattle.instants_fields.specs.Strings as Strings;
 ghost use Rattle.instants_fields.specs.Compared as Compared;
 
+use crate::plain::after_plain;
+
 // A character of a string: a byte as it stands, or the number that an escape names.
 #[derive(Clone, Copy)]
 pub(crate) enum Character {
@@ -92,13 +94,13 @@ pub(crate) fn after_string(text: &[u8]) -> Option<&[u8]>
     ensures cut { Pieces.rest_view result ≡ Pieces.rest_of (Strings.string text.now) }
     ensures shorter { IfSome result (λ rest. length rest.now < length text.now) }
 {
-    let mut left = text;
+    let mut left = after_plain(text);
     loop {
         let (one, rest) = next_character(left)?;
         if one.is_none() {
             return Some(rest);
         }
-        left = rest;
+        left = after_plain(rest);
     }
 }
 

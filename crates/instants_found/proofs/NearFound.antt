@@ -24,7 +24,7 @@ near_found limit given sources line rest far = ap (found_in limit given sources)
 -- ---- where the date that is found lies
 
 -- a date that is found is the longest one, and stands whole
-there_is : (place : ℕ) (one : Candidate) (date : Found) (b : Bool) → There date ≡ (if b then There one.date else Doubtful place) → one.date ≡ date
+pub there_is : (place : ℕ) (one : Candidate) (date : Found) (b : Bool) → There date ≡ (if b then There one.date else Doubtful place) → one.date ≡ date
 there_is place one date true e = cc
 there_is place one date false e = absurd cc
 

@@ -30,15 +30,15 @@ chosen_within bytes prefix first second true false within = record { begins = wi
 chosen_within bytes prefix first second false true within = record { begins = within.begins; ends = within.ends; zone = within.zone; all = within.all }
 chosen_within bytes prefix first second false false within = within
 
-moments_within : (bytes : List ℕ) (zone : Zone) (line : List ℕ) (ends : ℕ) (prefix : Prefix) (moments : Moments) → IsWithin bytes prefix → IsWithin bytes (by_moments zone line ends prefix moments).prefix
-moments_within bytes zone line ends prefix Skipped within = within
-moments_within bytes zone line ends prefix (One moment) within = record { begins = within.begins; ends = within.ends; zone = within.zone; all = within.all }
-moments_within bytes zone line ends prefix (Repeated first second) within = chosen_within bytes prefix first second _ _ within
-moments_within bytes zone line ends prefix (Several first second third) within = within
+moments_within : (bytes : List ℕ) (zone : Zone) (line : List ℕ) (start : ℕ) (prefix : Prefix) (moments : Moments) → IsWithin bytes prefix → IsWithin bytes (by_moments zone line start prefix moments).prefix
+moments_within bytes zone line start prefix Skipped within = within
+moments_within bytes zone line start prefix (One moment) within = record { begins = within.begins; ends = within.ends; zone = within.zone; all = within.all }
+moments_within bytes zone line start prefix (Repeated first second) within = chosen_within bytes prefix first second _ _ within
+moments_within bytes zone line start prefix (Several first second third) within = within
 
 pub settled_within : (bytes : List ℕ) (zone : Option (Bor Zone)) (offset : Option ℤ) (takes : Bool) (line : List ℕ) (start : ℕ) (prefix : Prefix) → IsWithin bytes prefix → IsWithin bytes (settled_by zone offset takes line start prefix).prefix
 settled_within bytes None offset takes line start prefix within = within
-settled_within bytes (Some zone) offset true line start prefix within = moments_within bytes zone.now line (start + prefix.ends) prefix (moments_of zone.now.first zone.now.steps.items (reading prefix.moment)) within
+settled_within bytes (Some zone) offset true line start prefix within = moments_within bytes zone.now line start prefix (moments_of zone.now.first zone.now.steps.items (reading prefix.moment)) within
 settled_within bytes (Some zone) offset false line start prefix within = within
 
 -- an offset of a zone's clock is one of the calendar
@@ -62,26 +62,26 @@ both_shown zone prefix passed m n found p f is = let at = (shown_by zone prefix 
 -- ---- the moment of a date
 
 abbrev AtTheMoment : Zone → List ℕ → ℕ → Prefix → Settled → Type 0
-AtTheMoment zone line ends prefix date = (moment : ℤ) × (date.prefix ≡ at_offset prefix (reading prefix.moment -ℤ moment)) × IsTheMoment zone line ends prefix moment
+AtTheMoment zone line start prefix date = (moment : ℤ) × (date.prefix ≡ at_offset prefix (reading prefix.moment -ℤ moment)) × IsTheMoment zone line start prefix moment
 
-chosen_moment : (zone : Zone) (line : List ℕ) (ends : ℕ) (prefix : Prefix) (m n : ℤ) (one other : Bool) → is_said zone line ends m ≡ one → is_said zone line ends n ≡ other
-    → AreTheMoments zone.first zone.steps.items (reading prefix.moment) (Repeated m n) → (chosen prefix m n one other).doubt ≡ None → AtTheMoment zone line ends prefix (chosen prefix m n one other)
-chosen_moment zone line ends prefix m n true false e f h none =
-    (m, refl, record { shown = h.0.0; others = λ t s. elim (h.1 t s) [ inl same ↦ inl same | inr same ↦ inr (ap (is_said zone line ends) same ∙ f) ] })
-chosen_moment zone line ends prefix m n false true e f h none =
-    (n, refl, record { shown = h.0.1; others = λ t s. elim (h.1 t s) [ inl same ↦ inr (ap (is_said zone line ends) same ∙ e) | inr same ↦ inl same ] })
-chosen_moment zone line ends prefix m n true true e f h none = absurd cc
-chosen_moment zone line ends prefix m n false false e f h none = absurd cc
+chosen_moment : (zone : Zone) (line : List ℕ) (start : ℕ) (prefix : Prefix) (m n : ℤ) (one other : Bool) → is_said zone line start (start + prefix.ends) m ≡ one → is_said zone line start (start + prefix.ends) n ≡ other
+    → AreTheMoments zone.first zone.steps.items (reading prefix.moment) (Repeated m n) → (chosen prefix m n one other).doubt ≡ None → AtTheMoment zone line start prefix (chosen prefix m n one other)
+chosen_moment zone line start prefix m n true false e f h none =
+    (m, refl, record { shown = h.0.0; others = λ t s. elim (h.1 t s) [ inl same ↦ inl same | inr same ↦ inr (ap (is_said zone line start (start + prefix.ends)) same ∙ f) ] })
+chosen_moment zone line start prefix m n false true e f h none =
+    (n, refl, record { shown = h.0.1; others = λ t s. elim (h.1 t s) [ inl same ↦ inr (ap (is_said zone line start (start + prefix.ends)) same ∙ e) | inr same ↦ inl same ] })
+chosen_moment zone line start prefix m n true true e f h none = absurd cc
+chosen_moment zone line start prefix m n false false e f h none = absurd cc
 
-the_moment : (zone : Zone) (line : List ℕ) (ends : ℕ) (prefix : Prefix) (moments : Moments) → AreTheMoments zone.first zone.steps.items (reading prefix.moment) moments
-    → (by_moments zone line ends prefix moments).doubt ≡ None → AtTheMoment zone line ends prefix (by_moments zone line ends prefix moments)
-the_moment zone line ends prefix Skipped h none = absurd cc
-the_moment zone line ends prefix (One m) h none = (m, refl, record { shown = h.0; others = λ t s. inl (h.1 t s) })
-the_moment zone line ends prefix (Repeated m n) h none = chosen_moment zone line ends prefix m n _ _ refl refl h none
-the_moment zone line ends prefix (Several m n o) h none = absurd cc
+the_moment : (zone : Zone) (line : List ℕ) (start : ℕ) (prefix : Prefix) (moments : Moments) → AreTheMoments zone.first zone.steps.items (reading prefix.moment) moments
+    → (by_moments zone line start prefix moments).doubt ≡ None → AtTheMoment zone line start prefix (by_moments zone line start prefix moments)
+the_moment zone line start prefix Skipped h none = absurd cc
+the_moment zone line start prefix (One m) h none = (m, refl, record { shown = h.0; others = λ t s. inl (h.1 t s) })
+the_moment zone line start prefix (Repeated m n) h none = chosen_moment zone line start prefix m n _ _ refl refl h none
+the_moment zone line start prefix (Several m n o) h none = absurd cc
 
 pub each_at_the_moment : EachIsAtTheMoment
-each_at_the_moment zone line ends prefix none = the_moment zone line ends prefix _ (answer_is zone.first zone.steps.items (reading prefix.moment)) none
+each_at_the_moment zone line start prefix none = the_moment zone line start prefix _ (answer_is zone.first zone.steps.items (reading prefix.moment)) none
 
 -- ---- what the clock of fields shows
 

@@ -1,4 +1,5 @@
 pub mod Zoned
+pub mod KeptDays
 pub mod Beside
 pub mod Candidate
 pub mod Found

@@ -12,7 +12,8 @@ use Rattle.zones_clock.specs.AllMoments.{moments_of}
 use Rattle.zones_clock.specs.Steps.{offset_at, name_place_at, name_in, is_name}
 use Rattle.datetime_wall.specs.Wall.{Shown, second_nanos}
 use Rattle.parsing_components.specs.declared.fields.Record.{Record}
-use Rattle.instants_edges.specs.Beside.{after, offset_after, word_after}
+use Rattle.instants_edges.specs.Beside.{after, is_any, offset_after, word_after}
+use Rattle.instants_edges.specs.Edge.{is_edge}
 use Rattle.instants_prefixes.specs.Given.{lacks_offset}
 use Rattle.instants_prefixes.specs.declared.given.Given.{Given}
 use Rattle.instants_prefixes.specs.declared.prefix.Prefix.{Prefix}
@@ -42,9 +43,14 @@ has_offset zone said moment = option_map_or (λ offset. int_eq offset (offset_at
 abbrev pub has_name : Zone → List ℕ → ℤ → Bool
 has_name zone word moment = not (is_name zone.letters.items word) || bytes_eq (name_in zone.letters.items (name_place_at zone.first_name zone.steps.items moment)) word
 
--- both are so that a line says after a date
-abbrev pub is_said : Zone → List ℕ → ℕ → ℤ → Bool
-is_said zone line ends moment = has_name zone (word_after line ends) moment && has_offset zone (offset_after (after line ends)) moment
+-- another abbreviation of the zone than the clock has at a moment stands at a place, where a word may begin
+abbrev pub has_other_name : Zone → List ℕ → ℤ → ℕ → Bool
+has_other_name zone line moment place = is_edge line place && not (has_name zone (word_after line place) moment)
+
+-- inside of what is read and after it the line has no other abbreviation of the zone, and the offset that it says after it is the clock's
+abbrev pub is_said : Zone → List ℕ → ℕ → ℕ → ℤ → Bool
+is_said zone line start ends moment =
+    not (is_any (has_other_name zone line moment) start ends) && has_name zone (word_after line ends) moment && has_offset zone (offset_after (after line ends)) moment
 
 -- ---- which moment it is
 
@@ -73,10 +79,10 @@ chosen prefix first second false false = nowhere prefix doubt.AnotherOffset
 
 -- the date by the moments at which the zone's clock shows it: the only one, or the one that the line says; that the clock has another abbreviation there, or that there is no such moment, is a doubt. What offset the line says of an only moment is looked at as for one that is assumed
 abbrev pub by_moments : Zone → List ℕ → ℕ → Prefix → Moments → Settled
-by_moments zone line ends prefix Skipped = nowhere prefix doubt.Skipped
-by_moments zone line ends prefix (One moment) = at_moment prefix moment (if has_name zone (word_after line ends) moment then None else Some doubt.AnotherOffset)
-by_moments zone line ends prefix (Repeated first second) = chosen prefix first second (is_said zone line ends first) (is_said zone line ends second)
-by_moments zone line ends prefix (Several first second third) = nowhere prefix doubt.Repeated
+by_moments zone line start prefix Skipped = nowhere prefix doubt.Skipped
+by_moments zone line start prefix (One moment) = at_moment prefix moment (if has_name zone (word_after line (start + prefix.ends)) moment then None else Some doubt.AnotherOffset)
+by_moments zone line start prefix (Repeated first second) = chosen prefix first second (is_said zone line start (start + prefix.ends) first) (is_said zone line start (start + prefix.ends) second)
+by_moments zone line start prefix (Several first second third) = nowhere prefix doubt.Repeated
 
 -- a date that no zone moves
 abbrev pub unmoved : Option ℤ → Prefix → Settled
@@ -86,7 +92,7 @@ unmoved offset prefix = record { prefix = prefix; offset = offset; doubt = None 
 abbrev pub settled_by : Option (Bor Zone) → Option ℤ → Bool → List ℕ → ℕ → Prefix → Settled
 settled_by None offset takes line start prefix = unmoved offset prefix
 settled_by (Some zone) offset takes line start prefix =
-    if takes then by_moments zone.now line (start + prefix.ends) prefix (moments_of zone.now.first zone.now.steps.items (reading prefix.moment)) else unmoved offset prefix
+    if takes then by_moments zone.now line start prefix (moments_of zone.now.first zone.now.steps.items (reading prefix.moment)) else unmoved offset prefix
 
 -- the date that was read at a place of a line, the offset that is assumed for it, and its doubt
 abbrev pub settled : Given → Record → List ℕ → ℕ → Prefix → Settled
@@ -95,12 +101,12 @@ settled given read line start prefix = settled_by given.zone given.offset (takes
 -- ---- what follows
 
 -- at a moment the zone's clock shows a date, and of each other such moment the line does not say what the clock has there
-pub record IsTheMoment (zone : Zone) (line : List ℕ) (ends : ℕ) (prefix : Prefix) (moment : ℤ) : Type 0 where
+pub record IsTheMoment (zone : Zone) (line : List ℕ) (start : ℕ) (prefix : Prefix) (moment : ℤ) : Type 0 where
   pub shown : ShowsAt zone prefix moment
-  pub others : (other : ℤ) → ShowsAt zone prefix other → (other ≡ moment) ⊎ (is_said zone line ends other ≡ false)
+  pub others : (other : ℤ) → ShowsAt zone prefix other → (other ≡ moment) ⊎ (is_said zone line start (start + prefix.ends) other ≡ false)
 
 -- a date on a zone's clock that is not in doubt is at such a moment
 abbrev pub EachIsAtTheMoment : Type 0
-EachIsAtTheMoment = (zone : Zone) (line : List ℕ) (ends : ℕ) (prefix : Prefix)
-    → (by_moments zone line ends prefix (moments_of zone.first zone.steps.items (reading prefix.moment))).doubt ≡ None
-    → (moment : ℤ) × ((by_moments zone line ends prefix (moments_of zone.first zone.steps.items (reading prefix.moment))).prefix ≡ at_offset prefix (reading prefix.moment -ℤ moment)) × IsTheMoment zone line ends prefix moment
+EachIsAtTheMoment = (zone : Zone) (line : List ℕ) (start : ℕ) (prefix : Prefix)
+    → (by_moments zone line start prefix (moments_of zone.first zone.steps.items (reading prefix.moment))).doubt ≡ None
+    → (moment : ℤ) × ((by_moments zone line start prefix (moments_of zone.first zone.steps.items (reading prefix.moment))).prefix ≡ at_offset prefix (reading prefix.moment -ℤ moment)) × IsTheMoment zone line start prefix moment

@@ -86,7 +86,7 @@ pub(crate) fn read_candidate(
     if !is_read(source, line, start, &prefix) {
         return None;
     }
-    let date = Settled::of(source, given, line, start, prefix);
+    let date = Settled::alone(source, given, line, start, prefix);
     let doubt = why(source, given, line, start, &date);
     Some(candidate_with(line, start, number, date.prefix, doubt))
 }

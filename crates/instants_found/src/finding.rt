@@ -5,12 +5,14 @@ ghost use Rattle.instants_prefixes.specs.DateSource.{grammar_in};
 ghost use Rattle.instants_prefixes.specs.Given.{nothing};
 ghost use Rattle.instants_found.specs.Candidate.{candidate, longest};
 ghost use Rattle.instants_found.specs.Found.{at_place, finding};
+ghost use Rattle.instants_found.specs.KeptDays.{IsKept};
 ghost use Rattle.instants_found.specs.Starts.{HaveNoPrefix};
 ghost use Rattle.instants_found.specs.declared.found.Finding.TheVariants.{There};
 
 use crate::beside::{after, is_read, joined, why};
 use crate::candidate::{Candidate, candidate_with, found_at, longer, read_candidate};
 use crate::found::{Finding, Found};
+use crate::kept_day::KeptDay;
 use crate::zoned::Settled;
 use instants_edges::is_edge;
 use instants_prefixes::{DateSource, Given, NOTHING, lacks_byte, rules_out};
@@ -87,11 +89,14 @@ fn others_may_read(sources: &[DateSource<'_>], from: usize, bytes: &[u8]) -> boo
 fn by_sources(
     sources: &[DateSource<'_>],
     given: &Given,
+    kept: &mut KeptDay,
     line: &[u8],
     start: usize,
 ) -> Option<Finding>
-    requires { start < length line.now }
-    ensures { result ≡ option_map (finding start)
+    requires within { start < length line.now }
+    requires kept { IsKept given.now.zone kept.old }
+    ensures kept { IsKept given.now.zone kept.new }
+    ensures is { result ≡ option_map (finding start)
         (longest given.now (map grammar_in sources.now) line.now start (length sources.now)) }
 {
     let bytes = after(line, start);
@@ -106,7 +111,7 @@ fn by_sources(
         if !is_read(source, line, start, &prefix) {
             continue;
         }
-        let date = Settled::of(source, given, line, start, prefix);
+        let date = Settled::of(source, given, kept, line, start, prefix);
         let doubt = why(source, given, line, start, &date);
         if others_may_read(sources, number + 1, bytes) {
             let one = candidate_with(line, start, number, date.prefix, doubt);
@@ -187,14 +192,17 @@ pub(crate) fn plain_at(sources: &[DateSource<'_>], line: &[u8], start: usize) ->
 pub(crate) fn at_place(
     sources: &[DateSource<'_>],
     given: &Given,
+    kept: &mut KeptDay,
     line: &[u8],
     start: usize,
 ) -> Option<Finding>
-    requires { start < length line.now }
-    ensures { result ≡ at_place given.now (map grammar_in sources.now) line.now start }
+    requires within { start < length line.now }
+    requires kept { IsKept given.now.zone kept.old }
+    ensures kept { IsKept given.now.zone kept.new }
+    ensures is { result ≡ at_place given.now (map grammar_in sources.now) line.now start }
 {
     if is_edge(line, start) {
-        by_sources(sources, given, line, start)
+        by_sources(sources, given, kept, line, start)
     } else {
         None
     }

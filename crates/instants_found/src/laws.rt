@@ -24,12 +24,16 @@ pub fn longest_date()
         → finding ≡ found limit given sources line }
 {}
 
-/// The date that is found begins and ends within the window after the last place at which a date may begin.
-#[tactic(auto, using(crate::proofs::NearFound::found_near))]
+/// The date that is found begins and ends within the window after the last place at which a date may begin. It has a byte at
+/// least, and ends within the line.
+#[tactic(auto, using(crate::proofs::NearFound::found_near, crate::proofs::NotEmpty::found_not_empty))]
 pub fn lies_near()
-    ensures { (limit : ℕ) (given : Given) (sources : List Grammar) (line : List ℕ) (date : Found)
+    ensures near { (limit : ℕ) (given : Given) (sources : List Grammar) (line : List ℕ) (date : Found)
         → found limit given sources line ≡ Some (There date)
         → (date.start < limit + window) × (date.end < limit + window) }
+    ensures within { (limit : ℕ) (given : Given) (sources : List Grammar) (line : List ℕ)
+        (date : Found) → found limit given sources line ≡ Some (There date)
+        → (date.start < date.end) × (date.end ≤ length line) }
 {}
 
 /// Bytes far after the last place at which a date may begin change nothing in what is found.

@@ -1,27 +1,31 @@
 //! Dates that say no offset, on the clock of a zone.
-ghost use Rattle.std.specs.Prelude.{◌≡◌, ◌<◌, ◌≤◌, ◌+◌, ℕ, List, Some, None, true, drop, length, IfSome, if◌then◌else◌};
+ghost use Rattle.std.specs.Prelude.{◌≡◌, ◌<◌, ◌≤◌, ◌+◌, ◌*◌, ◌+ℤ◌, ◌<ℤ◌, pos, negsuc, ℕ, List, Some, None, true, drop, length, if◌then◌else◌};
 ghost use Rattle.instants_prefixes.specs.DateSource.{grammar_in, IsWithin};
 ghost use Rattle.instants_prefixes.specs.Reading.{record_at};
-ghost use Rattle.instants_edges.specs.Beside.{word_after};
+ghost use Rattle.instants_edges.specs.Beside.{is_any, word_after};
 ghost use Rattle.zones_clock.specs.AllMoments.{moments_of};
 ghost use Rattle.zones_clock.specs.Steps as Steps;
+ghost use Rattle.datetime_wall.specs.Wall.{second_nanos};
 ghost use Rattle.parsing_values.specs.Moment.{moment_of};
+ghost use Rattle.parsing_values.specs.declared.fields.Fields.{Fields};
+ghost use Rattle.instants_found.specs.KeptDays.{IsKept};
 ghost use Rattle.instants_found.specs.Zoned as Zoned;
 ghost use Rattle.instants_found.specs.declared.doubt.Doubt.TheVariants.{AnotherOffset};
 
 use crate::beside::after;
 use crate::doubt::Doubt;
+use crate::kept_day::KeptDay;
 use calendar::UtcOffset;
 use calendar_count::march;
 use calendar_count::range::UNIX_EPOCH;
-use instants_edges::{first_after, offset_said, word_after};
+use instants_edges::{first_after, is_edge, offset_said, word_after};
 use instants_prefixes::{DateSource, Given, Prefix, lacks_offset};
 use instants_sources::Named;
 use parsing_values::Fields;
 use zones_clock::{Moments, Zone};
 
 // The seconds of a day.
-const DAY: i64 = 86_400;
+pub(crate) const DAY: i64 = 86_400;
 
 /// A date that was read, the offset that is assumed for it, and why it has none, if that is so.
 #[derive(Drop)]
@@ -42,58 +46,50 @@ fn takes_offset(source: &DateSource<'_>, bytes: &[u8]) -> bool
     lacks_offset(&read) && read.unix_timestamp_nanos().is_none()
 }
 
-// What the clock of fields shows, in seconds since it showed 1970-01-01T00:00:00.
-#[inline(always)]
-fn reading_of(fields: &Fields) -> i64
-    ensures value { result ≡ Zoned.reading (moment_of fields.now) }
-    ensures bound { Steps.IsReading result }
+/// What a clock shows as the day of fields begins, in seconds since it showed 1970-01-01T00:00:00.
+pub(crate) fn first_reading(fields: &Fields) -> i64
+    ensures value { (f : Fields) → f.fraction < second_nanos
+        → f.year ≡ fields.now.year → f.month ≡ fields.now.month → f.day ≡ fields.now.day
+        → Zoned.reading (moment_of f) ≡ result +ℤ pos (f.minute * 60 + f.second) }
+    ensures bound { (negsuc 999_999_999_909_999 <ℤ result) × (result <ℤ pos 999_999_999_910_000) }
 {
-    // (that a fraction is less than a second is told by its number, which leaves no code)
-    let _ = fields.fraction.nanosecond();
     let year = i32::from(fields.year.number());
     let day = march::count_of_day(year, fields.month, fields.day);
-    let second = u32::from(fields.minute) * 60 + fields.second;
-    (i64::from(day) - i64::from(UNIX_EPOCH)) * DAY + i64::from(second)
+    (i64::from(day) - i64::from(UNIX_EPOCH)) * DAY
 }
 
 // What the clock of a date shows, in seconds since it showed 1970-01-01T00:00:00.
-#[inline(always)]
 fn reading(date: &Named) -> i64
     ensures value { result ≡ Zoned.reading date.now }
     ensures bound { Steps.IsReading result }
 {
-    match date.fields() {
-        Some(fields) => reading_of(fields),
-        None => date
-            .moment()
-            .replace_offset(UtcOffset::UTC)
-            .unix_timestamp(),
-    }
+    date.moment()
+        .replace_offset(UtcOffset::UTC)
+        .unix_timestamp()
 }
 
-// The same date and time at another offset: by its fields, where these are kept and the offset has whole minutes.
+// The same date and time at the offset of a day that is kept.
 #[inline(always)]
 #[tactic(auto, unfolding(parsing_values::specs::Moment::moment_of))]
-fn at_offset(date: &Named, offset: UtcOffset) -> Named
-    ensures { result ≡ record date.now { offset = offset } }
+fn at_kept(date: &Named, kept: &KeptDay) -> Named
+    ensures { result ≡ record date.now { offset = kept.now.offset } }
 {
-    let seconds = offset.whole_seconds();
     match date.fields() {
-        Some(fields) if seconds % 60 == 0 => Named::of_fields(Fields {
+        Some(fields) => Named::of_fields(Fields {
             year: fields.year,
             month: fields.month,
             day: fields.day,
             minute: fields.minute,
-            offset: seconds / 60,
+            offset: kept.minutes,
             second: fields.second,
             fraction: fields.fraction,
         }),
-        _ => Named::of_moment(date.moment().replace_offset(offset)),
+        None => Named::of_moment(date.moment().replace_offset(kept.offset)),
     }
 }
 
-// An offset of a zone's clock, in seconds, as one of the calendar.
-fn calendar_offset(ahead: i32) -> UtcOffset
+/// An offset of a zone's clock, in seconds, as one of the calendar.
+pub(crate) fn calendar_offset(ahead: i32) -> UtcOffset
     requires { Steps.IsOffset ahead }
     ensures { result ≡ ahead }
 {
@@ -126,52 +122,94 @@ fn has_name(zone: &Zone, line: &[u8], ends: usize, moment: i64) -> bool
     !zone.is_name(word) || zone.name_at(moment) == word
 }
 
-// Whether the line says after a date what the clock has at a moment.
-fn is_said(zone: &Zone, line: &[u8], ends: usize, moment: i64) -> bool
-    requires { ends ≤ length line.now }
-    ensures { result ≡ Zoned.is_said zone.now line.now ends moment }
+// Whether another abbreviation of the zone than the clock has at a moment stands at a place, where a word may begin.
+fn has_other_name(zone: &Zone, line: &[u8], place: usize, moment: i64) -> bool
+    requires { place ≤ length line.now }
+    ensures { result ≡ Zoned.has_other_name zone.now line.now moment place }
 {
-    has_name(zone, line, ends, moment) && has_offset(zone, offset_said(line, ends), moment)
+    is_edge(line, place) && !has_name(zone, line, place, moment)
 }
 
-// How far the clock of a zone is ahead of UTC at the only moment at which it shows a date, in the usual case: the source reads no
-// offset, no step is near, and no abbreviation of the zone can stand after the date. `None` says nothing.
-#[inline(never)]
-fn sure_ahead(
+// Whether one stands at a place from one up to another.
+#[tactic(auto, using(instants_edges::proofs::Anywhere::any_more, instants_edges::proofs::Anywhere::any_none))]
+fn has_other_inside(zone: &Zone, line: &[u8], start: usize, ends: usize, moment: i64) -> bool
+    requires { ends ≤ length line.now }
+    ensures { result ≡ is_any (Zoned.has_other_name zone.now line.now moment) start ends }
+{
+    for place in start..ends {
+        if has_other_name(zone, line, place, moment) {
+            return true;
+        }
+    }
+    false
+}
+
+// Whether the line says inside of a date and after it what the clock has at a moment.
+fn is_said(zone: &Zone, line: &[u8], start: usize, ends: usize, moment: i64) -> bool
+    requires { ends ≤ length line.now }
+    ensures { result ≡ Zoned.is_said zone.now line.now start ends moment }
+{
+    !has_other_inside(zone, line, start, ends, moment)
+        && has_name(zone, line, ends, moment)
+        && has_offset(zone, offset_said(line, ends), moment)
+}
+
+// Whether a date is as most on the clock of a zone: its day is kept, the source reads no offset, and no abbreviation of the zone
+// can stand after the date. `false` says nothing.
+#[inline(always)]
+fn is_usual(
     zone: &Zone,
     source: &DateSource<'_>,
+    kept: &KeptDay,
     line: &[u8],
     start: usize,
     prefix: &Prefix,
-) -> Option<i32>
+) -> bool
     requires within { start < length line.now }
     requires ends { start + prefix.now.ends ≤ length line.now }
-    ensures offset { IfSome result Steps.IsOffset }
-    ensures takes { IfSome result (λ ahead.
-        Zoned.takes_offset (record_at (grammar_in source.now) (drop start line.now)) ≡ true) }
-    ensures is { IfSome result (λ ahead. Zoned.ahead_by prefix.now ahead None
-        ≡ Zoned.by_moments zone.now line.now (start + prefix.now.ends) prefix.now
-        (moments_of zone.now.first zone.now.steps.items (Zoned.reading prefix.now.moment))) }
+    requires kept { IsKept (Some zone) kept.now }
+    ensures takes { result ≡ true
+        → Zoned.takes_offset (record_at (grammar_in source.now) (drop start line.now)) ≡ true }
+    ensures is { result ≡ true → Zoned.ahead_by prefix.now kept.now.offset None
+        ≡ Zoned.by_moments zone.now line.now start prefix.now
+        (moments_of zone.now.first zone.now.steps.items (Zoned.reading prefix.now.moment)) }
 {
-    if !source.is_local() || zone.can_begin(first_after(line, start + prefix.ends)) {
-        return None;
+    let Some(fields) = prefix.moment.fields() else {
+        return false;
+    };
+    // (that a fraction is less than a second is told by its number, which leaves no code)
+    let _ = fields.fraction.nanosecond();
+    if !kept.has(fields) || !source.is_local() {
+        return false;
     }
-    zone.sure_offset(reading(&prefix.moment))
+    !zone.can_begin(first_after(line, start + prefix.ends))
 }
 
 impl Settled {
     // A date on a clock that is so many seconds ahead of UTC.
-    #[inline(always)]
     fn ahead_by(prefix: Prefix, ahead: i32, doubt: Option<Doubt>) -> Settled
         requires { Steps.IsOffset ahead }
         ensures { result ≡ Zoned.ahead_by prefix ahead doubt }
     {
         let offset = calendar_offset(ahead);
-        let moment = at_offset(&prefix.moment, offset);
+        let moment = Named::of_moment(prefix.moment.moment().replace_offset(offset));
         Settled {
             prefix: Prefix { moment, ..prefix },
             offset: Some(offset),
             doubt,
+        }
+    }
+
+    // A date whose day is kept.
+    #[inline(always)]
+    fn on_day(kept: &KeptDay, prefix: Prefix) -> Settled
+        ensures { result ≡ Zoned.ahead_by prefix kept.now.offset None }
+    {
+        let moment = at_kept(&prefix.moment, kept);
+        Settled {
+            prefix: Prefix { moment, ..prefix },
+            offset: Some(kept.offset),
+            doubt: None,
         }
     }
 
@@ -215,20 +253,22 @@ impl Settled {
     fn chosen(
         zone: &Zone,
         line: &[u8],
-        ends: usize,
+        start: usize,
         prefix: Prefix,
         first: i64,
         second: i64,
     ) -> Settled
-        requires ends { ends ≤ length line.now }
+        requires ends { start + prefix.ends ≤ length line.now }
         requires first { Zoned.ShowsAt zone.now prefix first }
         requires second { Zoned.ShowsAt zone.now prefix second }
         ensures { result ≡ Zoned.chosen prefix first second
-            (Zoned.is_said zone.now line.now ends first) (Zoned.is_said zone.now line.now ends second) }
+            (Zoned.is_said zone.now line.now start (start + prefix.ends) first)
+            (Zoned.is_said zone.now line.now start (start + prefix.ends) second) }
     {
+        let ends = start + prefix.ends;
         let (is_first, is_second) = (
-            is_said(zone, line, ends, first),
-            is_said(zone, line, ends, second),
+            is_said(zone, line, start, ends, first),
+            is_said(zone, line, start, ends, second),
         );
         match (is_first, is_second) {
             (true, false) => Settled::at(zone, prefix, first, None),
@@ -239,41 +279,48 @@ impl Settled {
     }
 
     // A date that takes an offset, on the clock of a zone.
-    fn on_clock(zone: &Zone, line: &[u8], ends: usize, prefix: Prefix, shown: i64) -> Settled
-        requires ends { ends ≤ length line.now }
+    fn on_clock(zone: &Zone, line: &[u8], start: usize, prefix: Prefix, shown: i64) -> Settled
+        requires ends { start + prefix.ends ≤ length line.now }
         requires shown { shown ≡ Zoned.reading prefix.moment }
         requires bound { Steps.IsReading shown }
-        ensures { result ≡ Zoned.by_moments zone.now line.now ends prefix
+        ensures { result ≡ Zoned.by_moments zone.now line.now start prefix
             (moments_of zone.now.first zone.now.steps.items (Zoned.reading prefix.moment)) }
     {
         match zone.moments(shown) {
-            Moments::One(moment) => Settled::at_only(zone, line, ends, prefix, moment),
+            Moments::One(moment) => {
+                let ends = start + prefix.ends;
+                Settled::at_only(zone, line, ends, prefix, moment)
+            }
             Moments::Repeated(first, second) => {
-                Settled::chosen(zone, line, ends, prefix, first, second)
+                Settled::chosen(zone, line, start, prefix, first, second)
             }
             Moments::Skipped => Settled::nowhere(prefix, Doubt::Skipped),
             Moments::Several(_, _, _) => Settled::nowhere(prefix, Doubt::Repeated),
         }
     }
 
-    // A date on the clock of a zone, where it takes an offset.
+    // A date on the clock of a zone, where it takes an offset: then its day is kept.
     #[inline(never)]
     fn on_zone(
         zone: &Zone,
         source: &DateSource<'_>,
         offset: Option<UtcOffset>,
+        kept: &mut KeptDay,
         line: &[u8],
         start: usize,
         prefix: Prefix,
     ) -> Settled
         requires within { start < length line.now }
         requires ends { start + prefix.ends ≤ length line.now }
-        ensures { result ≡ Zoned.settled_by (Some zone.entry) offset
+        requires kept { IsKept (Some zone) kept.old }
+        ensures kept { IsKept (Some zone.entry) kept.new }
+        ensures is { result ≡ Zoned.settled_by (Some zone.entry) offset
             (Zoned.takes_offset (record_at (grammar_in source.now) (drop start line.now))) line.now start prefix }
     {
         if takes_offset(source, after(line, start)) {
+            kept.keep(zone, &prefix.moment);
             let shown = reading(&prefix.moment);
-            return Settled::on_clock(zone, line, start + prefix.ends, prefix, shown);
+            return Settled::on_clock(zone, line, start, prefix, shown);
         }
         Settled {
             prefix,
@@ -282,9 +329,40 @@ impl Settled {
         }
     }
 
-    /// The date of a prefix that a source reads at a place of a line, with the offset that is assumed for it.
+    /// The date of a prefix that a source reads at a place of a line, with the offset that is assumed for it. On a zone's clock its
+    /// day is kept for the dates after it.
     #[inline(always)]
     pub(crate) fn of(
+        source: &DateSource<'_>,
+        given: &Given,
+        kept: &mut KeptDay,
+        line: &[u8],
+        start: usize,
+        prefix: Prefix,
+    ) -> Settled
+        requires within { start < length line.now }
+        requires ends { start + prefix.ends ≤ length line.now }
+        requires kept { IsKept given.now.zone kept.old }
+        ensures kept { IsKept given.now.zone kept.new }
+        ensures is { result ≡ Zoned.settled given.now
+            (record_at (grammar_in source.now) (drop start line.now)) line.now start prefix }
+        ensures within { (b : List ℕ) → IsWithin b prefix → IsWithin b result.prefix }
+    {
+        let Some(zone) = given.zone else {
+            return Settled {
+                prefix,
+                offset: given.offset,
+                doubt: None,
+            };
+        };
+        if is_usual(zone, source, kept, line, start, &prefix) {
+            return Settled::on_day(kept, prefix);
+        }
+        Settled::on_zone(zone, source, given.offset, kept, line, start, prefix)
+    }
+
+    /// The same, where no day is kept.
+    pub(crate) fn alone(
         source: &DateSource<'_>,
         given: &Given,
         line: &[u8],
@@ -297,16 +375,7 @@ impl Settled {
             (record_at (grammar_in source.now) (drop start line.now)) line.now start prefix }
         ensures within { (b : List ℕ) → IsWithin b prefix → IsWithin b result.prefix }
     {
-        match given.zone {
-            Some(zone) => match sure_ahead(zone, source, line, start, &prefix) {
-                Some(ahead) => Settled::ahead_by(prefix, ahead, None),
-                None => Settled::on_zone(zone, source, given.offset, line, start, prefix),
-            },
-            None => Settled {
-                prefix,
-                offset: given.offset,
-                doubt: None,
-            },
-        }
+        let mut kept = KeptDay::none();
+        Settled::of(source, given, &mut kept, line, start, prefix)
     }
 }

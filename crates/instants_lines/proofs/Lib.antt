@@ -8,6 +8,8 @@ pub mod Keyed
 mod Saying
 pub mod Keys
 pub mod Wholly
+pub mod WhollyAssumed
+pub mod Within
 pub mod States
 pub mod Joined
 pub mod Carried

@@ -132,15 +132,15 @@ clock_none line = refl
 
 -- ---- the date at the first place
 
-module _ (given : Given) (grammar : Grammar) (line : List ℕ) (moment : Shown) (text : text_for grammar line ≡ line) (begun : may_begin grammar line ≡ true) (whole_is : IsWhole given moment (reading_of grammar empty line)) (first : (lengths grammar line []).begins ≡ 0) where
-  abbrev prefix : Prefix
+module _ (given : Given) (grammar : Grammar) (line : List ℕ) (moment : Shown) (text : text_for grammar line ≡ line) (begun : may_begin grammar line ≡ true) (reads : prefix_of given (reading_of grammar empty line) ≡ Some (moment, [])) (first : (lengths grammar line []).begins ≡ 0) where
+  abbrev pub prefix : Prefix
   prefix = with_lengths line moment [] (lengths grammar line [])
 
   prefix_is : prefix_at given grammar line ≡ Some prefix
   unfolding prefix_at prefix_named
   prefix_is =
       ap (λ (bytes : List ℕ). prefix_in grammar bytes (prefix_named given grammar bytes)) text
-      ∙ rw (begun, whole_is.prefix) refl
+      ∙ rw (begun, reads) refl
 
   ends : 0 + prefix.all ≡ trimmed_length line
   ends =
@@ -160,49 +160,65 @@ module _ (given : Given) (grammar : Grammar) (line : List ℕ) (moment : Shown) 
   no_clock : has_clock_before line (0 + prefix.begins) ≡ false
   no_clock = ap (λ (place : ℕ). has_clock_before line place) begins ∙ clock_none line
 
-  -- what was read needs nothing, or is a number of Unix time
-  abbrev its_record : Record
+  abbrev pub its_record : Record
   its_record = record_at grammar (drop 0 line)
 
-  record_is : its_record ≡ record_of (reading_of grammar empty line)
+  pub record_is : its_record ≡ record_of (reading_of grammar empty line)
   unfolding record_at
   record_is = ap (λ (bytes : List ℕ). record_of (reading_of grammar empty bytes)) text
 
+  -- where no zone moves it and the line says nothing otherwise
+  module _ (unmoves : as_candidate given line 0 0 grammar (settled_at given grammar line 0 prefix) ≡ as_candidate given line 0 0 grammar (unmoved given.offset prefix)) (unsaid : None ≡ otherwise given given.offset its_record line 0 prefix) where
+    stands : why given grammar line 0 (unmoved given.offset prefix) ≡ None
+    unfolding why
+    stands = rw (edge, no_clock, sym unsaid) (simp and-false)
+
+    read : is_read grammar line 0 prefix ≡ true
+    read = rw (says, edge) refl
+
+    candidate_is : candidate given line 0 0 grammar ≡ Some (as_candidate given line 0 0 grammar (unmoved given.offset prefix))
+    unfolding candidate
+    candidate_is =
+        ap (of_prefix given line 0 0 grammar) prefix_is
+        ∙ chosen (is_read grammar line 0 prefix) (as_candidate given line 0 0 grammar (settled_at given grammar line 0 prefix)) read
+        ∙ ap Some unmoves
+
+    pub at_first : at_place given (grammar ∷ []) line 0 ≡ Some (There (as_candidate given line 0 0 grammar (unmoved given.offset prefix)).date)
+    unfolding at_place longest
+    at_first = rw (candidate_is, stands) refl
+
+-- ---- what was read needs nothing, or is a number of Unix time
+
+module _ (given : Given) (grammar : Grammar) (line : List ℕ) (moment : Shown) (text : text_for grammar line ≡ line) (begun : may_begin grammar line ≡ true) (whole_is : IsWhole given moment (reading_of grammar empty line)) (first : (lengths grammar line []).begins ≡ 0) where
+  abbrev its_prefix : Prefix
+  its_prefix = prefix given grammar line moment text begun whole_is.prefix first
+
+  abbrev read_record : Record
+  read_record = its_record given grammar line moment text begun whole_is.prefix first
+
+  names_it : moment_named read_record ≡ Ok moment
+  names_it = ap moment_named (record_is given grammar line moment text begun whole_is.prefix first) ∙ whole_is.names_it
+
   -- so no zone moves it
-  takes : takes_offset its_record ≡ false
+  takes : takes_offset read_record ≡ false
   takes =
-      elim its_record.unix_timestamp_nanos as (λ o. its_record.unix_timestamp_nanos ≡ o → takes_offset its_record ≡ false) [
+      elim read_record.unix_timestamp_nanos as (λ o. read_record.unix_timestamp_nanos ≡ o → takes_offset read_record ≡ false) [
         | Some n ↦ λ e. rw e (simp and-false refl)
-        | None ↦ λ e. rw (has_parts its_record moment e (ap moment_named record_is ∙ whole_is.names_it)).offset refl
+        | None ↦ λ e. rw (has_parts read_record moment e names_it).offset refl
       ] refl
 
-  unsaid : None ≡ otherwise given given.offset its_record line 0 prefix
+  unsaid : None ≡ otherwise given given.offset read_record line 0 its_prefix
   unfolding otherwise
   unsaid =
-      elim its_record.unix_timestamp_nanos as (λ o. its_record.unix_timestamp_nanos ≡ o → None ≡ otherwise given given.offset its_record line 0 prefix) [
+      elim read_record.unix_timestamp_nanos as (λ o. read_record.unix_timestamp_nanos ≡ o → None ≡ otherwise given given.offset read_record line 0 its_prefix) [
         | Some n ↦ λ e. rw e refl
         | None ↦ λ e.
-            let has = has_parts its_record moment e (ap moment_named record_is ∙ whole_is.names_it) in
+            let has = has_parts read_record moment e names_it in
             rw (e, has.offset, has.time, has.date) refl
       ] refl
 
-  stands : why given grammar line 0 (unmoved given.offset prefix) ≡ None
-  unfolding why
-  stands = rw (edge, no_clock, sym unsaid) (simp and-false)
-
-  read : is_read grammar line 0 prefix ≡ true
-  read = rw (says, edge) refl
-
-  candidate_is : candidate given line 0 0 grammar ≡ Some (as_candidate given line 0 0 grammar (unmoved given.offset prefix))
-  unfolding candidate
-  candidate_is =
-      ap (of_prefix given line 0 0 grammar) prefix_is
-      ∙ chosen (is_read grammar line 0 prefix) (as_candidate given line 0 0 grammar (settled_at given grammar line 0 prefix)) read
-      ∙ ap Some (unmoved_candidate given line 0 0 grammar prefix takes)
-
-  at_first : at_place given (grammar ∷ []) line 0 ≡ Some (There (as_candidate given line 0 0 grammar (unmoved given.offset prefix)).date)
-  unfolding at_place longest
-  at_first = rw (candidate_is, stands) refl
+  named_first : at_place given (grammar ∷ []) line 0 ≡ Some (There (as_candidate given line 0 0 grammar (unmoved given.offset its_prefix)).date)
+  named_first = at_first given grammar line moment text begun whole_is.prefix first (unmoved_candidate given line 0 0 grammar its_prefix takes) unsaid
 
 -- ---- the date of the line
 
@@ -221,17 +237,26 @@ all_looked_at limit grammar line text =
     let few : length line ≤ length (take 256 line) = rw text at within in
     take_all (limit + 256 + 64) line (omega (arith, few, length-take 256 line))
 
+-- the key of a line at whose first place a date of this moment is found
+pub key_at : (going : Going) (grammar : Grammar) (line : List ℕ) (moment : Shown) (date : Found)
+    → going.search.part ≡ None → going.search.setting.sources ≡ grammar ∷ [] → goes_on going.mode going.indent line ≡ false → named going.search.setting.assumed grammar line ≡ Ok moment → 0 < going.search.limit → 0 < length line
+    → text_for grammar line ≡ line → at_place going.search.given (grammar ∷ []) line 0 ≡ Some (There date) → date.moment ≡ moment
+    → key_of_line going line ≡ answer_to going.search.setting line
+unfolding place_of_date answer_to place_of found
+key_at going grammar line moment date none alone own assumed some long text at is =
+    let search = going.search in
+    let setting = search.setting in
+    let there = ap (found_in search.limit search.given setting.sources) (all_looked_at search.limit grammar line text)
+    ∙ ap (λ (sources : List Grammar). found_in search.limit search.given sources line) alone ∙ found_in_first search.limit search.given (grammar ∷ []) line date some long at in
+    rw (own, none) (ap (key_or setting going.key) there)
+    ∙ ap (λ (m : Shown). place_text (shown_or_refused setting.target (Ok m))) is
+    ∙ ap (λ (n : Result Shown Fault). place_text (shown_or_refused setting.target n)) (sym (alone_named setting grammar line moment alone assumed))
+
 pub key_alone : (going : Going) (grammar : Grammar) (line : List ℕ) (moment : Shown) → AgreeOn rfc3339.direct reads_rfc3339 line → AgreeOn rfc2822.direct reads_rfc2822 line
     → going.search.part ≡ None → going.search.setting.sources ≡ grammar ∷ [] → goes_on going.mode going.indent line ≡ false → named None grammar line ≡ Ok moment → named going.search.setting.assumed grammar line ≡ Ok moment → 0 < going.search.limit → 0 < length line
     → text_for grammar line ≡ line → may_begin grammar line ≡ true → is_likely (record_at grammar line).unix_timestamp_nanos ≡ true → (lengths grammar line []).begins ≡ 0
     → key_of_line going line ≡ answer_to going.search.setting line
-unfolding place_of_date answer_to place_of found record_at
+unfolding record_at
 key_alone going grammar line moment of_rfc3339 of_rfc2822 none alone own e assumed some long text may likely first =
-    let search = going.search in
-    let setting = search.setting in
-    let whole_is = read_whole search.given grammar line moment of_rfc3339 of_rfc2822 e (rw text at likely) in
-    let at = at_first search.given grammar line moment text may whole_is first in
-    let is = ap (found_in search.limit search.given setting.sources) (all_looked_at search.limit grammar line text)
-    ∙ ap (λ (sources : List Grammar). found_in search.limit search.given sources line) alone ∙ found_in_first search.limit search.given (grammar ∷ []) line _ some long at in
-    rw (own, none) (ap (key_or setting going.key) is)
-    ∙ ap (λ (n : Result Shown Fault). place_text (shown_or_refused setting.target n)) (sym (alone_named setting grammar line moment alone assumed))
+    let whole_is = read_whole going.search.given grammar line moment of_rfc3339 of_rfc2822 e (rw text at likely) in
+    key_at going grammar line moment _ none alone own assumed some long text (named_first going.search.given grammar line moment text may whole_is first) refl

@@ -1,6 +1,8 @@
 -- The date of a line, its key, and the line with its date-time in its place.
-use Rattle.std.specs.Prelude.{ℕ, List, ◌++◌, take, drop, codes, Option, None, Some, Result, Ok, Err}
+use Rattle.std.specs.Prelude.{ℕ, Bool, ◌&&◌, List, ◌++◌, take, drop, codes, Option, None, Some, Result, Ok, Err}
+use Rattle.std.specs.Option.{is_none}
 use Rattle.datetime_wall.specs.Wall.{Shown}
+use Rattle.parsing_components.specs.declared.fields.Record.{Record}
 use Rattle.instants_answers.specs.Text.{moment_text}
 use Rattle.instants_prefixes.specs.declared.given.Given.{Given}
 use Rattle.instants_found.specs.Found.{found}
@@ -35,6 +37,10 @@ date_by search line (Some part) = date_at search part line (place_of_part part l
 -- the date of a line, where a source reads one
 abbrev pub date_in : Search → List ℕ → Option Finding
 date_in search line = date_by search line search.part
+
+-- no part of an offset was read
+abbrev pub says_no_offset : Record → Bool
+says_no_offset read = is_none read.offset_hour && (is_none read.offset_minute && is_none read.offset_second)
 
 -- a date's place on the timeline: its moment at the target, or that its year there is not written
 unfoldable pub place_of_date : Setting → Found → Result Shown Refusal

@@ -8,6 +8,7 @@ pub mod Joining
 pub mod Fields
 pub mod Asked
 pub mod Showing
+pub mod KeptDay
 pub mod Writing
 pub mod Wrote
 pub mod ProgramText

@@ -1,10 +1,11 @@
 //! Laws of what is written, each the contract of a function.
-ghost use Rattle.std.specs.Prelude.{◌≡◌, ◌<◌, ◌≤◌, ◌↔◌, ◌+◌, ℕ, true, false, Option, List, [], ◌∷◌, ◌++◌, Some, None, Ok, Err, length, take, drop, map, decimal, IsOk};
+ghost use Rattle.std.specs.Prelude.{◌≡◌, ◌<◌, ◌≤◌, ◌↔◌, ◌+◌, ℕ, ℤ, true, false, Option, List, [], ◌∷◌, ◌++◌, Some, None, Ok, Err, length, take, drop, map, decimal, IsOk};
 ghost use Rattle.std.specs.Ordering.{nat_cmp, int_cmp};
 ghost use Rattle.std.specs.Cmp.Lexicographic.{slice_cmp};
 ghost use Rattle.base.specs.Bytes.{tab, line_feed};
 ghost use Rattle.datetime_wall.specs.Wall.{Shown, instant};
 ghost use Rattle.instants_answers.specs.Text.{moment_text};
+ghost use Rattle.instants_edges.specs.Beside.{has_another_offset, has_half_after};
 ghost use Rattle.instants_prefixes.specs.Lengths.{lengths};
 ghost use Rattle.instants_prefixes.specs.Reading.{is_likely, may_begin, record_at, text_for};
 ghost use Rattle.instants_prefixes.specs.declared.given.Years.TheVariants.{Unknown};
@@ -17,7 +18,7 @@ ghost use Rattle.instants_stream.specs.Lines.{whole_lines, last_part, lines};
 ghost use Rattle.instants_stream.specs.Steps.{line_said, line_next, after, output};
 ghost use Rattle.instants_timeline.specs.Place.{Setting, first_named, answer_to};
 ghost use Rattle.instants_faults.specs.Refusal.{Refusal};
-ghost use Rattle.instants_lines.specs.Dates.{Search, date_in, place_of_date, key_of_date, replaced};
+ghost use Rattle.instants_lines.specs.Dates.{Search, date_in, place_of_date, key_of_date, replaced, says_no_offset};
 ghost use Rattle.instants_lines.specs.Explained.{IsFirstToName, explained};
 ghost use Rattle.instants_lines.specs.Fields.{IsLabel, is_field, without_fields};
 ghost use Rattle.instants_lines.specs.Going.{Going, IsKeyed, below, beginning, depth, goes_on, is_explain, key_of_line, lines_steps, near, text_in};
@@ -30,8 +31,12 @@ pub use instants_lines_words::laws::words_in_full;
 use parsing_parsable::laws::{two_roads_of_rfc2822, two_roads_of_rfc3339};
 
 /// What stands before and after the date of a line is unchanged where it is replaced, and between them stands the
-/// date-time, if its year is written. All other lines stay, and so does one whose date is in doubt.
+/// date-time, if its year is written. The date has a byte at least and lies within the line, also where it is looked for in a part
+/// of it. All other lines stay, and so does one whose date is in doubt.
 pub fn outside_unchanged()
+    ensures within { (search : Search) (line : List ℕ) (date : Found)
+        → date_in search line ≡ Some (There date)
+        → (date.start < date.end) × (date.end ≤ length line) }
     ensures written { (search : Search) (line : List ℕ) (date : Found) (moment : Shown)
         → date_in search line ≡ Some (There date)
         → place_of_date search.setting date ≡ Ok moment
@@ -54,19 +59,19 @@ pub fn replaced_twice()
         → below.setting ≡ search.setting
         → date_in search line ≡ Some (There date)
         → place_of_date search.setting date ≡ Ok moment
-        → date.start ≤ length line
         → date_in below (replaced search line) ≡ Some (There again)
         → again.start ≡ date.start → again.end ≡ date.start + length (moment_text moment)
         → instant again.moment ≡ instant date.moment
         → replaced below (replaced search line) ≡ replaced search line }
 {}
 
-/// A line for which its one source names a moment, whether the offset is assumed or not, has its answer as its key: where
-/// dates are looked for in whole lines, what the source is given of the line is all of it, and its date begins where the line does.
-/// A number of Unix time has to be likely for it, and a line of RFC 2822 to begin with its weekday or its day. In mode `carry` the line
-/// does not go on with the one above.
+/// A line for which its one source names a moment has its answer as its key: where dates are looked for in whole lines, what the
+/// source is given of the line is all of it, and its date begins where the line does. A number of Unix time has to be likely for it,
+/// and a line of RFC 2822 to begin with its weekday or its day. In mode `carry` the line does not go on with the one above. The source
+/// names the moment whether the offset is assumed or not; or it reads no offset, as `%F %T` in the line `2024-05-01 10:00:00`, and the
+/// line says neither another one than that which is assumed nor a half of the day after its date.
 pub fn whole_line()
-    ensures { (going : Going) (grammar : Grammar) (line : List ℕ) (moment : Shown)
+    ensures alike { (going : Going) (grammar : Grammar) (line : List ℕ) (moment : Shown)
         → going.search.part ≡ None
         → going.search.setting.sources ≡ grammar ∷ []
         → goes_on going.mode going.indent line ≡ false
@@ -76,6 +81,21 @@ pub fn whole_line()
         → text_for grammar line ≡ line → may_begin grammar line ≡ true
         → is_likely (record_at grammar line).unix_timestamp_nanos ≡ true → (lengths grammar line []).begins ≡ 0
         → key_of_line going line ≡ answer_to going.search.setting line }
+    ensures assumed { (going : Going) (source : Grammar) (line : List ℕ) (moment : Shown)
+        (offset : ℤ)
+        → going.search.part ≡ None
+        → going.search.setting.sources ≡ source ∷ []
+        → goes_on going.mode going.indent line ≡ false
+        → going.search.setting.assumed ≡ Some offset → going.search.given.offset ≡ Some offset
+        → going.search.given.zone ≡ None
+        → named (Some offset) source line ≡ Ok moment
+        → says_no_offset (record_at source line) ≡ true
+        → has_another_offset line 0 (lengths source line []).ends offset ≡ false
+        → has_half_after line (lengths source line []).ends ≡ false
+        → 0 < going.search.limit → 0 < length line
+        → text_for source line ≡ line → may_begin source line ≡ true
+        → is_likely (record_at source line).unix_timestamp_nanos ≡ true
+        → (lengths source line []).begins ≡ 0 → key_of_line going line ≡ answer_to going.search.setting line }
 {
     two_roads_of_rfc3339();
     two_roads_of_rfc2822();

@@ -2,6 +2,8 @@
 ghost use Rattle.std.specs.Prelude.{◌≡◌, ◌≤◌, true, [], ◌∷◌, ◌++◌, length};
 ghost use Rattle.base.specs.Bytes.{tab};
 ghost use Rattle.instants_prefixes.specs.Given.{nothing};
+ghost use Rattle.instants_found.specs.KeptDays.{IsKept};
+ghost use Rattle.instants_lines.specs.KeptDay.{IsKept-prop};
 ghost use Rattle.instants_lines.specs.Showing.{given_of};
 
 mod calls;
@@ -10,6 +12,7 @@ mod writes;
 use crate::date_sources::DateSources;
 use crate::known::Known;
 use instants_answers::Answer;
+use instants_found::KeptDay;
 use instants_lines_words::Mode;
 use zones_clock::Zone;
 
@@ -31,6 +34,9 @@ pub(crate) struct LineWriter<'a, 'b, 'p> {
     storage: Answer,
     // How deep the last line with a date begins.
     indent: Option<usize>,
+    // The day of the last date on the zone's clock.
+    kept: KeptDay,
+    ghost kept_is: { IsKept zone kept } by { IsKept-prop zone kept },
     ghost plain: { is_plain ≡ true → given_of known zone ≡ nothing },
     // There is room for a tab after it.
     ghost room: { length key ≤ 63 },

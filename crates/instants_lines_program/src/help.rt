@@ -14,8 +14,8 @@ instants-lines [-q] [--count] MODE [TARGET [ASSUMED [LIMIT]]] [year N]
 instants-lines guess
     reads the first 1048576 bytes of standard input, and writes which formats
     date its lines, and by which words, the best first; put the offset of the
-    machine that wrote the lines in the place of OFFSET, and the year of the
-    first one in that of YEAR
+    machine that wrote the lines in the place of OFFSET, as +02:00, or its zone,
+    as Europe/Berlin, and the year of the first one in that of YEAR
 
     -q       no warnings: of a description that names no component, of packed
              input, and of lines none of which has a date

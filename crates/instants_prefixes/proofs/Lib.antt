@@ -17,3 +17,15 @@ pub mod Windows
 pub mod RuledOut
 pub mod Unread
 pub mod Unnamed
+pub mod Marked
+pub mod MarkedShapes
+pub mod MarkedParts
+pub mod Took
+pub mod Silent
+pub mod ItemsLater
+pub mod Daily
+pub mod FirstByte
+pub mod IsoYear
+pub mod Formats
+pub mod NotEmpty
+pub mod AssumedOffset

@@ -79,7 +79,7 @@ complete : (offset year : Option ℤ) (time : Option ℕ) (r : Record) → lacks
 complete offset year time r date clock zone = grind (arith, nat_tests)
 
 -- Unix time goes before all other parts
-by_unix : (one other : Record) (n : ℤ) → one.unix_timestamp_nanos ≡ Some n → other.unix_timestamp_nanos ≡ Some n → one.subsecond ≡ other.subsecond → moment_named one ≡ moment_named other
+pub by_unix : (one other : Record) (n : ℤ) → one.unix_timestamp_nanos ≡ Some n → other.unix_timestamp_nanos ≡ Some n → one.subsecond ≡ other.subsecond → moment_named one ≡ moment_named other
 unfolding named_moment
 by_unix one other n e f sub = rw (e, f, sub) refl
 

@@ -1,10 +1,10 @@
 -- A text of ISO 8601 in which no year is read names no moment: it says no day, and none is given.
 use Rattle.std.proofs.Common.{◌≡◌, ◌<◌, ◌||◌, ℕ, suc, ℤ, true, false, eqb, List, [], ◌∷◌, get_or, Option, None, Some, Ok, Err, refl, ap, arith}
-use Rattle.std.specs.Prelude.{option_map}
+use Rattle.std.specs.Prelude.{codes, option_map}
 use Rattle.std.specs.Char.{is_ascii_digit}
 use Rattle.std.proofs.lemmas.Bool.Decides.{nat_tests}
 use Rattle.base.specs.Bytes.{hyphen, plus}
-use Rattle.parsing_combinator.specs.Fault.{insufficient}
+use Rattle.parsing_combinator.specs.Fault.{Fault, component, insufficient}
 use Rattle.parsing_combinator.specs.Pieces.{byte_of, digits}
 use Rattle.parsing_components.specs.declared.fields.Record.{Record}
 use Rattle.parsing_record.specs.Record.{empty}
@@ -14,6 +14,7 @@ use Rattle.parsing_iso8601.specs.Dates as iso8601_dates
 use Rattle.parsing_iso8601.specs.Times as iso8601_times
 use Rattle.parsing_iso8601.specs.Offsets as iso8601_offsets
 use Rattle.parsing_iso8601.specs.Numbers as iso8601_numbers
+use Rattle.parsing_iso8601.specs.declared.kind.Kind.{Kind}
 use Rattle.parsing_iso8601.specs.declared.kind.Kind.TheVariants.{Unknown}
 use Rattle.parsing_iso8601.specs.declared.written.WrittenTime.{WrittenTime}
 use Rattle.parsing_iso8601.specs.declared.written.WrittenOffset.{WrittenOffset}
@@ -48,10 +49,11 @@ none_of_dateless : (given : Given) (time : Option WrittenTime) (offset : Option 
 none_of_dateless given time offset rest =
     where_so _ _ (λ _. ap (option_map (λ m. (m, rest))) (each_year given given.years (dateless time offset) None (λ year known. no_moment given year time offset)))
 
-none_without_year : (text : List ℕ) (given : Given) → iso8601_numbers.year text ≡ None → prefix_of given (reads_iso8601 empty text) ≡ None
-unfolding reads_iso8601 iso8601.iso8601 iso8601.dated iso8601_dates.year_and_kind
-none_without_year text given none = elim (iso8601_times.time Unknown false text) as (λ x. iso8601_times.time Unknown false text ≡ x → prefix_of given (reads_iso8601 empty text) ≡ None) [
-  | None ↦ λ e. elim (iso8601_offsets.offset Unknown text) as (λ y. iso8601_offsets.offset Unknown text ≡ y → prefix_of given (reads_iso8601 empty text) ≡ None) [
+-- where no date is read, be it that its year is
+pub none_without_date : (text : List ℕ) (given : Given) (kind : Kind) (fault : Fault) → iso8601.dated text ≡ Ok ((Err fault, kind), text) → prefix_of given (reads_iso8601 empty text) ≡ None
+unfolding reads_iso8601 iso8601.iso8601
+none_without_date text given kind fault none = elim (iso8601_times.time kind false text) as (λ x. iso8601_times.time kind false text ≡ x → prefix_of given (reads_iso8601 empty text) ≡ None) [
+  | None ↦ λ e. elim (iso8601_offsets.offset kind text) as (λ y. iso8601_offsets.offset kind text ≡ y → prefix_of given (reads_iso8601 empty text) ≡ None) [
     | None ↦ λ f. rw (none, e, f) refl
     | Some y ↦ λ f. rw (none, e, f) (none_of_dateless given None (Some y.0) y.1)
   ] refl
@@ -60,6 +62,10 @@ none_without_year text given none = elim (iso8601_times.time Unknown false text)
     | Some y ↦ λ f. rw (none, e, f) (none_of_dateless given (Some x.0.0) (Some y.0) y.1)
   ] refl
 ] refl
+
+none_without_year : (text : List ℕ) (given : Given) → iso8601_numbers.year text ≡ None → prefix_of given (reads_iso8601 empty text) ≡ None
+unfolding iso8601.dated iso8601_dates.year_and_kind
+none_without_year text given none = none_without_date text given Unknown (component (codes "year")) (rw none refl)
 
 -- ---- where no year is read
 

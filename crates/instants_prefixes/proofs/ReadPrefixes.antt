@@ -35,17 +35,17 @@ named_whatever given m text rest moment plain prefix = by_record given (m empty 
 
 -- ---- with an offset in the record from the start
 
-abbrev hour_of : ℤ → ℤ
+abbrev pub hour_of : ℤ → ℤ
 hour_of offset = int_div offset (pos 3600)
 
-abbrev minute_of : ℤ → ℤ
+abbrev pub minute_of : ℤ → ℤ
 minute_of offset = int_rem (int_div offset (pos 60)) (pos 60)
 
 -- it may come after the reading
 completed_placed : (given : Given) (offset : ℤ) (year : Option ℤ) (r : Record) → given.offset ≡ Some offset → r.offset_hour ≡ None → lacks_year r ≡ false → lacks_time r ≡ false → completed given.offset year given.time r ≡ placed (Some (hour_of offset)) (Some (minute_of offset)) r
 completed_placed given offset year r is none date clock = grind (arith, nat_tests)
 
-placed_named : (given : Given) (offset : ℤ) (r : Record) (moment : Shown) → given.offset ≡ Some offset → r.offset_hour ≡ None → moment_named (placed (Some (hour_of offset)) (Some (minute_of offset)) r) ≡ Ok moment → r.unix_timestamp_nanos ≡ None → moment_of given given.years r ≡ Some moment
+pub placed_named : (given : Given) (offset : ℤ) (r : Record) (moment : Shown) → given.offset ≡ Some offset → r.offset_hour ≡ None → moment_named (placed (Some (hour_of offset)) (Some (minute_of offset)) r) ≡ Ok moment → r.unix_timestamp_nanos ≡ None → moment_of given given.years r ≡ Some moment
 placed_named given offset r moment is none e unix =
     let has = has_parts (placed (Some (hour_of offset)) (Some (minute_of offset)) r) moment unix e in
     each_year given given.years r (Some moment) (λ year known. ap names (completed_placed given offset year r is none has.date has.time) ∙ ap result_ok e)

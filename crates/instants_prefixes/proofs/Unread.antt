@@ -34,14 +34,14 @@ use Rattle.instants_prefixes.proofs.Told.{Told, Reads, Refuses, described_told}
 -- ---- what is held
 
 -- something of a kind was said, and all is there that was there before
-abbrev Adds : Kind → Bool → (Record → Record) → Type 0
+abbrev pub Adds : Kind → Bool → (Record → Record) → Type 0
 Adds k b f = (r : Record) → holds (f r) k ≡ (b || holds r k)
 
 turned : (a b c : Bool) → (b || (a || c)) ≡ ((a || b) || c)
 turned true b c = or_right b true refl
 turned false b c = refl
 
-adds_both : (k : Kind) (a b : Bool) (f g : Record → Record) → Adds k a f → Adds k b g → Adds k (a || b) (λ r. g (f r))
+pub adds_both : (k : Kind) (a b : Bool) (f g : Record → Record) → Adds k a f → Adds k b g → Adds k (a || b) (λ r. g (f r))
 adds_both k a b f g h j r = j (f r) ∙ ap (λ x. b || x) (h r) ∙ turned a b (holds r k)
 
 -- what a description says of each record that it reads
@@ -71,13 +71,13 @@ abbrev pub placed : Option ℤ → Option ℤ → Record → Record
 placed hour minute r = record r { offset_hour = hour; offset_minute = minute }
 
 -- what says no part of an offset may come before it or after it
-abbrev Moves : Bool → (Record → Record) → Type 0
+abbrev pub Moves : Bool → (Record → Record) → Type 0
 Moves b f = b ≡ false → (hour minute : Option ℤ) (r : Record) → f (placed hour minute r) ≡ placed hour minute (f r)
 
-moves_both : (a b : Bool) (f g : Record → Record) → Moves a f → Moves b g → Moves (a || b) (λ r. g (f r))
+pub moves_both : (a b : Bool) (f g : Record → Record) → Moves a f → Moves b g → Moves (a || b) (λ r. g (f r))
 moves_both a b f g h j e hour minute r = let parts = or_parts a b e in ap g (h parts.0 hour minute r) ∙ j parts.1 hour minute (f r)
 
-moves : (said : Read) → Moves (holds (put said empty) kind.OffsetPart) (put said)
+pub moves : (said : Read) → Moves (holds (put said empty) kind.OffsetPart) (put said)
 moves (read.OffsetHour h n) e hour minute r = absurd cc
 moves (read.OffsetMinute n) e hour minute r = absurd cc
 moves said e hour minute r = refl
@@ -89,7 +89,7 @@ pub record IsPlaced (answer : Record → Answer) (hour minute : Option ℤ) (set
   pub is : set ≡ placed hour minute plain
   pub none : plain.offset_hour ≡ None
 
-of_moves : (answer : Record → Answer) (may always : Bool) (hour minute : Option ℤ) (set : Record) (rest : List ℕ) → Told Moves answer may always → may ≡ false → answer (placed hour minute empty) ≡ Ok (set, rest) → IsPlaced answer hour minute set rest
+pub of_moves : (answer : Record → Answer) (may always : Bool) (hour minute : Option ℤ) (set : Record) (rest : List ℕ) → Told Moves answer may always → may ≡ false → answer (placed hour minute empty) ≡ Ok (set, rest) → IsPlaced answer hour minute set rest
 of_moves answer may always hour minute set rest (Reads b f left h up down is) free e =
     let same : ◌≡◌ {A = Record × List ℕ} (f (placed hour minute empty), left) (set, rest) = cc (is (placed hour minute empty)) in
     let moved = h (le_false up free) in

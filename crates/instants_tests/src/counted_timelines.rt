@@ -129,11 +129,13 @@ fn is_told(alloc: Global, words: &[&str], line: &[u8], wanted: &Told) -> bool {
     }
 }
 
-#[test]
-fn timelines(rt: HostRuntime) {
+fn are_told(alloc: Global) -> bool {
     for row in &ROWS {
-        assert!(rt; is_told(rt.alloc(), row.0, row.1, &row.2));
+        if !is_told(alloc, row.0, row.1, &row.2) {
+            return false;
+        }
     }
+    true
 }
 
 // How many items a source tries on a line, and its nodes.
@@ -150,7 +152,7 @@ fn are_counted(alloc: Global, text: SourceText, line: &[u8]) -> bool {
 }
 
 #[test]
-fn sources(rt: HostRuntime) {
+fn timelines_and_sources(rt: HostRuntime) {
     let text = SourceText::V3("[first [[year]-[month]] [x]]");
-    assert!(rt; are_counted(rt.alloc(), text, b"x"));
+    assert!(rt; are_told(rt.alloc()) && are_counted(rt.alloc(), text, b"x"));
 }

@@ -5,6 +5,7 @@ ghost use Rattle.std.specs.Prelude.{◌<◌, vec_len};
 use instants_stream::{
     BlockWriter, ByteReader, ByteWriter, CutReader, CutWriter, DeviceFailed, StdReader,
 };
+use std::alloc::Global;
 
 // How many bytes reads of four give in all until one gives none or fails, and whether the reader has failed.
 fn read(most: usize, fail_after: Option<usize>) -> (usize, bool) {
@@ -28,11 +29,13 @@ static READS: [(usize, Option<usize>, usize); 4] = [
     (8, Some(8), 8),
 ];
 
-#[test]
-fn cut_reader(rt: HostRuntime) {
+fn cut_readers_read() -> bool {
     for row in &READS {
-        assert!(rt; read(row.0, row.1) == (row.2, row.1.is_some()));
+        if read(row.0, row.1) != (row.2, row.1.is_some()) {
+            return false;
+        }
     }
+    true
 }
 
 // What stands in six bytes of space after a try to write bytes, hand them on and flush them, and how often they are flushed.
@@ -57,11 +60,13 @@ static WRITES: [(&[u8], Option<usize>, ([u8; 6], usize)); 4] = [
     (b"abc", Some(3), (*b"abc\0\0\0", 0)),
 ];
 
-#[test]
-fn cut_writer(rt: HostRuntime) {
+fn cut_writers_write() -> bool {
     for row in &WRITES {
-        assert!(rt; written(row.0, row.1) == row.2);
+        if written(row.0, row.1) != row.2 {
+            return false;
+        }
     }
+    true
 }
 
 // What stands in six bytes of space after bytes are written one by one, by way of a block.
@@ -83,12 +88,17 @@ fn written_one_by_one(block: Vec<u8>, bytes: &[u8]) -> [u8; 6]
     space
 }
 
-#[test]
-fn bytes_one_by_one(rt: HostRuntime) {
+// That memory runs out fails the test.
+fn block_writers_write(alloc: Global) -> bool {
     for size in [1, 2, 9] {
-        let block = vec![in rt.alloc(); 0; size].expect(&rt, "memory");
-        assert!(rt; written_one_by_one(block, b"abcde") == *b"abcde\0");
+        let Ok(block) = vec![in alloc; 0; size] else {
+            return false;
+        };
+        if written_one_by_one(block, b"abcde") != *b"abcde\0" {
+            return false;
+        }
     }
+    true
 }
 
 // What a read gives of more bytes than it takes.
@@ -100,6 +110,11 @@ fn std_read() -> (Result<usize, DeviceFailed>, [u8; 3]) {
 }
 
 #[test]
-fn std_reader(rt: HostRuntime) {
-    assert!(rt; std_read() == (Ok(3), *b"abc"));
+fn devices(rt: HostRuntime) {
+    assert!(rt;
+        cut_readers_read()
+            && cut_writers_write()
+            && block_writers_write(rt.alloc())
+            && std_read() == (Ok(3), *b"abc")
+    );
 }

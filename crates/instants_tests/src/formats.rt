@@ -38,14 +38,13 @@ static NAMED: [Format; 5] = [
 ];
 
 // That each format is found by its name is a law.
-#[test]
-fn by_name(rt: HostRuntime) {
-    laws::names();
+fn are_found() -> bool {
     for format in &NAMED {
-        assert!(rt; format_named(format.name) == Some(format));
+        if format_named(format.name) != Some(format) {
+            return false;
+        }
     }
-    assert!(rt; formats().len() > NAMED.len());
-    assert!(rt; format_named("MySQL").is_none());
+    formats().len() > NAMED.len() && format_named("MySQL").is_none()
 }
 
 // The description of a format as a source.
@@ -59,7 +58,9 @@ fn described(format: &Format) -> SourceText<'static> {
 
 // No description has a fault.
 #[test]
-fn descriptions(rt: HostRuntime) {
+fn names_and_descriptions(rt: HostRuntime) {
+    laws::names();
+    assert!(rt; are_found());
     for format in formats() {
         assert!(rt;
             Source::new(rt.alloc(), described(format)).is_ok(),

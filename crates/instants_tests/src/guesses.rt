@@ -132,12 +132,11 @@ fn rows(rt: HostRuntime) {
 
 const STREAM: &[u8] = b"2021-01-02 opened\n";
 
-#[test]
-fn failures(rt: HostRuntime) {
-    let no_read = guessed(rt.alloc(), STREAM, Some(3), None, "");
-    assert!(rt; no_read == (Err(RunsFault::Run(RunFault::Read)), true));
-    let no_write = guessed(rt.alloc(), STREAM, None, Some(4), "1 of");
-    assert!(rt; no_write == (Err(RunsFault::Run(RunFault::Write)), true));
+fn fails(alloc: Global) -> bool {
+    let no_read = guessed(alloc, STREAM, Some(3), None, "");
+    let no_write = guessed(alloc, STREAM, None, Some(4), "1 of");
+    no_read == (Err(RunsFault::Run(RunFault::Read)), true)
+        && no_write == (Err(RunsFault::Run(RunFault::Write)), true)
 }
 
 // A line, and one that goes on to the end of so many bytes.
@@ -148,18 +147,16 @@ fn long_stream(alloc: Global, len: usize) -> Result<Vec<u8>, AllocError> {
     Ok(stream)
 }
 
-// The first 1048576 bytes cut the second line.
-#[test]
-fn a_cut_line(rt: HostRuntime) -> Result<(), Fail> {
-    let stream = long_stream(rt.alloc(), 1_048_600)?;
-    let text =
-        "1 of 1 lines, first 2021-01-02T00:00:00.000000000OFFSET: +00:00 OFFSET time 00:00 date\n";
+const OF_ONE_LINE: &[u8] =
+    b"1 of 1 lines, first 2021-01-02T00:00:00.000000000OFFSET: +00:00 OFFSET time 00:00 date\n";
+
+// The first 1048576 bytes of a stream cut its second line.
+fn is_cut(alloc: Global, stream: &[u8]) -> bool {
     let mut space = [0; 256];
-    let mut reader = CutReader::new(stream.as_slice(), 65_536, None);
+    let mut reader = CutReader::new(stream, 65_536, None);
     let mut writer = CutWriter::new(&mut space, 256, None);
-    assert!(rt; guess_on(rt.alloc(), &mut reader, &mut writer) == Ok(()));
-    assert!(rt; writer.written() == text.as_bytes());
-    Ok(())
+    let ended = guess_on(alloc, &mut reader, &mut writer);
+    ended == Ok(()) && writer.written() == OF_ONE_LINE
 }
 
 // A reader over lent bytes that counts its reads.
@@ -202,7 +199,10 @@ fn reads(alloc: Global, stream: &[u8]) -> usize {
 
 // After the end nothing is read.
 #[test]
-fn reads_to_the_end(rt: HostRuntime) {
-    assert!(rt; reads(rt.alloc(), STREAM) == 4);
-    assert!(rt; reads(rt.alloc(), b"") == 1);
+fn failures_cut_lines_and_ends(rt: HostRuntime) -> Result<(), Fail> {
+    let alloc = rt.alloc();
+    let stream = long_stream(alloc, 1_048_600)?;
+    let is_cut = is_cut(alloc, stream.as_slice());
+    assert!(rt; fails(alloc) && is_cut && reads(alloc, STREAM) == 4 && reads(alloc, b"") == 1);
+    Ok(())
 }

@@ -1,16 +1,23 @@
 //! Tests of the crates of `instants`, each by itself, of formats by name, of the guess, and of runs over streams: devices and
-//! their failures, memory, streams cut in reads. Rows of words and streams with their answers stand in the program `rows`;
-//! dates inside lines have a crate of their own, `instants_lines_tests`.
+//! their failures, memory, streams cut in reads. Tests of those of `instants-lines`: what stands beside a date, the prefixes
+//! of sources, dates in lines, the words of the program and its runs. Rows of words and streams with their answers stand in
+//! the program `rows`.
 #![tactic(auto)]
 
 #[cfg(test)]
 mod counted_timelines;
 #[cfg(test)]
+mod dates;
+#[cfg(test)]
 mod devices;
+#[cfg(test)]
+mod edges;
 #[cfg(test)]
 mod first_bytes;
 #[cfg(test)]
 mod formats;
+#[cfg(test)]
+mod found;
 #[cfg(test)]
 mod guesses;
 #[cfg(test)]
@@ -22,7 +29,13 @@ mod moved_lines;
 #[cfg(test)]
 mod page;
 #[cfg(test)]
+mod parts;
+#[cfg(test)]
+mod prefixes;
+#[cfg(test)]
 mod printed;
+#[cfg(test)]
+mod runs;
 #[cfg(test)]
 mod searches;
 #[cfg(test)]
@@ -33,3 +46,7 @@ mod std_devices;
 mod streams;
 #[cfg(test)]
 mod timelines;
+#[cfg(test)]
+mod wrong_words;
+#[cfg(test)]
+mod zoned;

@@ -36,13 +36,6 @@ fn are_read(alloc: Global) -> Result<bool, AllocError> {
     }
 }
 
-#[test]
-fn words(rt: HostRuntime) -> Result<(), Fail> {
-    let are_read = are_read(rt.alloc())?;
-    assert!(rt; are_read);
-    Ok(())
-}
-
 // Whether a run writes the output. The status 1 says here that memory was refused, since the devices work and the words are
 // right.
 fn is_written(alloc: Global) -> Result<bool, AllocError> {
@@ -56,13 +49,6 @@ fn is_written(alloc: Global) -> Result<bool, AllocError> {
     }
 }
 
-#[test]
-fn runs(rt: HostRuntime) -> Result<(), Fail> {
-    let is_written = is_written(rt.alloc())?;
-    assert!(rt; is_written);
-    Ok(())
-}
-
 // Whether lines are answered in place.
 fn are_answered(alloc: Global) -> Result<bool, AllocError> {
     let mut output = [b'.'; 2 * LINE_ROOM];
@@ -74,10 +60,12 @@ fn are_answered(alloc: Global) -> Result<bool, AllocError> {
 }
 
 #[test]
-fn lines(rt: HostRuntime) -> Result<(), Fail> {
+fn words_runs_and_lines(rt: HostRuntime) -> Result<(), Fail> {
     laws::one_output();
     laws::joined_blocks();
+    let are_read = are_read(rt.alloc())?;
+    let is_written = is_written(rt.alloc())?;
     let are_answered = are_answered(rt.alloc())?;
-    assert!(rt; are_answered && laws::line_room() == LINE_ROOM);
+    assert!(rt; are_read && is_written && are_answered && laws::line_room() == LINE_ROOM);
     Ok(())
 }

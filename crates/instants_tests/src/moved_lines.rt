@@ -42,14 +42,22 @@ fn is_filled(fields: &Fields, target: Target, line: &[u8]) -> bool {
     }
 }
 
-#[test]
-fn lines(rt: HostRuntime) {
-    for row in &CASES {
-        let (line, target, wanted) = *row;
-        let fields = parsing_rfc3339::read_fields(line).expect(&rt, "fields");
-        let target = UtcOffset::from_whole_seconds(target).expect(&rt, "an offset");
-        assert!(rt; is_written(&fields, target, wanted));
+// The same of a line, and a target in seconds.
+fn is_moved(line: &[u8], target: i32, wanted: &[u8]) -> bool {
+    let read = parsing_rfc3339::read_fields(line);
+    match (read, UtcOffset::from_whole_seconds(target)) {
+        (Some(fields), Ok(target)) => is_written(&fields, target, wanted),
+        _ => false,
     }
+}
+
+fn are_moved() -> bool {
+    for row in &CASES {
+        if !is_moved(row.0, row.1, row.2) {
+            return false;
+        }
+    }
+    true
 }
 
 // The Unix time of a moment that a text names, whether its fields are kept, and whether it is answered so in UTC.
@@ -62,11 +70,15 @@ fn told(named: &Named, line: &[u8]) -> (i64, bool, bool) {
     )
 }
 
-#[test]
-fn named_moments(rt: HostRuntime) {
-    let fields = parsing_rfc3339::read_fields(b"1970-01-01T01:00:07+01:00").expect(&rt, "fields");
-    let line = b"1970-01-01T00:00:07.000000000Z";
-    let kept = Named::of_fields(fields);
+// Kept as its fields, and as a moment.
+fn are_named(fields: &Fields, line: &[u8]) -> bool {
+    let kept = Named::of_fields(*fields);
     let counted = Named::of_moment(fields.moment());
-    assert!(rt; told(&kept, line) == (7, true, true) && told(&counted, line) == (7, false, true));
+    told(&kept, line) == (7, true, true) && told(&counted, line) == (7, false, true)
+}
+
+#[test]
+fn moved_lines_and_named_moments(rt: HostRuntime) {
+    let fields = parsing_rfc3339::read_fields(b"1970-01-01T01:00:07+01:00").expect(&rt, "fields");
+    assert!(rt; are_moved() && are_named(&fields, b"1970-01-01T00:00:07.000000000Z"));
 }

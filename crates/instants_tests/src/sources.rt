@@ -81,14 +81,14 @@ fn told_by(alloc: Global, text: SourceText, line: &[u8], hour: UtcOffset) -> Opt
     }
 }
 
-#[test]
-fn moments(rt: HostRuntime) {
-    let hour = UtcOffset::from_hms(1, 0, 0).expect(&rt, "an offset");
+fn moments_are_named(alloc: Global, hour: UtcOffset) -> bool {
     for row in &CASES {
         let (text, line, wanted) = *row;
-        assert!(rt; told_by(rt.alloc(), text, line, hour) == Some(wanted));
+        if told_by(alloc, text, line, hour) != Some(wanted) {
+            return false;
+        }
     }
-    assert!(rt; starting(Some(hour)).offset_hour() == Some(1));
+    starting(Some(hour)).offset_hour() == Some(1)
 }
 
 fn seconds() -> [Option<i64>; 3] {
@@ -144,19 +144,25 @@ fn described(alloc: Global, text: &str) -> Option<[bool; 2]> {
 
 const WEB_SERVER: &str = "%d/%b/%Y:%H:%M:%S %z";
 
-#[test]
-fn plans(rt: HostRuntime) {
-    assert!(rt; described(rt.alloc(), WEB_SERVER) == Some([true, false]));
-    let log = planned(rt.alloc(), WEB_SERVER, b"01/Jan/1970:00:00:01 +0000");
-    assert!(rt; log == Some((Some(1), Some(1))));
-    let unix = planned(rt.alloc(), "%s", b"1000000000");
-    assert!(rt; unix == Some((Some(1_000_000_000), Some(1_000_000_000))));
+fn are_planned(alloc: Global) -> bool {
+    let log = planned(alloc, WEB_SERVER, b"01/Jan/1970:00:00:01 +0000");
+    let unix = planned(alloc, "%s", b"1000000000");
+    described(alloc, WEB_SERVER) == Some([true, false])
+        && log == Some((Some(1), Some(1)))
+        && unix == Some((Some(1_000_000_000), Some(1_000_000_000)))
+}
+
+// By their fast ways.
+fn formats_are_read() -> bool {
+    seconds() == [Some(1); 3]
+        && is_no_rfc3339(b"1970")
+        && Source::Rfc3339.has_no_year(b"yesterday", None)
 }
 
 #[test]
-fn fast_ways(rt: HostRuntime) {
+fn sources(rt: HostRuntime) {
     directly_named();
-    let source = Source::Rfc3339;
-    assert!(rt; seconds() == [Some(1); 3]);
-    assert!(rt; is_no_rfc3339(b"1970") && source.has_no_year(b"yesterday", None));
+    let hour = UtcOffset::from_hms(1, 0, 0).expect(&rt, "an offset");
+    let alloc = rt.alloc();
+    assert!(rt; moments_are_named(alloc, hour) && are_planned(alloc) && formats_are_read());
 }

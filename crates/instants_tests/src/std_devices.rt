@@ -7,6 +7,7 @@ use instants_stream::{
     BlockWriter, ByteReader, ByteWriter, CutReader, CutWriter, DeviceFailed, RunFault, StdReader,
     StdWriter, run_lines,
 };
+use std::alloc::Global;
 use std::io::{Error, ErrorKind, Read, Result as IoResult, Write};
 
 // A device of std whose call at one place fails once. It gives and takes so many bytes a call.
@@ -75,13 +76,14 @@ fn reads_work(works: u8, moves: usize) -> (bool, u8) {
     (is_working, calls)
 }
 
-#[test]
-fn reads(rt: HostRuntime) {
-    for works in [0, 1, 10, 11, 12, 100] {
-        for moves in [0, 1] {
-            assert!(rt; reads_work(works, moves) == (true, works.saturating_add(1)));
+fn reads_are_counted() -> bool {
+    for works in [0u8, 1, 10, 11, 12, 100] {
+        let wanted = (true, works.saturating_add(1));
+        if reads_work(works, 0) != wanted || reads_work(works, 1) != wanted {
+            return false;
         }
     }
+    true
 }
 
 // How so many writes end that are followed by a flush: whether the writer is flushed, and how many calls all were.
@@ -107,20 +109,26 @@ fn writes_end(writes: u8, fails_at: u8) -> (bool, u8) {
     (is_flushed, calls)
 }
 
+// How many writes are followed by a flush, which call fails, and how many calls all are.
+static WRITES: [(u8, u8, u8); 7] = [
+    (0, 0, 1),
+    (0, 9, 1),
+    (3, 0, 1),
+    (3, 2, 3),
+    (3, 3, 4),
+    (12, 11, 12),
+    (12, 20, 13),
+];
+
 // A write or a flush that fails is one call, and handing on is none.
-#[test]
-fn writes(rt: HostRuntime) {
-    for (writes, fails_at, calls) in [
-        (0, 0, 1),
-        (0, 9, 1),
-        (3, 0, 1),
-        (3, 2, 3),
-        (3, 3, 4),
-        (12, 11, 12),
-        (12, 20, 13),
-    ] {
-        assert!(rt; writes_end(writes, fails_at) == (fails_at > writes, calls));
+fn writes_are_counted() -> bool {
+    for row in &WRITES {
+        let (writes, fails_at, calls) = *row;
+        if writes_end(writes, fails_at) != (fails_at > writes, calls) {
+            return false;
+        }
     }
+    true
 }
 
 // How a run ends that gathers in a block what the device takes, a byte a call, and how often that is called.
@@ -143,20 +151,25 @@ fn run_of_writes(block: Vec<u8>, fails_at: u8) -> (Result<(), RunFault>, u8)
     (answer, calls)
 }
 
-// Whichever of the 48 writes and the flush fails, no call follows it, also where the block ends.
-#[test]
-fn runs_that_write(rt: HostRuntime) {
-    for size in [1, 7, 64] {
-        for at in 0..50 {
-            let block = vec![in rt.alloc(); 0; size].expect(&rt, "memory");
-            let wanted = if at < 49 {
-                (Err(RunFault::Write), at + 1)
-            } else {
-                (Ok(()), 49)
-            };
-            assert!(rt; run_of_writes(block, at) == wanted);
+// Whichever of the 48 writes and the flush fails, no call follows it, also where the block ends. That memory runs out fails
+// the test.
+fn runs_write(alloc: Global, size: usize) -> bool
+    requires { 0 < size }
+{
+    for at in 0..50 {
+        let Ok(block) = vec![in alloc; 0; size] else {
+            return false;
+        };
+        let wanted = if at < 49 {
+            (Err(RunFault::Write), at + 1)
+        } else {
+            (Ok(()), 49)
+        };
+        if run_of_writes(block, at) != wanted {
+            return false;
         }
     }
+    true
 }
 
 // How a run over a device ends that gives so many bytes a call, and how often that is called.
@@ -178,8 +191,13 @@ fn run_of_reads(fails_at: u8, moves: usize) -> (Result<(), RunFault>, u8) {
 }
 
 // Nothing is read after the end of the bytes, or after a read that failed.
+fn runs_read() -> bool {
+    run_of_reads(9, 0) == (Ok(()), 1) && run_of_reads(9, 1) == (Err(RunFault::Read), 10)
+}
+
 #[test]
-fn runs_that_read(rt: HostRuntime) {
-    assert!(rt; run_of_reads(9, 0) == (Ok(()), 1));
-    assert!(rt; run_of_reads(9, 1) == (Err(RunFault::Read), 10));
+fn calls_of_devices(rt: HostRuntime) {
+    let alloc = rt.alloc();
+    assert!(rt; reads_are_counted() && writes_are_counted() && runs_read());
+    assert!(rt; runs_write(alloc, 1) && runs_write(alloc, 7) && runs_write(alloc, 64));
 }

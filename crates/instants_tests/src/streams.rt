@@ -6,6 +6,7 @@ use instants_answers::Answer;
 use instants_stream::{
     AnswersLines, BlockWriter, CutReader, CutWriter, RunFault, TooLittleRoom, lines_over, run_lines,
 };
+use std::alloc::Global;
 
 /// Two lines.
 pub const STREAM: &[u8; 26] = b"1985-04-12T23:20:50.52Z\nx\n";
@@ -70,13 +71,14 @@ fn with_zeros(bytes: &[u8]) -> [u8; 48] {
     space
 }
 
-#[test]
-fn lines_in_place(rt: HostRuntime) {
+fn lines_in_place() -> bool {
     for row in &STREAMS {
         let len = row.2.len();
-        assert!(rt; over(row.0, row.1, len) == (Ok(len), with_zeros(row.2)));
+        if over(row.0, row.1, len) != (Ok(len), with_zeros(row.2)) {
+            return false;
+        }
     }
-    assert!(rt; over(100, STREAM, 47) == (Err(TooLittleRoom), with_zeros(&OUTPUT[..47])));
+    over(100, STREAM, 47) == (Err(TooLittleRoom), with_zeros(&OUTPUT[..47]))
 }
 
 // How a run ends that gathers its answers in a block, whose reads give at most so many bytes and fail after so many, and what
@@ -108,15 +110,26 @@ fn ended(
     (answer, space)
 }
 
-#[test]
-fn reads_of_every_size(rt: HostRuntime) {
-    for row in &STREAMS {
-        for most in 1..27 {
-            let block = vec![in rt.alloc(); 0; 7].expect(&rt, "memory");
-            let wanted = (Ok(()), with_zeros(row.2));
-            assert!(rt; ended(block, row.0, row.1, most, None) == wanted);
+// Reads of every size over a stream. That memory runs out fails the test.
+fn is_read(alloc: Global, limit: usize, stream: &[u8], output: &[u8]) -> bool {
+    for most in 1..27 {
+        let Ok(block) = vec![in alloc; 0; 7] else {
+            return false;
+        };
+        if ended(block, limit, stream, most, None) != (Ok(()), with_zeros(output)) {
+            return false;
         }
     }
+    true
+}
+
+fn are_read(alloc: Global) -> bool {
+    for row in &STREAMS {
+        if !is_read(alloc, row.0, row.1, row.2) {
+            return false;
+        }
+    }
+    true
 }
 
 // What is written of `OUTPUT` where a read fails after so many bytes of `STREAM`.
@@ -128,15 +141,34 @@ fn written_before(read_fails: usize) -> &'static [u8] {
     }
 }
 
-// Before each read all answers are below, so that they are there when it fails. Where the limit is 25, the buffer has 26 bytes,
-// and is empty again once the whole stream is read.
-#[test]
-fn before_each_read(rt: HostRuntime) {
-    for row in &[(100, 1), (100, 2), (100, 5), (100, 24), (100, 26), (25, 26)] {
-        for after in 0..27 {
-            let block = vec![in rt.alloc(); 0; 100].expect(&rt, "memory");
-            let wanted = (Err(RunFault::Read), with_zeros(written_before(after)));
-            assert!(rt; ended(block, row.0, STREAM, row.1, Some(after)) == wanted);
+// Before each read all answers are below, so that they are there when it fails.
+fn is_below(alloc: Global, limit: usize, most: usize) -> bool {
+    for after in 0..27 {
+        let Ok(block) = vec![in alloc; 0; 100] else {
+            return false;
+        };
+        let wanted = (Err(RunFault::Read), with_zeros(written_before(after)));
+        if ended(block, limit, STREAM, most, Some(after)) != wanted {
+            return false;
         }
     }
+    true
+}
+
+// A limit, and how many bytes a read gives at most. Where the limit is 25, the buffer has 26 bytes, and is empty again once the
+// whole stream is read.
+static CUTS: [(usize, usize); 6] = [(100, 1), (100, 2), (100, 5), (100, 24), (100, 26), (25, 26)];
+
+fn are_below(alloc: Global) -> bool {
+    for row in &CUTS {
+        if !is_below(alloc, row.0, row.1) {
+            return false;
+        }
+    }
+    true
+}
+
+#[test]
+fn streams(rt: HostRuntime) {
+    assert!(rt; lines_in_place() && are_read(rt.alloc()) && are_below(rt.alloc()));
 }

@@ -46,12 +46,6 @@ fn parts(alloc: Global, target: UtcOffset) -> Option<Parts> {
     }
 }
 
-#[test]
-fn parts_of_a_timeline(rt: HostRuntime) {
-    let target = UtcOffset::from_hms(0, -30, 0).expect(&rt, "an offset");
-    assert!(rt; parts(rt.alloc(), target) == Some((target, Some(target), 1, [true; 3])));
-}
-
 // The laws are contracts: nothing is answered.
 #[test]
 fn laws() {
@@ -74,7 +68,11 @@ fn limit(alloc: Global, words: &[&str]) -> Option<usize> {
 }
 
 #[test]
-fn timelines_of_words(rt: HostRuntime) {
+fn timelines(rt: HostRuntime) {
+    let target = UtcOffset::from_hms(0, -30, 0).expect(&rt, "an offset");
     let words = ["+05:30", "-01:00", "1048576", "rfc3339"];
-    assert!(rt; limit(rt.alloc(), &words) == Some(1_048_576));
+    assert!(rt;
+        parts(rt.alloc(), target) == Some((target, Some(target), 1, [true; 3]))
+            && limit(rt.alloc(), &words) == Some(1_048_576)
+    );
 }

@@ -28,6 +28,6 @@ fn are_read(parsed: &mut Parsed) -> [bool; 5] {
 #[test]
 fn record(rt: HostRuntime) {
     let mut parsed = Parsed::new();
-    assert!(rt; are_read(&mut parsed) == [true; 5]);
-    assert!(rt; (parsed.hour_24(), parsed.day()) == (Some(23), Some(31)));
+    let are_read = are_read(&mut parsed);
+    assert!(rt; are_read == [true; 5] && parsed.hour_24() == Some(23) && parsed.day() == Some(31));
 }

@@ -43,19 +43,15 @@ fn said() -> [Option<(Read, &'static [u8])>; 7] {
     ]
 }
 
-#[test]
-fn says(rt: HostRuntime) {
-    let wanted: [Option<(Read, &[u8])>; 7] = [
-        Some((Read::Day(7), b"T")),
-        None,
-        Some((Read::Month(Month::September), b"t")),
-        Some((Read::Hour24(9), b":30")),
-        None,
-        Some((Read::OffsetHour(0, true), b"30")),
-        Some((Read::Unix(-1_500_000_000), b" ")),
-    ];
-    assert!(rt; said() == wanted);
-}
+static SAID: [Option<(Read, &[u8])>; 7] = [
+    Some((Read::Day(7), b"T")),
+    None,
+    Some((Read::Month(Month::September), b"t")),
+    Some((Read::Hour24(9), b":30")),
+    None,
+    Some((Read::OffsetHour(0, true), b"30")),
+    Some((Read::Unix(-1_500_000_000), b" ")),
+];
 
 // No component was read.
 fn empty() -> Record
@@ -92,13 +88,20 @@ fn empty() -> Record
     }
 }
 
+fn sets(mut fields: Record) -> bool
+    requires { IsWithin fields }
+{
+    fields.put(Read::OffsetHour(-5, true));
+    fields.put(Read::OffsetMinute(30));
+    fields.put(Read::Day(31));
+    fields.offset_hour == Some(-5)
+        && fields.offset_minute == Some(30)
+        && fields.day == Some(31)
+        && fields.offset_is_negative
+        && fields.minute.is_none()
+}
+
 #[test]
-fn sets(rt: HostRuntime) {
-    let mut record = empty();
-    record.put(Read::OffsetHour(-5, true));
-    record.put(Read::OffsetMinute(30));
-    record.put(Read::Day(31));
-    let numbers = (record.offset_hour, record.offset_minute, record.day);
-    assert!(rt; numbers == (Some(-5), Some(30), Some(31)));
-    assert!(rt; record.offset_is_negative && record.minute.is_none());
+fn says_and_sets(rt: HostRuntime) {
+    assert!(rt; said() == SAID && sets(empty()));
 }

@@ -48,7 +48,10 @@ fn named_days() -> [Option<Date>; 5] {
 #[test]
 fn dates(rt: HostRuntime) {
     let wanted = Date::from_calendar_date(1985, Month::April, 12).unwrap_or(Date::MIN);
-    assert!(rt; named_days() == [Some(wanted); 5]);
     // the day of a month goes before that of a week
-    assert!(rt; date(&FRIDAY) == Ok(wanted) && year(&BACKWARDS) == Some(-105));
+    assert!(rt;
+        named_days() == [Some(wanted); 5]
+            && date(&FRIDAY) == Ok(wanted)
+            && year(&BACKWARDS) == Some(-105)
+    );
 }

@@ -51,6 +51,5 @@ fn readings_come_back() -> [bool; 5] {
 
 #[test]
 fn refusals(rt: HostRuntime) {
-    assert!(rt; refusals_come_back() == [true; 7]);
-    assert!(rt; readings_come_back() == [true; 5]);
+    assert!(rt; refusals_come_back() == [true; 7] && readings_come_back() == [true; 5]);
 }

@@ -33,14 +33,13 @@ fn moments() -> [Option<(i64, u32)>; 3] {
     ]
 }
 
-#[test]
-fn moments_minutes_and_years(rt: HostRuntime) {
-    assert!(rt; moments() == [HALF, HALF, None]);
-    assert!(rt; (minute_of_day(23, 59), digit_pair(42)) == (Some(1439), (b'4', b'2')));
-    let year = Year::new(2023);
-    assert!(rt; (year.digits(), year.number()) == (*b"2023", 2023));
-    let is_before = year.is_before(Year::new(2024));
-    assert!(rt; is_before && parsing_rfc3339::begins_with_year(b"2021-01"));
+fn are_years_and_minutes(year: Year) -> bool {
+    minute_of_day(23, 59) == Some(1439)
+        && digit_pair(42) == (b'4', b'2')
+        && year.digits() == *b"2023"
+        && year.number() == 2023
+        && year.is_before(Year::new(2024))
+        && parsing_rfc3339::begins_with_year(b"2021-01")
 }
 
 // The nine digits, the nanosecond, and how many bytes are left.
@@ -56,21 +55,17 @@ fn read_fraction(text: &[u8]) -> Option<([u8; 9], u32, usize)> {
 fn digits(rt: HostRuntime) {
     // `12345678` and `9` in ASCII, the first digit lowest.
     let nine = Fraction::of_nine(0x3837_3635_3433_3231, 0x39);
-    let digits = (nine.nanosecond(), nine.padded_digits());
-    assert!(rt; digits == (123_456_789, *b"123456789\0\0\0\0\0\0\0"));
-    assert!(rt; read_fraction(b"5Z") == Some((*b"500000000", 500_000_000, 1)));
     let above = above_zeros(u64::from_le_bytes(*b"12345678"));
-    let chunks = (digit_chunk(b"123Z"), above);
     let chunk = u64::from_le_bytes(*b"12300000");
     assert!(rt;
-        chunks
-            == (
-                Some((chunk, 3)),
-                Some(u64::from_le_bytes([1, 2, 3, 4, 5, 6, 7, 8]))
-            )
+        nine.nanosecond() == 123_456_789
+            && nine.padded_digits() == *b"123456789\0\0\0\0\0\0\0"
+            && read_fraction(b"5Z") == Some((*b"500000000", 500_000_000, 1))
+            && digit_chunk(b"123Z") == Some((chunk, 3))
+            && above == Some(u64::from_le_bytes([1, 2, 3, 4, 5, 6, 7, 8]))
+            && number(b"123456789") == 123_456_789
+            && long_number(b"1234567890123456789") == 1_234_567_890_123_456_789
     );
-    let long = long_number(b"1234567890123456789");
-    assert!(rt; (number(b"123456789"), long) == (123_456_789, 1_234_567_890_123_456_789));
 }
 
 // Formats, and then the shapes that nearly all texts of a format have, and its others.
@@ -93,13 +88,9 @@ fn formats() -> [Option<(i64, u32)>; 11] {
 // 2021-01-02T02:04:00Z.
 const MINUTE: Option<(i64, u32)> = Some((1_609_553_040, 0));
 
-#[test]
-fn fields_of_formats(rt: HostRuntime) {
-    let wanted = [
-        HALF, HALF, HALF, HALF, HALF, HALF, HALF, MINUTE, WHOLE, WHOLE, WHOLE,
-    ];
-    assert!(rt; formats() == wanted);
-}
+static FORMATS: [Option<(i64, u32)>; 11] = [
+    HALF, HALF, HALF, HALF, HALF, HALF, HALF, MINUTE, WHOLE, WHOLE, WHOLE,
+];
 
 // The first sixteen bytes of `20210102T030405` and one byte more.
 fn basic() -> Window {
@@ -124,22 +115,25 @@ fn any() -> Window {
 }
 
 // What they take.
-fn windows() -> [bool; 3] {
+fn windows_take_digits() -> bool {
     let windows = Windows {
         prefix: basic(),
         back: any(),
         back_at: 0,
     };
-    [
-        Moves::checked([16; 16]).is_none(),
-        Moves::checked([15; 16]).is_some(),
-        windows.digits_of(b"20210102T030405Z").0,
-    ]
+    Moves::checked([16; 16]).is_none()
+        && Moves::checked([15; 16]).is_some()
+        && windows.digits_of(b"20210102T030405Z").0
 }
 
 #[test]
-fn windows_of_a_layout(rt: HostRuntime) {
-    assert!(rt; windows() == [true; 3]);
+fn fields_and_what_finds_them(rt: HostRuntime) {
+    assert!(rt;
+        moments() == [HALF, HALF, None]
+            && are_years_and_minutes(Year::new(2023))
+            && formats() == FORMATS
+            && windows_take_digits()
+    );
 }
 
 // What the plan of a list of items reads of a line.
@@ -177,18 +171,19 @@ static LETTERS: [(&str, &[u8]); 3] = [
     ("%s", b"1609553045"),
 ];
 
-#[test]
-fn plans(rt: HostRuntime) {
+fn letters_are_planned(alloc: Global) -> bool {
     for row in &LETTERS {
-        assert!(rt; planned_by_letters(rt.alloc(), row.0, row.1) == [WHOLE; 2]);
+        if planned_by_letters(alloc, row.0, row.1) != [WHOLE; 2] {
+            return false;
+        }
     }
+    true
 }
 
-#[test]
-fn assumed_offsets(rt: HostRuntime) {
-    let behind = UtcOffset::from_hms(-1, -30, 0).unwrap_or(UtcOffset::UTC);
-    let minutes = [minutes_of(Some(behind)), minutes_of(None)];
-    assert!(rt; minutes == [Some(-90), None] && assumed_minutes(behind) == -90);
+fn offsets_are_assumed(behind: UtcOffset) -> bool {
+    minutes_of(Some(behind)) == Some(-90)
+        && minutes_of(None) == None
+        && assumed_minutes(behind) == -90
 }
 
 // The minutes that count for lines without an offset.
@@ -291,11 +286,13 @@ static PLANNED: [(&str, &str, Option<(i64, u32)>); 30] = [
     (UNIX, "1609553045.5", HALF),
 ];
 
-#[test]
-fn plans_of_descriptions(rt: HostRuntime) {
+fn descriptions_are_planned(alloc: Global) -> bool {
     for row in &PLANNED {
-        assert!(rt; planned(rt.alloc(), row.0, row.1.as_bytes()) == row.2);
+        if planned(alloc, row.0, row.1.as_bytes()) != row.2 {
+            return false;
+        }
     }
+    true
 }
 
 // Months by their long names, and clocks in halves of the day.
@@ -321,23 +318,35 @@ static NAMED: [(&str, Option<(i64, u32)>); 19] = [
     ("02 January 2021 02:04:05 MM", None),
 ];
 
-#[test]
-fn named_months_and_halves_of_days(rt: HostRuntime) {
+fn names_are_read(alloc: Global) -> bool {
     for row in &NAMED {
-        let read = by_parts(rt.alloc(), row.0.as_bytes(), b"02 January 2021 02:04:05");
-        assert!(rt; read == [row.1, None]);
+        if by_parts(alloc, row.0.as_bytes(), b"02 January 2021 02:04:05") != [row.1, None] {
+            return false;
+        }
     }
     let night = by_parts(
-        rt.alloc(),
+        alloc,
         b"02 January 2021 02:04:05 AM",
         b"02 January 2021 02:04:05 AM and more",
     );
-    assert!(rt; night == [WHOLE; 2]);
+    night == [WHOLE; 2]
+}
+
+fn pieces_of_rfc2822_are_read() -> bool {
+    parsing_rfc2822::past_spacing(b" (UTC) Tue") == b"Tue".as_slice()
+        && parsing_rfc2822::zone_of(b"EST") == Some(5)
+        && parsing_rfc2822::is_plain_comment(b" (UTC)")
 }
 
 #[test]
-fn pieces_of_rfc2822(rt: HostRuntime) {
-    let rest = parsing_rfc2822::past_spacing(b" (UTC) Tue");
-    assert!(rt; (parsing_rfc2822::zone_of(b"EST"), rest) == (Some(5), b"Tue".as_slice()));
-    assert!(rt; parsing_rfc2822::is_plain_comment(b" (UTC)"));
+fn plans_and_pieces(rt: HostRuntime) {
+    let alloc = rt.alloc();
+    let behind = UtcOffset::from_hms(-1, -30, 0).unwrap_or(UtcOffset::UTC);
+    assert!(rt;
+        letters_are_planned(alloc)
+            && offsets_are_assumed(behind)
+            && descriptions_are_planned(alloc)
+            && names_are_read(alloc)
+            && pieces_of_rfc2822_are_read()
+    );
 }

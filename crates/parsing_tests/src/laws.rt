@@ -12,10 +12,6 @@ fn readings() {
     parsing_laws::two_roads::two_formats();
     parsing_values::date_laws::one_day();
     parsing_values::laws::three_instants();
-}
-
-#[test]
-fn nodes() {
     laws::tried_at_most_nodes();
     laws::few_nodes();
 }

@@ -49,14 +49,15 @@ fn instant(fields: Option<Fields>) -> Option<(i64, u32)> {
 // 2021-01-02T02:04:05.5Z.
 const HALF: Option<(i64, u32)> = Some((1_609_553_045, 500_000_000));
 
-#[test]
-fn parts_at_once(rt: HostRuntime) {
-    let plain = read_moment(&basic(), false, b"20210102T030405.5+0100");
-    let small = read_small_moment(&basic(), b"20210102T020405.5z");
-    let long = read_long_moment(&basic(), true, b"20210102T030405.50000000099+01:00");
-    let late = read_moment(&basic(), true, b"20210132T030405Z");
-    let instants = [instant(plain), instant(small), instant(long), instant(late)];
-    assert!(rt; instants == [HALF, HALF, HALF, None]);
+fn parts_at_once() -> bool {
+    let basic = basic();
+    let instants = [
+        instant(read_moment(&basic, false, b"20210102T030405.5+0100")),
+        instant(read_small_moment(&basic, b"20210102T020405.5z")),
+        instant(read_long_moment(&basic, true, b"20210102T030405.50000000099+01:00")),
+        instant(read_moment(&basic, true, b"20210132T030405Z")),
+    ];
+    instants == [HALF, HALF, HALF, None]
 }
 
 // `02/Jan/2021:03:04:05 +0100`, as web servers write it.
@@ -93,14 +94,13 @@ fn logged() -> Shape
     }
 }
 
-#[test]
-fn parts_beside_a_name(rt: HostRuntime) {
+fn parts_beside_a_name() -> bool {
     let logged = logged();
     let instants = [
         instant(read_named_moment(&logged, 12, b"31/Dec/1999:23:59:59 -0330")),
         instant(read_named_moment(&logged, 11, b"31/Nov/1999:23:59:59 -0330")),
     ];
-    assert!(rt; instants == [Some((946_697_399, 0)), None]);
+    instants == [Some((946_697_399, 0)), None]
 }
 
 // The moment on the day of a month that two numbers name.
@@ -109,15 +109,20 @@ fn on_day(numbers: Option<Numbers>) -> Option<(i64, u32)> {
     instant(numbers.on_day(numbers.high, numbers.low))
 }
 
-#[test]
-fn numbers_at_once(rt: HostRuntime) {
+fn numbers_at_once() -> bool {
+    let basic = basic();
     let days = [
-        on_day(read_numbers(&basic(), false, true, b"20210102T030405.5+0100")),
-        on_day(read_long_numbers(&basic(), true, b"20210102T030405.50000000099+01:00")),
-        on_day(read_numbers(&basic(), true, true, b"20210132T030405Z")),
-        on_day(read_numbers(&basic(), true, false, b"20210102T030405.5Z")),
+        on_day(read_numbers(&basic, false, true, b"20210102T030405.5+0100")),
+        on_day(read_long_numbers(&basic, true, b"20210102T030405.50000000099+01:00")),
+        on_day(read_numbers(&basic, true, true, b"20210132T030405Z")),
+        on_day(read_numbers(&basic, true, false, b"20210102T030405.5Z")),
     ];
-    assert!(rt; days == [HALF, HALF, None, None]);
+    days == [HALF, HALF, None, None]
+}
+
+#[test]
+fn moments_by_shapes(rt: HostRuntime) {
+    assert!(rt; parts_at_once() && parts_beside_a_name() && numbers_at_once());
 }
 
 // `2021-01-02 03:04:05`.
@@ -158,33 +163,33 @@ fn split(text: &[u8]) -> Option<(Sums, u32)> {
     Some((sums, fraction.nanosecond()))
 }
 
-#[test]
-fn shapes_made_for_parts(rt: HostRuntime) {
-    let sums = [
-        stamped(b"2021-01-02 03:04:05"),
-        stamped(b"2021-01-02 03:04-05"),
-    ];
-    assert!(rt; sums == [Some((129, 184, 0, 320)), None]);
-    let split = [
-        split(b"2021-01-02 03:04:05250Z"),
-        split(b"2021-01-02 03:04:05250z"),
-    ];
-    assert!(rt; split == [Some(((129, 184, 0, 320), 250_000_000)), None]);
+fn shapes_are_made() -> bool {
+    stamped(b"2021-01-02 03:04:05") == Some((129, 184, 0, 320))
+        && stamped(b"2021-01-02 03:04-05") == None
+        && split(b"2021-01-02 03:04:05250Z") == Some(((129, 184, 0, 320), 250_000_000))
+        && split(b"2021-01-02 03:04:05250z") == None
 }
 
-#[test]
-fn what_has_no_shape(rt: HostRuntime) {
-    assert!(rt; Front::of_parts(&[Part::Bare(Field::Hour)], false, false).is_none());
-    assert!(rt; last_bytes_of(&[Part::Digits(Field::OffsetHour, 2)], true).is_none());
+// What has no shape.
+fn no_shapes_are_made() -> bool {
+    Front::of_parts(&[Part::Bare(Field::Hour)], false, false).is_none()
+        && last_bytes_of(&[Part::Digits(Field::OffsetHour, 2)], true).is_none()
 }
 
-#[test]
-fn names_at_places(rt: HostRuntime) {
-    let names = [
+fn names_at_places() -> [Option<u8>; 4] {
+    [
         month_name_at(b"02/Dec/2021", 3),
         month_name_at(b"02/dec/2021", 3),
         weekday_name_at(b"Sun Jan", 0),
         weekday_name_at(b"Son Jan", 0),
-    ];
-    assert!(rt; names == [Some(12), None, Some(7), None]);
+    ]
+}
+
+#[test]
+fn shapes_and_names(rt: HostRuntime) {
+    assert!(rt;
+        shapes_are_made()
+            && no_shapes_are_made()
+            && names_at_places() == [Some(12), None, Some(7), None]
+    );
 }

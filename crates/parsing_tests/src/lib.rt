@@ -1,5 +1,6 @@
-//! Tests of what takes types: items and records made by hand, parts of dates and moments, refusals, laws. What texts are
-//! read as stands in the rows of the program `rows`.
+//! Tests of the crates of descriptions and of readings by what takes types: modifiers, trees and their copies, items and
+//! records made by hand, parts of dates and moments, refusals, laws. What texts are read as stands in the rows of the
+//! program `rows`.
 #![tactic(auto)]
 
 #[cfg(test)]
@@ -9,6 +10,8 @@ mod asctime;
 #[cfg(test)]
 mod bounds;
 #[cfg(test)]
+mod builders;
+#[cfg(test)]
 mod components;
 #[cfg(test)]
 mod dates;
@@ -17,9 +20,13 @@ mod errors;
 #[cfg(test)]
 mod fields;
 #[cfg(test)]
+mod items;
+#[cfg(test)]
 mod laws;
 #[cfg(test)]
 mod layouts;
+#[cfg(test)]
+mod memory;
 #[cfg(test)]
 mod moments;
 #[cfg(test)]
@@ -30,3 +37,9 @@ mod printed;
 mod records;
 #[cfg(test)]
 mod strides;
+#[cfg(test)]
+mod support;
+#[cfg(test)]
+mod trees;
+#[cfg(test)]
+mod words;

@@ -47,12 +47,11 @@ const LEAP_SECOND: TimeParts = TimeParts {
     ..AFTERNOON
 };
 
-#[test]
-fn times(rt: HostRuntime) {
+fn times_are_named() -> bool {
     let end = Time::from_hms_nano(15, 59, 59, 999_999_999).unwrap_or(Time::MIDNIGHT);
-    let permitted = permitted_time(true, 15, 59, 60, 0);
-    assert!(rt; (time(true, &LEAP_SECOND), permitted) == (Ok(end), Ok(end)));
-    assert!(rt; hour(&AFTERNOON) == Some(23));
+    time(true, &LEAP_SECOND) == Ok(end)
+        && permitted_time(true, 15, 59, 60, 0) == Ok(end)
+        && hour(&AFTERNOON) == Some(23)
 }
 
 // Where the hour is 0 the minutes have the sign.
@@ -68,11 +67,6 @@ const WEST: OffsetParts = OffsetParts {
     second: None,
 };
 
-#[test]
-fn offsets(rt: HostRuntime) {
-    assert!(rt; offset(&BEHIND).map(UtcOffset::whole_seconds) == Ok(-1800));
-}
-
 // 1990-12-31T15:59:60, where a leap second is permitted.
 const LEAP: MomentParts = MomentParts {
     date: LAST_DAY,
@@ -82,20 +76,19 @@ const LEAP: MomentParts = MomentParts {
 };
 
 // Whether each kind of instant, and the wall clock, is named on this day.
-fn are_named(day: Date) -> [bool; 4] {
+fn are_named(day: Date) -> bool {
     let utc = UtcDateTime::new(day, Time::MAX);
     let moment = offset_date_time(&LEAP, &WEST);
     let wall = plain_date_time(false, &LAST_DAY, &AFTERNOON);
-    [
-        moment.map(OffsetDateTime::unix_timestamp_nanos) == Ok(utc.unix_timestamp_nanos()),
-        utc_date_time(&LEAP, &WEST) == Ok(utc),
-        timestamp(&LEAP, &WEST) == Ok(utc.into()),
-        wall.map(PlainDateTime::date) == Ok(day),
-    ]
+    moment.map(OffsetDateTime::unix_timestamp_nanos) == Ok(utc.unix_timestamp_nanos())
+        && utc_date_time(&LEAP, &WEST) == Ok(utc)
+        && timestamp(&LEAP, &WEST) == Ok(utc.into())
+        && wall.map(PlainDateTime::date) == Ok(day)
 }
 
 #[test]
-fn instants(rt: HostRuntime) {
+fn times_offsets_and_instants(rt: HostRuntime) {
+    let behind = offset(&BEHIND).map(UtcOffset::whole_seconds);
     let day = Date::from_calendar_date(1990, Month::December, 31).unwrap_or(Date::MIN);
-    assert!(rt; are_named(day) == [true; 4]);
+    assert!(rt; times_are_named() && behind == Ok(-1800) && are_named(day));
 }

@@ -1,5 +1,5 @@
-//! The lines at the head of the crate `parsing`.
-use description::{BorrowedFormatItem, parse};
+//! The lines at the heads of the crates `description` and `parsing`.
+use description::{BorrowedFormatItem, parse, parse_strftime_borrowed};
 use parsing::{Items, Parsable, Rfc2822, Rfc3339};
 use std::test::Fail;
 
@@ -11,7 +11,18 @@ fn readings(items: &[BorrowedFormatItem<'_>]) -> [bool; 3] {
 }
 
 #[test]
-fn page(rt: HostRuntime) -> Result<(), Fail> {
+fn description_page(rt: HostRuntime) -> Result<(), Fail> {
+    let alloc = rt.alloc();
+    let items = parse(alloc, "[day]/[month]")?;
+    let letters = parse_strftime_borrowed(alloc, "%d/%m")?;
+    assert!(rt; items.as_slice() == letters.as_slice());
+    let refused = format!(in alloc; "{:?}", parse(alloc, "[day]/[month").err())?;
+    assert!(rt; refused.as_str() == "Some(Description(UnclosedOpeningBracket { index: 6 }))");
+    Ok(())
+}
+
+#[test]
+fn parsing_page(rt: HostRuntime) -> Result<(), Fail> {
     let items = parse(
         rt.alloc(),
         "[day].[month].[year], [hour]:[minute] [offset_hour]",

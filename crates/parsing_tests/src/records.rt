@@ -112,18 +112,12 @@ fn is_printed(alloc: Global, parsed: &Parsed, minutes: &str) -> bool {
     }
 }
 
-#[test]
-fn fields_are_set(rt: HostRuntime) {
+fn fields_are_set(alloc: Global) -> bool {
     let mut parsed = Parsed::new();
     parsed.remember_offset_sign(true);
-    assert!(rt; set_date(&mut parsed) == [Some(()); 13]);
-    assert!(rt; set_time(&mut parsed) == [Some(()); 12]);
-    assert!(rt; is_printed(rt.alloc(), &parsed, SIZES));
-}
-
-#[test]
-fn fields_are_given(rt: HostRuntime) {
-    assert!(rt; is_printed(rt.alloc(), &timed(dated()), SIGNED));
+    let are_set = set_date(&mut parsed) == [Some(()); 13]
+        && set_time(&mut parsed) == [Some(()); 12];
+    are_set && is_printed(alloc, &parsed, SIZES)
 }
 
 // A century's sign is its number's, and that of 0 as it is said.
@@ -155,11 +149,18 @@ fn leap_second() -> Parsed {
     parsed
 }
 
-#[test]
-fn moments(rt: HostRuntime) {
-    let mut leap = leap_second();
-    assert!(rt; OffsetDateTime::try_from(leap).is_err());
+// The second of its moment, once it is permitted, and before there is none.
+fn permitted(mut leap: Parsed) -> Option<i64> {
+    if OffsetDateTime::try_from(leap).is_ok() {
+        return None;
+    }
     leap.permit_leap_second();
-    let moment = leap.offset_date_time();
-    assert!(rt; moment.map(OffsetDateTime::unix_timestamp) == Ok(662_687_999));
+    Some(leap.offset_date_time().ok()?.unix_timestamp())
+}
+
+#[test]
+fn fields_and_moments(rt: HostRuntime) {
+    let alloc = rt.alloc();
+    assert!(rt; fields_are_set(alloc) && is_printed(alloc, &timed(dated()), SIGNED));
+    assert!(rt; permitted(leap_second()) == Some(662_687_999));
 }

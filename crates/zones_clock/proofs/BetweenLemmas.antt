@@ -12,9 +12,9 @@ use Rattle.zones_clock.specs.declared.zone.Moments.{Moments}
 use Rattle.zones_clock.specs.declared.zone.Moments.TheVariants.{Skipped, One}
 use Rattle.zones_clock.specs.Steps.{InOrder, AreOffsets, IsOffset, no_step, offset_after, step_at}
 use Rattle.zones_clock.specs.Clock.{with_moment}
-use Rattle.zones_clock.specs.Search.{AllBegun, have_begun, has_next_begun, moment_between, IsSure}
+use Rattle.zones_clock.specs.Search.{AllBegun, have_begun, has_next_begun, moment_between}
 use Rattle.zones_clock.specs.AllMoments.{all_moments, moments_of, with_moments}
-use Rattle.zones_clock.proofs.ClockLemmas.{all_begun, le-true, le-false, lt-true, lt-false, less-or-not, next-order, offset_after-in}
+use Rattle.zones_clock.proofs.ClockLemmas.{le-true, le-false, lt-true, lt-false, less-or-not, next-order, offset_after-in}
 
 -- ---- filters
 
@@ -122,6 +122,11 @@ pub with_more : (found : Moments) (ms ns : List ℤ) → with_moments found (ms 
 with_more found [] ns = refl
 with_more found (m ∷ ms) ns = with_more (with_moment found m) ms ns
 
+-- all moments that can show a reading lie after so many steps, and before the next
+pub record IsSure (steps : List Step) (count : ℕ) (reading : ℤ) : Type 0 where
+  pub begun : AllBegun steps count (reading -ℤ pos 93_600)
+  pub next : count < length steps → (reading +ℤ pos 93_600) <ℤ (step_at steps count).from
+
 sure-begun : (steps : List Step) (reading : ℤ) (count : ℕ) (m : ℤ) → (reading -ℤ pos 93_600) ≤ℤ m → IsSure steps count reading → have_begun steps count m ≡ true
 sure-begun steps reading zero m le sure = refl
 sure-begun steps reading (suc count) m le sure = let begun = sure.begun count (omega arith) in le-true (step_at steps count).from m (omega (arith, ints, begun, le))
@@ -137,12 +142,11 @@ sure-between first steps reading count is sure =
     ] in
     rw (begun, next) refl
 
--- what is surely in a part is the answer; numbers may have gone through a call
-pub sure_moment : (first : ℤ) (steps : List Step) (count : ℕ) (reading passed given offset : ℤ) → passed ≡ reading → given ≡ offset → offset ≡ offset_after first steps count → InOrder steps
-    → IsOffset first → AreOffsets steps → count ≤ length steps → IsSure steps count passed → moments_of first steps reading ≡ One (reading -ℤ given)
+-- what is surely in a part is the answer; the offset may have gone through a call
+pub sure_moment : (first : ℤ) (steps : List Step) (count : ℕ) (reading given offset : ℤ) → given ≡ offset → offset ≡ offset_after first steps count → InOrder steps
+    → IsOffset first → AreOffsets steps → count ≤ length steps → IsSure steps count reading → moments_of first steps reading ≡ One (reading -ℤ given)
 unfolding moments_of
-sure_moment first steps count reading passed given offset at same is order one all within so =
-    let sure : IsSure steps count reading = subst (IsSure steps count) at so in
+sure_moment first steps count reading given offset same is order one all within sure =
     let listed = all_later first steps reading count order one all within sure.begun
     ∙ last_part first steps reading count order one all within sure.next
     ∙ sure-between first steps reading count (offset_after-in first steps count within one all) sure in
@@ -157,10 +161,6 @@ next_there steps count t b is holds = let h = sym is ∙ holds in elim (cases_lt
   | inr end ↦ let none : has_next_begun steps count t ≡ false = let no : nat_lt count (length steps) ≡ false = grind (arith, nat_tests, end) in rw no refl in absurd (true-false h none)
 ]
 
-begun-all : (steps : List Step) (count : ℕ) (t : ℤ) → InOrder steps → count ≤ length steps → have_begun steps count t ≡ true → AllBegun steps count t
-begun-all steps zero t order within h i lt = absurd (omega (arith, lt))
-begun-all steps (suc count) t order within h i lt = all_begun steps count t order (omega arith) (grind (arith, ints, h)) i (omega arith)
-
 is-past : (steps : List Step) (count : ℕ) (reading latest : ℤ) → latest ≡ reading +ℤ pos 93_600 → has_next_begun steps count latest ≡ false → count < length steps → (reading +ℤ pos 93_600) <ℤ (step_at steps count).from
 is-past steps count reading latest e none lt = elim (less-or-not (reading +ℤ pos 93_600) (step_at steps count).from) [
   | inl past ↦ past
@@ -169,12 +169,12 @@ is-past steps count reading latest e none lt = elim (less-or-not (reading +ℤ p
       absurd (true-false begun none)
 ]
 
--- what two comparisons tell
-pub is_sure_of : (steps : List Step) (count : ℕ) (reading before after : ℤ) (a b : Bool) → before ≡ reading -ℤ pos 93_600 → after ≡ reading +ℤ pos 93_600 → InOrder steps → count ≤ length steps
-    → a ≡ have_begun steps count before → a ≡ true → b ≡ has_next_begun steps count after → b ≡ false → IsSure steps count reading
-is_sure_of steps count reading before after one other b a order within begun holds next fails = record {
-  begun = begun-all steps count (reading -ℤ pos 93_600) order within (subst (λ t. have_begun steps count t ≡ true) b (sym begun ∙ holds));
-  next = is-past steps count reading after a (sym next ∙ fails);
+-- steps that have begun well before the first of readings, and none up to well after the last
+pub sure_through : (steps : List Step) (count : ℕ) (first last reading before after : ℤ) (b : Bool) → before ≡ first -ℤ pos 93_600 → after ≡ last +ℤ pos 93_600 → first ≤ℤ reading → reading ≤ℤ last
+    → AllBegun steps count before → b ≡ has_next_begun steps count after → b ≡ false → IsSure steps count reading
+sure_through steps count first last reading before after b one other from to begun next fails = record {
+  begun = λ i lt. let at = begun i lt in omega (arith, ints, at, one, from);
+  next = λ lt. let past = is-past steps count last after other (sym next ∙ fails) lt in omega (arith, ints, past, to);
 }
 
 -- ---- the search, part after part; numbers may have gone through a call

@@ -1,5 +1,5 @@
 -- What the search for moments goes by, part after part: only clauses of private functions cite these.
-use Rattle.std.specs.Prelude.{pos, ℕ, zero, suc, ◌<◌, nat_lt, Bool, true, ◌&&◌, not, ℤ, ◌<ℤ◌, ◌≤ℤ◌, int_le, ◌+ℤ◌, ◌-ℤ◌, length, List, [], ◌∷◌}
+use Rattle.std.specs.Prelude.{ℕ, zero, suc, ◌<◌, nat_lt, Bool, true, ◌&&◌, not, ℤ, ◌<ℤ◌, ◌≤ℤ◌, int_le, ◌-ℤ◌, length, List, [], ◌∷◌}
 use Rattle.std.specs.List.{filter}
 use Rattle.zones_clock.specs.declared.zone.Step.{Step}
 use Rattle.zones_clock.specs.Steps.{offset_after, step_at}
@@ -24,8 +24,3 @@ has_next_begun steps count moment = nat_lt count (length steps) && int_le (step_
 -- the moment at which a clock with the offset after so many steps shows a reading, if it lies after them and before the next
 abbrev pub moment_between : ℤ → List Step → ℤ → ℕ → List ℤ
 moment_between first steps reading count = filter (λ m. have_begun steps count m && not (has_next_begun steps count m)) ((reading -ℤ offset_after first steps count) ∷ [])
-
--- all moments that can show a reading lie after so many steps, and before the next
-pub record IsSure (steps : List Step) (count : ℕ) (reading : ℤ) : Type 0 where
-  pub begun : AllBegun steps count (reading -ℤ pos 93_600)
-  pub next : count < length steps → (reading +ℤ pos 93_600) <ℤ (step_at steps count).from

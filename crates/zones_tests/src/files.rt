@@ -78,7 +78,7 @@ fn tell_moments(told: &mut String, moments: Moments) -> Told {
 fn tell_sure(told: &mut String, zone: &Zone, reading: i64) -> Told
     requires { IsReading reading }
 {
-    match zone.sure_offset(reading) {
+    match zone.sure_offset(reading, reading) {
         Some(offset) => writeln!(told, "one {}", reading - i64::from(offset)),
         None => told.push_str("near\n"),
     }

@@ -8,6 +8,7 @@ ghost use Rattle.instants_sources.specs.Grammar.{grammar_of};
 ghost use Rattle.instants_found.specs.Found.{found, found_in, looked_at};
 ghost use Rattle.instants_found.specs.Doubts.{doubt_of};
 ghost use Rattle.instants_found.specs.Finder.{limit_of, sources_of};
+ghost use Rattle.instants_found.specs.KeptDays.{IsKept};
 ghost use Rattle.instants_found.specs.Keys.{IsKeyedBy};
 ghost use Rattle.instants_found.specs.Marks.{AreMarks};
 ghost use Rattle.instants_found.specs.Starts.{CannotStand, HasNoDate, IsNoDate, MarkPlaces};
@@ -20,6 +21,7 @@ use crate::doubt::Doubted;
 use crate::finder::Finder;
 use crate::finding::{at_place, may_read, plain_at};
 use crate::found::{Finding, Found};
+use crate::kept_day::KeptDay;
 use crate::keys::{KeyedLine, REACH};
 use crate::lanes::LANES;
 use crate::marks::Marks;
@@ -297,15 +299,23 @@ impl<'a> Finder<'a> {
 
     // The date of the bytes that are looked at, where none begins before a place.
     #[inline(always)]
-    fn find_in(&self, given: &Given, line: &[u8], first: usize) -> Option<Finding>
+    fn find_in(
+        &self,
+        given: &Given,
+        kept: &mut KeptDay,
+        line: &[u8],
+        first: usize,
+    ) -> Option<Finding>
         requires within { first < length line.now }
         requires passed { HasNoDate (sources_of self.now) line.now 0 first }
-        ensures { result ≡ found_in (limit_of self.now) given.now (sources_of self.now) line.now }
+        requires kept { IsKept given.now.zone kept.old }
+        ensures kept { IsKept given.now.zone kept.new }
+        ensures is { result ≡ found_in (limit_of self.now) given.now (sources_of self.now) line.now }
     {
         let end = self.end(line);
         let mut start = first;
         while start < end {
-            if let Some(finding) = at_place(self.sources.as_slice(), given, line, start) {
+            if let Some(finding) = at_place(self.sources.as_slice(), given, kept, line, start) {
                 return Some(finding);
             }
             let Some(next) = self.next_start(line, start + 1) else {
@@ -317,17 +327,26 @@ impl<'a> Finder<'a> {
     }
 
     /// The date of a line with what is given, where none begins before a place, as `find` finds it: `undated_len` gives such a
-    /// place. The two calls are for a caller that makes room for a date only where one may begin.
+    /// place. The two calls are for a caller that makes room for a date only where one may begin. What is kept of a zone's clock from
+    /// date to date spares time alone.
     #[inline(always)]
     #[tactic(auto, unfolding(crate::specs::Found::found))]
-    pub fn find_from(&self, given: &Given, line: &[u8], first: usize) -> Option<Finding>
+    pub fn find_from(
+        &self,
+        given: &Given,
+        kept: &mut KeptDay,
+        line: &[u8],
+        first: usize,
+    ) -> Option<Finding>
+        requires kept { IsKept given.now.zone kept.old }
         requires within { first < length (looked_at (limit_of self.now) line.now) }
         requires passed { HasNoDate (sources_of self.now) (looked_at (limit_of self.now) line.now) 0 first }
+        ensures kept { IsKept given.now.zone kept.new }
         ensures found { result ≡ found (limit_of self.now) given.now (sources_of self.now) line.now }
         ensures within { IfSome result
             (IsWithin (limit_of self.now) line.now (length (sources_of self.now))) }
     {
-        self.find_in(given, self.looked_at(line), first)
+        self.find_in(given, kept, self.looked_at(line), first)
     }
 
     /// The date of a line where nothing is given, if none begins before a place, which isn't inside a word, and the date there is
@@ -363,7 +382,7 @@ impl<'a> Finder<'a> {
         let Some(start) = self.undated_len(line) else {
             return None;
         };
-        self.find_from(given, line, start)
+        self.find_from(given, &mut KeptDay::none(), line, start)
     }
 
     /// Why what one source reads at a place is in doubt, with what is given: `find` gives such a place. `None` where the source of

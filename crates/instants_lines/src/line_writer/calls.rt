@@ -23,7 +23,7 @@ use crate::located::{write_finding, write_part};
 use crate::parts::{tabbed, write_keyed, write_labelled, write_three};
 use calendar::UtcOffset;
 use instants_answers::{Answer, rfc3339_line};
-use instants_found::{Finding, Found};
+use instants_found::{Finding, Found, KeptDay};
 use instants_lines_words::{LinePart, Mode};
 use instants_prefixes::{Given, Years};
 use instants_stream::{ByteWriter, DeviceFailed};
@@ -56,6 +56,7 @@ impl<'a, 'b, 'p> LineWriter<'a, 'b, 'p> {
             tabbed: tabbed(key),
             storage: Answer::new(),
             indent: None,
+            kept: KeptDay::none(),
         }
     }
 
@@ -100,6 +101,7 @@ impl<'a, 'b, 'p> LineWriter<'a, 'b, 'p> {
                 tabbed: tabbed(self.storage),
                 storage: self.storage,
                 indent: Some(depth(line)),
+                kept: self.kept,
             };
         }
     }
@@ -263,7 +265,12 @@ impl<'a, 'b, 'p> LineWriter<'a, 'b, 'p> {
             (keyed (going_of self.old) line.now ++ line_feed ∷ []) }
         ensures next { OnOk result (going_of self.new ≡ below (going_of self.old) line.now) }
     {
-        let finding = self.dates.finder.find_from(&self.given(), line, first);
+        let mut kept = self.kept;
+        let finding = self
+            .dates
+            .finder
+            .find_from(&self.given(), &mut kept, line, first);
+        self.kept = kept;
         let key = tabbed(self.take_key(line, finding));
         write_keyed(writer, &key, &self.label, line)
     }

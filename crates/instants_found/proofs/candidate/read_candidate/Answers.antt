@@ -17,5 +17,5 @@ returns-then-not-is_read-clause-is c =
 pub returns-clause-is : goal.returns-clause-is
 returns-clause-is c =
     ap Some c.candidate_with.ensures
-    ∙ made c.args.given.now c.args.line.now c.args.start c.args.number (grammar_in c.args.source.now) c.in-Some.prefix c.of-date.result c.why-doubt.result (rw c.after-bytes.ensures at c.in-Some.ensures.prefix)
-    (sym c.if-not-is_read.false ∙ c.is_read.ensures) c.of-date.ensures.is c.why-doubt.ensures
+    ∙ made c.args.given.now c.args.line.now c.args.start c.args.number (grammar_in c.args.source.now) c.in-Some.prefix c.alone-date.result c.why-doubt.result (rw c.after-bytes.ensures at c.in-Some.ensures.prefix)
+    (sym c.if-not-is_read.false ∙ c.is_read.ensures) c.alone-date.ensures.is c.why-doubt.ensures

@@ -11,4 +11,4 @@ pub returns-clause-within : goal.returns-clause-within
 unfolding found
 returns-clause-within c =
     let P : Option Finding → Type 0 = λ o. IfSome o (IsWithin (limit_of c.args.self.now) c.args.line.now (length (sources_of c.args.self.now))) in
-    subst P (sym (rw c.looked_at.ensures at c.find_in.ensures)) (found_within (limit_of c.args.self.now) c.args.given.now (sources_of c.args.self.now) c.args.line.now)
+    subst P (sym (rw c.looked_at.ensures at c.find_in.ensures.is)) (found_within (limit_of c.args.self.now) c.args.given.now (sources_of c.args.self.now) c.args.line.now)

@@ -1,8 +1,0 @@
-//! What is shown for debugging.
-
-use std::fmt::Debug;
-
-// Adds a value on a line of its own. Where memory runs out the line is missing, which fails the test.
-pub fn tell<T: Debug + Drop>(told: &mut String, value: T) {
-    let _ = write!(told, "\n{value:?}");
-}

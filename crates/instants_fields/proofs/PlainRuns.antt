@@ -1,0 +1,47 @@
+-- Runs of bytes that stand for themselves.
+use Rattle.std.proofs.Common.{◌≡◌, ◌∙◌, ℕ, zero, suc, ◌<◌, ◌≤◌, max, Option, None, Bool, true, false, cond, nat_lt, List, [], ◌∷◌, length, drop, get_or, map, sym, ap, refl, arith}
+use Rattle.std.specs.Prelude.{bit_or}
+use Rattle.std.specs.Int.{bit_at}
+use Rattle.std.specs.Simd.Lanes.{mask_l}
+use Rattle.std.proofs.lemmas.Simd.{bit_mask_l}
+use Rattle.std.proofs.lemmas.List.{get_or-map}
+use Rattle.std.proofs.lemmas.Nat.Bits.{bit_at-zero, bit_at_or}
+use Rattle.std.proofs.lemmas.Bool.Decides.{nat_tests}
+use Rattle.instants_fields.specs.Pieces.{rest_of}
+use Rattle.instants_fields.specs.Strings.{string}
+use Rattle.instants_fields.specs.Laws.{IsPlain}
+use Rattle.instants_fields.proofs.PlainLemmas.{plain_character}
+use Rattle.instants_fields.proofs.StringLemmas.{behind_character, behind_one}
+
+none_where : (b : Bool) → cond {A = ℕ} b 1 0 ≡ 0 → b ≡ false
+none_where true h = absurd (omega (arith, h))
+none_where false h = refl
+
+-- a bit for each lane that passes a test
+pub bits_passing : (test : ℕ → Bool) (v : List ℕ) → length v ≡ 16 → (m : ℕ) → m ≡ mask_l (map test v) → (k : ℕ) → k < 16 → bit_at m k ≡ 0 → test (get_or v k 0) ≡ false
+bits_passing test v long m mask k lt none =
+    let bit : bit_at m k ≡ cond (test (get_or v k 0)) 1 0 = rw mask (bit_mask_l (map test v) k ∙ ap (λ (b : Bool). cond {A = ℕ} b 1 0) (get_or-map test v k 0 false (omega (arith, long, lt)))) in
+    none_where (test (get_or v k 0)) (sym bit ∙ none)
+
+pub either_none : (a b k : ℕ) → bit_at (bit_or a b) k ≡ 0 → (bit_at a k ≡ 0) × (bit_at b k ≡ 0)
+either_none a b k e = let most : max (bit_at a k) (bit_at b k) ≡ 0 = sym (bit_at_or a b k) ∙ e in (omega (arith, most), omega (arith, most))
+
+-- these are at the start of a text
+abbrev pub BeginPlain : ℕ → List ℕ → Type 0
+BeginPlain n text = (k : ℕ) → k < n → IsPlain (get_or text k 0)
+
+if_below : (n m : ℕ) (r : Option (List ℕ)) → n < m → cond (nat_lt n m) r None ≡ r
+if_below n m r lt = let b : nat_lt n m ≡ true = grind (arith, nat_tests, lt) in rw b refl
+
+pub pass_plain : (n : ℕ) (text : List ℕ) → n ≤ length text → BeginPlain n text → rest_of (string (drop n text)) ≡ rest_of (string text)
+pass_plain zero text within plain = refl
+pass_plain (suc n) [] within plain = refl
+pass_plain (suc n) (c ∷ text) within plain =
+    pass_plain n text (omega (arith, within)) (λ k lt. plain (suc k) (omega (arith, lt)))
+    ∙ sym (behind_character (c ∷ text) ∙ ap (behind_one (λ rest. rest_of (string rest)) (suc (length text))) (plain_character c text (plain 0 (omega arith))) ∙ if_below (length text) (suc (length text)) (rest_of (string text)) (omega arith))
+
+no_bit : (bits k : ℕ) → bits ≡ 0 → bit_at bits k ≡ 0
+no_bit bits k none = rw none (bit_at-zero k)
+
+pub plain_sixteen : (text : List ℕ) (bits : ℕ) → bits ≡ 0 → ((k : ℕ) → k < 16 → bit_at bits k ≡ 0 → IsPlain (get_or text k 0)) → BeginPlain 16 text
+plain_sixteen text bits none plain = λ k lt. plain k lt (no_bit bits k none)
