@@ -1,13 +1,13 @@
 -- Bytes that begin in no form of a list, by their first byte.
-use Rattle.std.proofs.Common.{◌≡◌, ◌∙◌, ℕ, suc, ◌+◌, ◌<◌, ◌≤◌, ◌==◌, Bool, true, false, List, [], ◌∷◌, length, take, drop, get_or, if◌then◌else◌, sym, ap, refl, arith}
+use Rattle.std.proofs.Common.{◌≡◌, ◌∙◌, ℕ, suc, ◌+◌, ◌-◌, ◌<◌, ◌≤◌, ◌==◌, Bool, true, false, List, [], ◌∷◌, length, take, drop, get_or, if◌then◌else◌, sym, ap, refl, arith}
 use Rattle.std.specs.List.{prefix_len}
-use Rattle.std.proofs.lemmas.List.{get_or-drop}
+use Rattle.std.proofs.lemmas.List.{get_or-drop, length-drop}
 use Rattle.std.specs.Prelude.{codes}
 use Rattle.std.specs.Char.{is_ascii_alphabetic, is_ascii_digit, is_ascii_lowercase, to_ascii_lowercase}
 use Rattle.std.proofs.Math.Bool.{and-false}
 use Rattle.std.proofs.lemmas.Bool.Decides.{nat_tests}
 use Rattle.instants_edges.specs.Edge.{is_sign}
-use Rattle.instants_edges.specs.Beside.{is_offset}
+use Rattle.instants_edges.specs.Beside.{is_offset, word_after}
 use Rattle.instants_edges.specs.Words.{fits, begin_so, begun, word, signs, names_of_utc, halves, clocks}
 
 -- a form is no longer than what begins in it
@@ -77,3 +77,18 @@ begins (byte ∷ bytes) first is = elim (is_ascii_alphabetic byte) as (λ b. get
 pub word_begins : (bytes : List ℕ) (from first : ℕ) → first ≡ get_or bytes from 0
     → get_or (take (prefix_len is_ascii_alphabetic (drop from bytes)) (drop from bytes)) 0 first ≡ first
 word_begins bytes from first is = begins (drop from bytes) first (is ∙ sym (get_or-drop from bytes 0 0 ∙ ap (λ k. get_or bytes k 0) (omega arith)))
+
+over_space : (bytes : List ℕ) (first : ℕ) → get_or bytes 0 0 ≡ 32 → 2 ≤ length bytes → first ≡ get_or bytes 1 0 → get_or (word_after bytes 0) 0 first ≡ first
+unfolding word_after
+over_space [] first space long is = absurd (omega (arith, long))
+over_space (byte ∷ []) first space long is = absurd (omega (arith, long))
+over_space (byte ∷ next ∷ rest) first space long is = rw space (begins (next ∷ take 46 rest) first is)
+
+-- neither a colour nor a fraction begins with a space, over which a word begins with the next byte
+pub word_over_space : (line : List ℕ) (ends first : ℕ) → ends ≤ length line → 2 ≤ length line - ends → get_or line ends 0 ≡ 32 → first ≡ get_or line (ends + 1) 0
+    → get_or (word_after line ends) 0 first ≡ first
+unfolding word_after
+word_over_space line ends first within long space is =
+    over_space (drop ends line) first
+    (get_or-drop ends line 0 0 ∙ ap (λ k. get_or line k 0) (omega arith) ∙ space) (omega (arith, length-drop ends line, within, long))
+    (is ∙ sym (get_or-drop ends line 1 0))

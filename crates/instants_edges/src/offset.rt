@@ -143,15 +143,28 @@ pub fn word_after(line: &[u8], ends: usize) -> &[u8]
     first_bytes(others, letters_length(others))
 }
 
-/// The byte with which that word begins, if it has one.
-#[inline(always)]
+// The byte with which that word begins, if it has one, over a colour or a fraction.
+#[inline(never)]
 #[tactic(auto, using(crate::proofs::FirstBytes::word_begins), unfolding(crate::specs::Beside::word_after))]
-pub fn first_after(line: &[u8], ends: usize) -> u8
-    requires ends { ends ≤ length line.now }
+fn first_behind(line: &[u8], ends: usize) -> u8
+    requires { ends ≤ length line.now }
     ensures { get_or (Beside.word_after line.now ends) 0 result ≡ result }
 {
     let bytes = near(after(line, ends));
     byte_at(bytes, usize::from(byte_at(bytes, 0) == b' '))
+}
+
+/// The byte with which that word begins, if it has one. Most dates have a space after them.
+#[inline(always)]
+#[tactic(auto, using(crate::proofs::FirstBytes::word_over_space))]
+pub fn first_after(line: &[u8], ends: usize) -> u8
+    requires ends { ends ≤ length line.now }
+    ensures { get_or (Beside.word_after line.now ends) 0 result ≡ result }
+{
+    if line.len() - ends >= 2 && line[ends] == b' ' {
+        return line[ends + 1];
+    }
+    first_behind(line, ends)
 }
 
 // Whether a sign and four digits stand at a place after no word.

@@ -14,3 +14,4 @@ pub mod NearFound
 pub mod OneFound
 pub mod Bounded
 pub mod NotEmpty
+mod SameYears

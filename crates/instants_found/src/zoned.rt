@@ -1,10 +1,11 @@
 //! Dates that say no offset, on the clock of a zone.
-ghost use Rattle.std.specs.Prelude.{◌≡◌, ◌<◌, ◌≤◌, ◌+◌, ◌*◌, ◌+ℤ◌, ◌<ℤ◌, pos, negsuc, ℕ, List, Some, None, true, drop, length, if◌then◌else◌};
+ghost use Rattle.std.specs.Prelude.{◌≡◌, ◌<◌, ◌≤◌, ◌+◌, ◌*◌, ◌+ℤ◌, ◌<ℤ◌, pos, negsuc, ℕ, List, Some, None, true, false, drop, length, if◌then◌else◌};
 ghost use Rattle.instants_prefixes.specs.DateSource.{grammar_in, IsWithin};
 ghost use Rattle.instants_prefixes.specs.Reading.{record_at};
 ghost use Rattle.instants_edges.specs.Beside.{is_any, word_after};
 ghost use Rattle.zones_clock.specs.AllMoments.{moments_of};
 ghost use Rattle.zones_clock.specs.Steps as Steps;
+ghost use Rattle.zones_clock.specs.Steps.{is_name};
 ghost use Rattle.datetime_wall.specs.Wall.{second_nanos};
 ghost use Rattle.parsing_values.specs.Moment.{moment_of};
 ghost use Rattle.parsing_values.specs.declared.fields.Fields.{Fields};
@@ -154,6 +155,16 @@ fn is_said(zone: &Zone, line: &[u8], start: usize, ends: usize, moment: i64) -> 
         && has_offset(zone, offset_said(line, ends), moment)
 }
 
+// Whether a space stands after a date, and none of the zone's abbreviations can begin behind it. `false` says nothing.
+#[inline(always)]
+#[tactic(auto, using(instants_edges::proofs::FirstBytes::word_over_space))]
+fn has_no_name(zone: &Zone, line: &[u8], ends: usize) -> bool
+    requires { ends ≤ length line.now }
+    ensures { result ≡ true → is_name zone.now.letters.items (word_after line.now ends) ≡ false }
+{
+    ends + 1 < line.len() && line[ends] == b' ' && !zone.can_begin(line[ends + 1])
+}
+
 // Whether a date is as most on the clock of a zone: its day is kept, the source reads no offset, and no abbreviation of the zone
 // can stand after the date. `false` says nothing.
 #[inline(always)]
@@ -182,7 +193,7 @@ fn is_usual(
     if !kept.has(fields) || !source.is_local() {
         return false;
     }
-    !zone.can_begin(first_after(line, start + prefix.ends))
+    has_no_name(zone, line, start + prefix.ends)
 }
 
 impl Settled {
@@ -197,19 +208,6 @@ impl Settled {
             prefix: Prefix { moment, ..prefix },
             offset: Some(offset),
             doubt,
-        }
-    }
-
-    // A date whose day is kept.
-    #[inline(always)]
-    fn on_day(kept: &KeptDay, prefix: Prefix) -> Settled
-        ensures { result ≡ Zoned.ahead_by prefix kept.now.offset None }
-    {
-        let moment = at_kept(&prefix.moment, kept);
-        Settled {
-            prefix: Prefix { moment, ..prefix },
-            offset: Some(kept.offset),
-            doubt: None,
         }
     }
 
@@ -348,17 +346,20 @@ impl Settled {
             (record_at (grammar_in source.now) (drop start line.now)) line.now start prefix }
         ensures within { (b : List ℕ) → IsWithin b prefix → IsWithin b result.prefix }
     {
-        let Some(zone) = given.zone else {
-            return Settled {
-                prefix,
-                offset: given.offset,
-                doubt: None,
-            };
-        };
-        if is_usual(zone, source, kept, line, start, &prefix) {
-            return Settled::on_day(kept, prefix);
+        let mut prefix = prefix;
+        let mut offset = given.offset;
+        if let Some(zone) = given.zone {
+            if !is_usual(zone, source, kept, line, start, &prefix) {
+                return Settled::on_zone(zone, source, given.offset, kept, line, start, prefix);
+            }
+            prefix.moment = at_kept(&prefix.moment, kept);
+            offset = Some(kept.offset);
         }
-        Settled::on_zone(zone, source, given.offset, kept, line, start, prefix)
+        Settled {
+            prefix,
+            offset,
+            doubt: None,
+        }
     }
 
     /// The same, where no day is kept.

@@ -19,6 +19,8 @@ pub(crate) struct Contents {
     pub(crate) has_unix_time: bool,
     /// A part of an offset.
     pub(crate) has_offset_part: bool,
+    /// A description's components, of which none is of these: each date takes the offset that is given.
+    pub(crate) is_local: bool,
 }
 
 /// Whether a component of a kind stands in a node: inside its choices too, or outside of all of them.
@@ -81,9 +83,13 @@ impl Contents {
     pub(crate) fn of(source: &Source<'_>) -> Contents
         ensures { AreContents (grammar_of source.now) result }
     {
+        let has_unix_time = may_stand(source, Kind::UnixTime);
+        let has_offset_part = may_stand(source, Kind::OffsetPart);
+        let is_described = matches!(source, Source::Items(_) | Source::V3(_));
         Contents {
-            has_unix_time: may_stand(source, Kind::UnixTime),
-            has_offset_part: may_stand(source, Kind::OffsetPart),
+            has_unix_time,
+            has_offset_part,
+            is_local: is_described && !(has_offset_part || has_unix_time),
         }
     }
 }

@@ -89,8 +89,7 @@ impl<'a> DateSource<'a> {
         ensures no_unix_time { result ≡ true → (bytes : List ℕ)
             → (record_at (grammar_in self.now) bytes).unix_timestamp_nanos ≡ None }
     {
-        let has_neither = !(self.contents.has_offset_part || self.contents.has_unix_time);
-        matches!(self.source, Source::Items(_) | Source::V3(_)) && has_neither
+        self.contents.is_local
     }
 
     /// The record that the source reads at the start of bytes: an empty one where it reads none.

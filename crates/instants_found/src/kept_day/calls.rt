@@ -1,5 +1,5 @@
 //! What is kept of a zone's clock, and which dates it is for.
-ghost use Rattle.std.specs.Prelude.{◌↔◌, Some, Option, IfSome, IsTrue};
+ghost use Rattle.std.specs.Prelude.{◌↔◌, ◌≡◌, Some, Option, IfSome, IsTrue};
 ghost use Rattle.std.specs.Borrow.{Bor};
 ghost use Rattle.zones_clock.specs.declared.zone.Zone.{Zone};
 ghost use Rattle.instants_found.specs.KeptDays.{IsKept, IsOn};
@@ -10,6 +10,22 @@ use calendar::UtcOffset;
 use instants_sources::Named;
 use parsing_values::{Fields, Year};
 use zones_clock::Zone;
+
+// Whether two years are the same, by one comparison of their digits.
+#[inline(always)]
+fn is_same_year(year: Year, other: Year) -> bool
+    ensures { IsTrue result ↔ (year ≡ other) }
+{
+    u32::from_le_bytes(year.digits()) == u32::from_le_bytes(other.digits())
+}
+
+// Whether two days of a year are the same, by one comparison of both bytes.
+#[inline(always)]
+fn is_same_day(month: u8, day: u8, other_month: u8, other_day: u8) -> bool
+    ensures { IsTrue result ↔ ((month ≡ other_month) × (day ≡ other_day)) }
+{
+    u16::from_le_bytes([month, day]) == u16::from_le_bytes([other_month, other_day])
+}
 
 impl KeptDay {
     /// No day yet.
@@ -30,9 +46,8 @@ impl KeptDay {
     pub(crate) fn has(&self, fields: &Fields) -> bool
         ensures { IsTrue result ↔ IsOn self.now fields.now }
     {
-        let is_earlier = fields.year.is_before(self.year);
-        let is_later = self.year.is_before(fields.year);
-        !(is_earlier || is_later) && fields.month == self.month && fields.day == self.day
+        is_same_year(fields.year, self.year)
+            && is_same_day(fields.month, fields.day, self.month, self.day)
     }
 
     // The day of fields, where the clock of a zone is not changed near it and has whole minutes.
