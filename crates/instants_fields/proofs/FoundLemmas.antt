@@ -1,39 +1,59 @@
 -- The members of a name, one by one.
 use Rattle.std.proofs.Common.{◌≡◌, refl, sym, ◌∙◌, ℕ, ◌<◌, ◌≤◌, ◌==◌, Bool, true, false, ◌||◌, ◌&&◌, cond, nat_lt, List, [], ◌∷◌, length, take, drop, filter, Option, Some, None, ap, arith}
 use Rattle.std.specs.List.{list_all}
-use Rattle.instants_fields.specs.Pieces.{Piece, then_cut, ◌>>=◌, give, left, rest_of, then_more, with_first, repeated, byte, after_byte, without}
-use Rattle.instants_fields.specs.Strings.{is_text}
-use Rattle.instants_fields.specs.Json.{is_space, key, Item, item, item_named, closing, separator, turn_of, ended, turn, items, value}
+use Rattle.instants_fields.specs.Pieces.{Piece, then_cut, ◌>>=◌, ◌>>◌, give, left, rest_of, then_more, with_first, repeated, byte, after_byte, without}
+use Rattle.instants_fields.specs.Strings.{string, text_of, is_text}
+use Rattle.instants_fields.specs.Compared.{says_after}
+use Rattle.instants_fields.specs.Json.{is_space, space, named, key, Item, item, item_named, closing, separator, turn_of, ended, turn, items, value}
 use Rattle.instants_fields.specs.Members.{has_name, found_in, first_of_all, object, longest, member_in, member_of, place_in}
-use Rattle.instants_fields.specs.Found.{named_so, noted, with_item, found_with, joined, found_of, AreWithin}
+use Rattle.instants_fields.specs.Found.{with_place, noted, with_item, found_with, joined, found_of, AreWithin}
+use Rattle.instants_fields.specs.declared.string.Character.{Character}
 use Rattle.instants_fields.specs.declared.value.Kind.{Kind}
 use Rattle.instants_fields.specs.declared.json.Found.{Found}
 use Rattle.instants_fields.specs.declared.json.Member.{Member}
 use Rattle.instants_fields.proofs.Turns.{one_turn, if_below}
 
--- a member by its name and its value
-abbrev pub by_value : Option Found → Bool → ℕ → Option (Kind × List ℕ) → Option (Option Found × List ℕ)
-by_value found is_named before None = None
-by_value found is_named before (Some (k, rest)) =
+-- a member: its name between quotation marks, a colon, and its value
+abbrev pub by_value : Option Found → Bool → Option (ℕ × Kind × List ℕ) → Option (Option Found × List ℕ)
+by_value found is_named None = None
+by_value found is_named (Some (before, k, rest)) =
     Some (cond is_named (Some (noted found (record { kind = k; before = before; after = length rest }))) found, rest)
 
-abbrev pub by_name : Option Found → Piece Kind → Option (Bool × List ℕ) → Option (Option Found × List ℕ)
-by_name found v None = None
-by_name found v (Some (is_named, rest)) = by_value found is_named (length rest) (v rest)
+abbrev pub by_colon : Option Found → Piece Kind → Bool → Option (List ℕ) → Option (Option Found × List ℕ)
+by_colon found v is_named None = None
+by_colon found v is_named (Some rest) = by_value found is_named (with_place (length (without is_space rest)) (v (without is_space rest)))
+
+abbrev pub by_name : Option Found → Piece Kind → Bool → Option (List ℕ) → Option (Option Found × List ℕ)
+by_name found v is_named None = None
+by_name found v is_named (Some rest) = by_colon found v is_named (rest_of (byte 58 (without is_space rest)))
+
+abbrev pub by_mark : List ℕ → Option Found → Piece Kind → Option (List ℕ) → Option (Option Found × List ℕ)
+by_mark name found v None = None
+by_mark name found v (Some text) = by_name found v (says_after None name (string text)) (rest_of (string text))
 
 value_of_member : (name : List ℕ) (found : Option Found) (its : Option (List ℕ)) (before : ℕ) (r : Option (Kind × List ℕ)) →
-    found_with name found (then_cut r (λ k. left >>= (λ after. give (record { name = its; extent = record { kind = k; before = before; after = after } })))) ≡ by_value found (is_text name its) before r
+    found_with name found (then_cut r (λ k. left >>= (λ after. give (record { name = its; extent = record { kind = k; before = before; after = after } })))) ≡ by_value found (is_text name its) (with_place before r)
 value_of_member name found its before None = refl
 value_of_member name found its before (Some (k, rest)) = refl
 
-name_of_member : (name : List ℕ) (found : Option Found) (v : Piece Kind) (r : Option (Option (List ℕ) × List ℕ)) →
-    found_with name found (then_cut r (item_named v)) ≡ by_name found v (named_so name r)
-name_of_member name found v None = refl
-name_of_member name found v (Some (its, rest)) = value_of_member name found its (length rest) (v rest)
+colon_of_member : (name : List ℕ) (found : Option Found) (v : Piece Kind) (its : Option (List ℕ)) (r : Option (Unit {0} × List ℕ)) →
+    found_with name found (then_cut (then_cut r (λ _. space >> give its)) (item_named v)) ≡ by_colon found v (is_text name its) (rest_of r)
+colon_of_member name found v its None = refl
+colon_of_member name found v its (Some (u, rest)) = value_of_member name found its (length (without is_space rest)) (v (without is_space rest))
 
-pub member_is : (name : List ℕ) (found : Option Found) (v : Piece Kind) (text : List ℕ) → found_with name found (item true v text) ≡ by_name found v (named_so name (key true text))
-unfolding item
-member_is name found v text = name_of_member name found v (key true text)
+name_of_member : (name : List ℕ) (found : Option Found) (v : Piece Kind) (r : Option (List Character × List ℕ)) →
+    found_with name found (then_cut (then_cut r (λ characters. space >> (byte 58 >> (space >> give (text_of characters))))) (item_named v)) ≡ by_name found v (says_after None name r) (rest_of r)
+name_of_member name found v None = refl
+name_of_member name found v (Some (characters, rest)) = colon_of_member name found v (text_of characters) (byte 58 (without is_space rest))
+
+mark_of_member : (name : List ℕ) (found : Option Found) (v : Piece Kind) (r : Option (Unit {0} × List ℕ)) →
+    found_with name found (then_cut (then_cut r (λ _. string >>= (λ characters. space >> (byte 58 >> (space >> give (text_of characters)))))) (item_named v)) ≡ by_mark name found v (rest_of r)
+mark_of_member name found v None = refl
+mark_of_member name found v (Some (u, text)) = name_of_member name found v (string text)
+
+pub member_is : (name : List ℕ) (found : Option Found) (v : Piece Kind) (text : List ℕ) → found_with name found (item true v text) ≡ by_mark name found v (rest_of (byte 34 text))
+unfolding item key named
+member_is name found v text = mark_of_member name found v (byte 34 text)
 
 -- ---- one member, and then the others
 

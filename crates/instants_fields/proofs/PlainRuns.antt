@@ -1,16 +1,21 @@
 -- Runs of bytes that stand for themselves.
-use Rattle.std.proofs.Common.{◌≡◌, ◌∙◌, ℕ, zero, suc, ◌<◌, ◌≤◌, max, Option, None, Bool, true, false, cond, nat_lt, List, [], ◌∷◌, length, drop, get_or, map, sym, ap, refl, arith}
+use Rattle.std.proofs.Common.{◌≡◌, ◌∙◌, ℕ, zero, suc, ◌+◌, ◌-◌, ◌<◌, ◌≤◌, max, Option, None, Some, Bool, true, false, cond, nat_lt, List, [], ◌∷◌, ◌++◌, length, take, drop, get_or, map, sym, ap, subst, inl, inr, refl, arith}
 use Rattle.std.specs.Prelude.{bit_or}
 use Rattle.std.specs.Int.{bit_at}
 use Rattle.std.specs.Simd.Lanes.{mask_l}
 use Rattle.std.proofs.lemmas.Simd.{bit_mask_l}
-use Rattle.std.proofs.lemmas.List.{get_or-map}
+use Rattle.std.specs.List.{AllByRecursion}
+use Rattle.std.specs.Str.{bytes_eq}
+use Rattle.std.proofs.lemmas.Bool.{cases_lt}
+use Rattle.std.proofs.lemmas.List.{get_or-map, get_or-drop, take-append-drop}
 use Rattle.std.proofs.lemmas.Nat.Bits.{bit_at-zero, bit_at_or}
 use Rattle.std.proofs.lemmas.Bool.Decides.{nat_tests}
 use Rattle.instants_fields.specs.Pieces.{rest_of}
-use Rattle.instants_fields.specs.Strings.{string}
+use Rattle.instants_fields.specs.Strings.{string, is_text}
+use Rattle.instants_fields.specs.Compared.{says_after}
+use Rattle.instants_fields.specs.declared.string.Character.TheVariants.{Plain}
 use Rattle.instants_fields.specs.Laws.{IsPlain}
-use Rattle.instants_fields.proofs.PlainLemmas.{plain_character}
+use Rattle.instants_fields.proofs.PlainLemmas.{plain_character, plain_string, plain_text}
 use Rattle.instants_fields.proofs.StringLemmas.{behind_character, behind_one}
 
 none_where : (b : Bool) → cond {A = ℕ} b 1 0 ≡ 0 → b ≡ false
@@ -39,6 +44,29 @@ pass_plain (suc n) [] within plain = refl
 pass_plain (suc n) (c ∷ text) within plain =
     pass_plain n text (omega (arith, within)) (λ k lt. plain (suc k) (omega (arith, lt)))
     ∙ sym (behind_character (c ∷ text) ∙ ap (behind_one (λ rest. rest_of (string rest)) (suc (length text))) (plain_character c text (plain 0 (omega arith))) ∙ if_below (length text) (suc (length text)) (rest_of (string text)) (omega arith))
+
+-- one run after another
+pub more_plain : (n m : ℕ) (text : List ℕ) → BeginPlain n text → BeginPlain m (drop n text) → BeginPlain (n + m) text
+more_plain n m text first next = λ k lt. elim (cases_lt k n) as (λ _. IsPlain (get_or text k 0)) [
+  | inl before ↦ first k before
+  | inr behind ↦
+      let at : get_or (drop n text) (k - n) 0 ≡ get_or text k 0 = get_or-drop n text (k - n) 0 ∙ ap (λ (i : ℕ). get_or text i 0) (omega (arith, behind)) in
+      subst IsPlain at (next (k - n) (omega (arith, lt, behind)))
+]
+
+all_plain : (n : ℕ) (text : List ℕ) → n ≤ length text → BeginPlain n text → AllByRecursion IsPlain (take n text)
+all_plain zero text within plain = tt
+all_plain (suc n) [] within plain = absurd (omega (arith, within))
+all_plain (suc n) (c ∷ text) within plain = (plain 0 (omega arith), all_plain n text (omega (arith, within)) (λ k lt. plain (suc k) (omega (arith, lt))))
+
+-- a string without escapes
+plain_cut : (n : ℕ) (text rest : List ℕ) → n ≤ length text → BeginPlain n text → drop n text ≡ 34 ∷ rest → string text ≡ Some (map Plain (take n text), rest)
+plain_cut n text rest within plain at_mark =
+    let whole : text ≡ take n text ++ (34 ∷ rest) = sym (take-append-drop n text) ∙ ap (λ (t : List ℕ). take n text ++ t) at_mark in
+    ap string whole ∙ plain_string (take n text) rest (all_plain n text within plain)
+
+pub plain_says : (n : ℕ) (name text rest : List ℕ) → n ≤ length text → BeginPlain n text → drop n text ≡ 34 ∷ rest → says_after None name (string text) ≡ bytes_eq name (take n text)
+plain_says n name text rest within plain at_mark = ap (says_after None name) (plain_cut n text rest within plain at_mark) ∙ ap (is_text name) (plain_text (take n text))
 
 no_bit : (bits k : ℕ) → bits ≡ 0 → bit_at bits k ≡ 0
 no_bit bits k none = rw none (bit_at-zero k)

@@ -1,8 +1,9 @@
 -- Strings, character by character.
-use Rattle.std.proofs.Common.{◌≡◌, refl, ◌∙◌, ℕ, ◌&&◌, Bool, true, false, cond, nat_lt, nat_eq, List, [], ◌∷◌, ◌++◌, length, take, drop, Option, Some, None, ap}
+use Rattle.std.proofs.Common.{◌≡◌, refl, ◌∙◌, ℕ, ◌==◌, ◌&&◌, Bool, true, false, cond, nat_lt, nat_eq, List, [], ◌∷◌, ◌++◌, length, take, drop, Option, Some, None, ap, arith}
 use Rattle.std.specs.Str.{bytes_eq}
+use Rattle.std.proofs.lemmas.Bool.Decides.{nat_tests}
 use Rattle.std.specs.Char.{encode_utf8}
-use Rattle.instants_fields.specs.Pieces.{Piece, then_cut, give, rest_of, then_more, with_first, repeated}
+use Rattle.instants_fields.specs.Pieces.{Piece, byte, then_cut, give, rest_of, then_more, with_first, repeated}
 use Rattle.instants_fields.specs.Strings.{character, turn, turn_of, string, is_text, text_after, after_bytes, is_high, is_low, pair}
 use Rattle.instants_fields.specs.Compared.{behind, matched, no_surrogate, says_after}
 use Rattle.instants_fields.specs.declared.string.Character.{Character}
@@ -23,6 +24,23 @@ as_turn more room (Some (Some c, rest)) = refl
 pub behind_character : (text : List ℕ) → rest_of (string text) ≡ behind_one (λ rest. rest_of (string rest)) (length text) (character text)
 unfolding string turn
 behind_character text = rest_of_turn turn text ∙ as_turn (λ rest. rest_of (repeated turn rest)) (length text) (character text)
+
+mark_if : (b : Bool) (c : ℕ) (more rest : List ℕ) → (c == 34) ≡ b → Some rest ≡ rest_of {A = Unit {0}} (cond b (Some (tt, more)) None) → c ∷ more ≡ 34 ∷ rest
+mark_if true c more rest e h = let is : c ≡ 34 = grind (arith, nat_tests, e) in cc
+mark_if false c more rest e h = cc
+
+-- a quotation mark, and what stands after it
+pub mark_first : (text rest : List ℕ) → Some rest ≡ rest_of (byte 34 text) → text ≡ 34 ∷ rest
+unfolding byte
+mark_first [] rest h = cc
+mark_first (c ∷ more) rest h = mark_if (c == 34) c more rest refl h
+
+at_mark : (rest : List ℕ) → rest_of (string (34 ∷ rest)) ≡ Some rest
+unfolding character
+at_mark rest = behind_character (34 ∷ rest)
+
+pub behind_mark : (text rest : List ℕ) → Some rest ≡ rest_of (byte 34 text) → rest_of (string text) ≡ Some rest
+behind_mark text rest h = ap (λ (t : List ℕ). rest_of (string t)) (mark_first text rest h) ∙ at_mark rest
 
 -- ---- what a string says
 

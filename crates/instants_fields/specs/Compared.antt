@@ -1,9 +1,14 @@
 -- How a name is compared, character by character. Only the crate's private clauses cite it.
 use Rattle.std.specs.Prelude.{ℕ, Bool, false, List, [], ◌∷◌, length, take, drop, Option, Some, None, option_map, bytes_eq, if◌then◌else◌}
+use Rattle.std.specs.Borrow.{Bor}
 use Rattle.std.specs.Char.{encode_utf8}
 use Rattle.instants_fields.specs.Strings.{is_high, is_low, pair, is_text, text_after}
 use Rattle.instants_fields.specs.declared.string.Character.{Character}
 use Rattle.instants_fields.specs.declared.string.Character.TheVariants.{Plain, Escaped}
+
+-- what stands after what a function cut off, whatever value it tells
+abbrev pub rest_after : {A : Type 0} → Option (A × Bor (List ℕ)) → Option (List ℕ)
+rest_after r = option_map (λ p. p.1.now) r
 
 -- what stands after some bytes
 abbrev pub behind : List ℕ → List ℕ → Option (List ℕ)

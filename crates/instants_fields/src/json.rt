@@ -1,13 +1,13 @@
 //! The member of a line that is one object in JSON, RFC 8259.
-ghost use Rattle.std.specs.Prelude.{◌≡◌, ◌≤◌, ◌<◌, ◌+◌, ℕ, true, IfSome, None, length, take, drop};
+ghost use Rattle.std.specs.Prelude.{◌≡◌, ◌≤◌, ◌<◌, ◌+◌, ℕ, true, IfSome, None, Some, length, take, drop};
 ghost use Rattle.instants_fields.specs.Pieces as Pieces;
 ghost use Rattle.instants_fields.specs.Json as Json;
 ghost use Rattle.instants_fields.specs.Members as Members;
 ghost use Rattle.instants_fields.specs.Found as Finding;
 
-use crate::space::{after_space, is_blank};
-use crate::string::{after_string, says};
-use crate::value::{Extent, Kind, closed, separator, value};
+use crate::space::{after_space, after_space_and, is_blank};
+use crate::string::compared;
+use crate::value::{Extent, Kind, closed, spaced_separator, spaced_value};
 
 /// Where in a line the value of a member lies.
 #[derive(Clone, Copy, Debug, PartialEq, Eq)]
@@ -30,21 +30,6 @@ pub(crate) struct Found {
 // The line's first bytes, in which the object has to end.
 const LONGEST: usize = 1_048_576;
 
-// Whether a member has a name, and what stands after the name and its colon.
-#[tactic(auto, unfolding(crate::specs::Json::key, crate::specs::Json::named, crate::specs::Pieces::byte))]
-fn named<'a>(name: &[u8], text: &'a [u8]) -> Option<(bool, &'a [u8])>
-    ensures cut { Pieces.cut_view result ≡ Finding.named_so name.now (Json.key true text.now) }
-    ensures shorter { IfSome result (λ p. length p.1.now ≤ length text.now) }
-{
-    let [b'"', quoted @ ..] = text else {
-        return None;
-    };
-    let [b':', rest @ ..] = after_space(after_string(quoted)?) else {
-        return None;
-    };
-    Some((says(name, quoted), after_space(rest)))
-}
-
 // What is found with one more member of the name.
 fn noted(found: Option<Found>, extent: Extent) -> Found
     ensures { result ≡ Finding.noted found extent }
@@ -61,61 +46,64 @@ fn noted(found: Option<Found>, extent: Extent) -> Found
     }
 }
 
-// One member: what is found with it, and what stands after its value.
-#[tactic(auto, unfolding(crate::specs::Json::item), using(crate::proofs::FoundLemmas::member_is))]
-fn find_in_member<'a>(
-    name: &[u8],
-    found: Option<Found>,
-    text: &'a [u8],
-) -> Option<(Option<Found>, &'a [u8])>
-    ensures cut { Pieces.cut_view result ≡ Finding.found_with name.now found (Json.item true (Json.value 126) text.now) }
-    ensures shorter { IfSome result (λ p. length p.1.now < length text.now) }
-    ensures within { (whole : ℕ) → length text.now ≤ whole → Finding.AreWithin whole found → IfSome result (λ p. Finding.AreWithin whole p.0) }
+// One more member of the name. No call of it is inlined, so that what is found stays where it is at other members.
+#[inline(never)]
+fn note(found: &mut Option<Found>, kind: Kind, before: usize, after: usize)
+    ensures { found.new ≡ Some (Finding.noted found.old (record { kind = kind; before = before; after = after })) }
 {
-    let (is_named, rest) = named(name, text)?;
-    let (kind, after) = value(126, rest)?;
-    if !is_named {
-        return Some((found, after));
-    }
     let extent = Extent {
         kind,
-        before: rest.len(),
-        after: after.len(),
+        before,
+        after,
     };
-    Some((Some(noted(found, extent)), after))
+    *found = Some(noted(*found, extent));
 }
 
-// The first member of a name in an object whose opening bracket was read.
-#[tactic(auto, using(crate::proofs::FoundLemmas::items_are, crate::proofs::FoundLemmas::one_member))]
-fn find_in_object<'a>(name: &[u8], text: &'a [u8]) -> Option<(Option<Found>, &'a [u8])>
-    ensures cut { Pieces.cut_view result ≡ Finding.found_of name.now None (Json.items true (Json.value 126) text.now) }
+// One member: what is found with it, and what stands after its value.
+#[inline(always)]
+#[tactic(auto, using(crate::proofs::FoundLemmas::member_is))]
+fn find_in_member<'a>(name: &[u8], found: &mut Option<Found>, text: &'a [u8]) -> Option<&'a [u8]>
+    ensures cut { Finding.found_view found.new result ≡ Finding.found_with name.now found.old (Json.item true (Json.value 126) (Pieces.without Json.is_space text.now)) }
+    ensures shorter { IfSome result (λ rest. length rest.now < length text.now) }
+    ensures within { (whole : ℕ) → length text.now ≤ whole → Finding.AreWithin whole found.old → Finding.AreWithin whole found.new }
+{
+    let (is_named, rest) = compared(name, after_space_and(b'"', text)?)?;
+    let (before, kind, rest) = spaced_value(126, after_space_and(b':', rest)?)?;
+    if is_named {
+        note(found, kind, before, rest.len());
+    }
+    Some(rest)
+}
+
+// The first member of a name among the members of an object, of which one at least is there.
+#[inline(never)]
+#[tactic(auto, using(crate::proofs::FoundLemmas::one_member))]
+fn find_in_members<'a>(name: &[u8], text: &'a [u8]) -> Option<(Option<Found>, &'a [u8])>
+    ensures cut { Pieces.cut_view result ≡ Finding.found_of name.now None (Pieces.repeated (Json.turn true (Json.value 126)) text.now) }
     ensures within { IfSome result (λ p. Finding.AreWithin (length text.now) p.0) }
 {
     let mut found = None;
-    let mut left = after_space(text);
-    if let Some(rest) = closed(true, left) {
-        return Some((None, rest));
-    }
+    let mut left = text;
     loop {
-        let (next_found, rest) = find_in_member(name, found, after_space(left))?;
-        let (is_last, rest) = separator(true, after_space(rest))?;
+        let rest = find_in_member(name, &mut found, left)?;
+        let (is_last, rest) = spaced_separator(true, rest)?;
         if is_last {
-            return Some((next_found, rest));
+            return Some((found, rest));
         }
-        found = next_found;
         left = rest;
     }
 }
 
-// What stands after an opening brace.
-#[tactic(auto, unfolding(crate::specs::Pieces::byte))]
-fn after_brace(text: &[u8]) -> Option<&[u8]>
-    ensures cut { Pieces.rest_view result ≡ Pieces.rest_of (Pieces.byte 123 text.now) }
-    ensures shorter { IfSome result (λ rest. length rest.now < length text.now) }
+// The first member of a name in an object whose opening bracket was read.
+#[tactic(auto, using(crate::proofs::FoundLemmas::items_are, crate::proofs::FoundLemmas::within_more))]
+fn find_in_object<'a>(name: &[u8], text: &'a [u8]) -> Option<(Option<Found>, &'a [u8])>
+    ensures cut { Pieces.cut_view result ≡ Finding.found_of name.now None (Json.items true (Json.value 126) text.now) }
+    ensures within { IfSome result (λ p. Finding.AreWithin (length text.now) p.0) }
 {
-    match text {
-        [b'{', rest @ ..] => Some(rest),
-        _ => None,
+    let left = after_space(text);
+    match closed(true, left) {
+        Some(rest) => Some((None, rest)),
+        None => find_in_members(name, left),
     }
 }
 
@@ -125,7 +113,7 @@ fn find<'a>(name: &[u8], text: &'a [u8]) -> Option<(Option<Found>, &'a [u8])>
     ensures cut { Pieces.cut_view result ≡ Finding.found_of name.now None (Members.object text.now) }
     ensures within { IfSome result (λ p. Finding.AreWithin (length text.now) p.0) }
 {
-    find_in_object(name, after_brace(after_space(text))?)
+    find_in_object(name, after_space_and(b'{', text)?)
 }
 
 // The line's first bytes, in which the object has to end, and the others.

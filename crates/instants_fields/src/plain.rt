@@ -1,5 +1,5 @@
 //! Bytes of a string that stand for themselves, looked at sixteen at a time.
-ghost use Rattle.std.specs.Prelude.{◌≡◌, ◌<◌, ◌≤◌, ◌==◌, ℕ, false, length, drop, get_or, slice_index};
+ghost use Rattle.std.specs.Prelude.{◌≡◌, ◌<◌, ◌≤◌, ◌==◌, ℕ, true, false, length, drop, get_or, slice_index};
 ghost use Rattle.std.specs.Int.{bit_at};
 ghost use Rattle.instants_fields.specs.Pieces.{rest_of};
 ghost use Rattle.instants_fields.specs.Strings.{string};
@@ -22,7 +22,7 @@ fn load(text: &[u8]) -> u8x16
 // The bytes after so many.
 #[inline(always)]
 #[tactic(auto, using(std::proofs::lemmas::List::take_rest))]
-fn after(text: &[u8], count: usize) -> &[u8]
+pub(crate) fn after(text: &[u8], count: usize) -> &[u8]
     requires { count ≤ length text.now }
     ensures { result.now ≡ drop count text.now }
 {
@@ -55,20 +55,67 @@ fn others(text: &[u8]) -> u64
     bits_of(bytes, b'"') | bits_of(bytes, b'\\') | bits_of_controls(bytes)
 }
 
-// The rest of a string without bytes at its start that stand for themselves, as far as whole sixteens are looked at.
+// Whether a byte stands for itself, which most letters of a name do by the first test.
+fn is_plain(byte: u8) -> bool
+    ensures { result ≡ true → IsPlain byte }
+{
+    byte > b'\\' || !matches!(byte, 0..0x20 | b'"' | b'\\')
+}
+
+// How many bytes at the start of a short text stand for themselves.
+#[inline(never)]
+fn few_plain(text: &[u8]) -> usize
+    ensures plain { (k : ℕ) → k < result → IsPlain (get_or text.now k 0) }
+    ensures within { result ≤ length text.now }
+{
+    for index in 0..text.len() {
+        if !is_plain(text[index]) {
+            return index;
+        }
+    }
+    text.len()
+}
+
+// How many bytes at the start of a text stand for themselves: sixteen at a time, and the last fifteen one by one.
+#[inline(never)]
+fn many_plain(text: &[u8]) -> usize
+    ensures plain { (k : ℕ) → k < result → IsPlain (get_or text.now k 0) }
+    ensures within { result ≤ length text.now }
+{
+    let mut count = 0;
+    while text.len() - count >= LANES {
+        let others = others(after(text, count));
+        if others != 0 {
+            let plain = others.trailing_zeros() as usize;
+            return count + plain.min(LANES);
+        }
+        count += LANES;
+    }
+    count + few_plain(after(text, count))
+}
+
+// The same, where there are mostly fewer than sixteen. No call of the others is inlined.
+#[inline(always)]
+pub(crate) fn plain_count(text: &[u8]) -> usize
+    ensures plain { (k : ℕ) → k < result → IsPlain (get_or text.now k 0) }
+    ensures within { result ≤ length text.now }
+{
+    if text.len() < LANES {
+        return few_plain(text);
+    }
+    let others = others(text);
+    if others != 0 {
+        let plain = others.trailing_zeros() as usize;
+        return plain.min(LANES);
+    }
+    LANES + many_plain(after(text, LANES))
+}
+
+// The rest of a string without the bytes at its start that stand for themselves.
 #[inline(always)]
 pub(crate) fn after_plain(text: &[u8]) -> &[u8]
     ensures same { rest_of (string result.now) ≡ rest_of (string text.now) }
     ensures shorter { length result.now ≤ length text.now }
 {
-    let mut left = text;
-    while left.len() >= LANES {
-        let others = others(left);
-        if others != 0 {
-            let plain = others.trailing_zeros() as usize;
-            return after(left, plain.min(LANES));
-        }
-        left = after(left, LANES);
-    }
-    left
+    after(text, plain_count(text))
 }

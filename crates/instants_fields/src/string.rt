@@ -5,7 +5,7 @@ ghost use Rattle.instants_fields.specs.Pieces as Pieces;
 ghost use Rattle.instants_fields.specs.Strings as Strings;
 ghost use Rattle.instants_fields.specs.Compared as Compared;
 
-use crate::plain::after_plain;
+use crate::plain::{after, after_plain, plain_count};
 
 // A character of a string: a byte as it stands, or the number that an escape names.
 #[derive(Clone, Copy)]
@@ -30,6 +30,7 @@ fn hex_digit(text: &[u8]) -> Option<(u16, &[u8])>
 }
 
 // Four of them.
+#[inline(never)]
 #[tactic(auto, unfolding(crate::specs::Strings::four_digits))]
 fn four_digits(text: &[u8]) -> Option<(u16, &[u8])>
     ensures cut { Pieces.cut_view result ≡ Strings.four_digits text.now }
@@ -43,6 +44,7 @@ fn four_digits(text: &[u8]) -> Option<(u16, &[u8])>
 }
 
 // What a byte after a backslash names.
+#[inline(always)]
 fn short_escape(byte: u8) -> Option<u16>
     ensures { result ≡ Strings.short_escape byte }
 {
@@ -58,6 +60,7 @@ fn short_escape(byte: u8) -> Option<u16>
 }
 
 // What follows a backslash, and the number that it names.
+#[inline(always)]
 #[tactic(auto, unfolding(crate::specs::Strings::escape))]
 fn escape(text: &[u8]) -> Option<(u16, &[u8])>
     ensures cut { Pieces.cut_view result ≡ Strings.escape text.now }
@@ -88,19 +91,56 @@ fn next_character(text: &[u8]) -> Option<(Option<Character>, &[u8])>
     }
 }
 
-// What stands after a string whose first quotation mark was read.
+// What stands after the rest of a string, from one of its characters on.
+#[inline(never)]
 #[tactic(auto, using(crate::proofs::StringLemmas::behind_character))]
-pub(crate) fn after_string(text: &[u8]) -> Option<&[u8]>
+fn after_characters(text: &[u8]) -> Option<&[u8]>
     ensures cut { Pieces.rest_view result ≡ Pieces.rest_of (Strings.string text.now) }
     ensures shorter { IfSome result (λ rest. length rest.now < length text.now) }
 {
-    let mut left = after_plain(text);
+    let mut left = text;
     loop {
         let (one, rest) = next_character(left)?;
         if one.is_none() {
             return Some(rest);
         }
         left = after_plain(rest);
+    }
+}
+
+// The same. It is inlined, so that a string without escapes needs no place for the answer of a call.
+#[inline(always)]
+fn after_escapes(text: &[u8]) -> Option<&[u8]>
+    ensures cut { Pieces.rest_view result ≡ Pieces.rest_of (Strings.string text.now) }
+    ensures shorter { IfSome result (λ rest. length rest.now < length text.now) }
+{
+    Some(after_characters(text)?)
+}
+
+// What stands after a quotation mark.
+#[inline(always)]
+#[tactic(auto, unfolding(crate::specs::Pieces::byte))]
+pub(crate) fn after_mark(text: &[u8]) -> Option<&[u8]>
+    ensures cut { Pieces.rest_view result ≡ Pieces.rest_of (Pieces.byte 34 text.now) }
+    ensures shorter { IfSome result (λ rest. length rest.now < length text.now) }
+{
+    match text {
+        [b'"', rest @ ..] => Some(rest),
+        _ => None,
+    }
+}
+
+// What stands after a string whose first quotation mark was read. Most have no escapes.
+#[inline(always)]
+#[tactic(auto, using(crate::proofs::StringLemmas::behind_mark))]
+pub(crate) fn after_string(text: &[u8]) -> Option<&[u8]>
+    ensures cut { Pieces.rest_view result ≡ Pieces.rest_of (Strings.string text.now) }
+    ensures shorter { IfSome result (λ rest. length rest.now < length text.now) }
+{
+    let left = after_plain(text);
+    match after_mark(left) {
+        Some(rest) => Some(rest),
+        None => after_escapes(left),
     }
 }
 
@@ -154,8 +194,9 @@ fn is_said(high: Option<u16>, due: &[u8]) -> bool
 }
 
 // Whether a string whose first quotation mark was read says a name.
+#[inline(never)]
 #[tactic(auto, using(crate::proofs::StringLemmas::says_character))]
-pub(crate) fn says(name: &[u8], text: &[u8]) -> bool
+fn says(name: &[u8], text: &[u8]) -> bool
     ensures { result ≡ Compared.says_after None name.now (Strings.string text.now) }
 {
     let mut left = text;
@@ -173,4 +214,31 @@ pub(crate) fn says(name: &[u8], text: &[u8]) -> bool
         left = rest;
     }
     false
+}
+
+// Whether a string says a name, and what stands after it. Its rest is given from one of its characters on.
+#[inline(always)]
+fn compared_slowly<'a>(name: &[u8], text: &[u8], left: &'a [u8]) -> Option<(bool, &'a [u8])>
+    requires { Pieces.rest_of (Strings.string left.now) ≡ Pieces.rest_of (Strings.string text.now) }
+    ensures cut { Compared.rest_after result ≡ Pieces.rest_of (Strings.string text.now) }
+    ensures says { IfSome result (λ p. p.0 ≡ Compared.says_after None name.now (Strings.string text.now)) }
+    ensures shorter { IfSome result (λ p. length p.1.now < length left.now) }
+{
+    let rest = after_escapes(left)?;
+    Some((says(name, text), rest))
+}
+
+// Whether a string whose first quotation mark was read says a name, and what stands after the string.
+#[inline(always)]
+pub(crate) fn compared<'a>(name: &[u8], text: &'a [u8]) -> Option<(bool, &'a [u8])>
+    ensures cut { Compared.rest_after result ≡ Pieces.rest_of (Strings.string text.now) }
+    ensures says { IfSome result (λ p. p.0 ≡ Compared.says_after None name.now (Strings.string text.now)) }
+    ensures shorter { IfSome result (λ p. length p.1.now < length text.now) }
+{
+    let count = plain_count(text);
+    let left = after(text, count);
+    match after_mark(left) {
+        Some(rest) => Some((name == &text[..count], rest)),
+        None => compared_slowly(name, text, left),
+    }
 }

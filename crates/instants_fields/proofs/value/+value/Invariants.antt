@@ -1,17 +1,23 @@
-use Rattle.std.proofs.Common.{◌≡◌, ◌≤◌, ◌-◌, length}
-use Rattle.instants_fields.specs.Json.{value, turn}
+use Rattle.std.proofs.Common.{◌≡◌, ◌≤◌, ◌+◌, ◌*◌, length}
+use Rattle.instants_fields.specs.Json.{value, turn, items}
 use Rattle.instants_fields.specs.Pieces.{repeated}
-use Rattle.instants_fields.proofs.ItemLemmas.{as_other}
+use Rattle.instants_fields.specs.Found.{as_other}
 use Rattle.instants_fields.proofs.value.+value.Given as goal
 
 abbrev pub decreases-value : goal.decreases-value
-decreases-value l = l.levels
+decreases-value l = 3 * l.levels + 1
 
-abbrev pub invariant-loop-rest : goal.invariant-loop-rest
-invariant-loop-rest l = record {
-  same : as_other (repeated (turn l.is_object (value (l.levels - 1))) l.left) ≡ value l.levels l.text;
+abbrev pub decreases-other_value : goal.decreases-other_value
+decreases-other_value l = 3 * l.levels
+
+abbrev pub decreases-items : goal.decreases-items
+decreases-items l = 3 * l.levels + 2
+
+abbrev pub invariant-items-loop-rest : goal.invariant-items-loop-rest
+invariant-items-loop-rest l = record {
+  same : as_other (repeated (turn l.is_object (value l.levels)) l.left) ≡ as_other (items l.is_object (value l.levels) l.text);
   within : length l.left ≤ length l.text;
 }
 
-abbrev pub decreases-loop-rest : goal.decreases-loop-rest
-decreases-loop-rest l = length l.left
+abbrev pub decreases-items-loop-rest : goal.decreases-items-loop-rest
+decreases-items-loop-rest l = length l.left

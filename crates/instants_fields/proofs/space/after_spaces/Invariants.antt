@@ -1,7 +1,7 @@
 use Rattle.std.proofs.Common.{◌≡◌, ◌≤◌, length}
 use Rattle.instants_fields.specs.Json.{is_space}
 use Rattle.instants_fields.specs.Pieces.{without}
-use Rattle.instants_fields.proofs.space.after_space.Given as goal
+use Rattle.instants_fields.proofs.space.after_spaces.Given as goal
 
 abbrev pub invariant-loop-left : goal.invariant-loop-left
 invariant-loop-left l = record {
