@@ -24,6 +24,7 @@ from program import ROOT, BuildFailed, Command, Program, uses
 CRATE = "instants_c"
 CALLS = (
     "instants_answer_lines", "instants_open", "instants_answer", "instants_answer_moments", "instants_close", "instants_sentence",
+    "instants_lines_open", "instants_lines_keys", "instants_lines_dates", "instants_lines_close", "instants_lines_sentence",
     "instants_version",
 )
 ARCHIVE, SHARED = "libinstants.a", "libinstants.so.0"

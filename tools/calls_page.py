@@ -30,6 +30,7 @@ ALONE = (
     "instants_fields",
     "instants_guess",
     "instants_memory",
+    "instants_lines_memory",
     "instants_c",
 )
 # The calls of the crates below these of which PROMISES.md speaks: all that a crate gives on, or some of them.

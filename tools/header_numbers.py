@@ -18,6 +18,12 @@ from program import ROOT, sure
 HEADER = ROOT / "include" / "instants.h"
 NUMBER = r"(\d[\d_]*)"
 FAULTS = ("LITERAL", "COMPONENT", "TRAILING", "INSUFFICIENT", "RANGE", "YEAR", "LONG")
+# Reasons of the header, and the doubts of the sources that have their numbers.
+DOUBTS = {
+    "GOES_ON": "After", "CLOCK_IN_FRONT": "ClockBefore", "SKIPPED": "Skipped", "REPEATED": "Repeated",
+    "ANOTHER_OFFSET": "AnotherOffset", "ANOTHER_TIME": "AnotherTime", "ANOTHER_YEAR": "AnotherYear",
+}
+REASONS = ("NONE", "DOUBT", *DOUBTS, "ESCAPE", "YEAR")
 # Where each number of the header stands elsewhere: a file, and what is around it there.
 PLACES = (
     ("LINE_ROOM", "crates/instants_memory/src/answers.rt", rf"^pub const LINE_ROOM: usize = {NUMBER};"),
@@ -34,6 +40,18 @@ PLACES = (
     *((f"FAULT_{it}", "bindings/rust/sys/src/lib.rs", rf"^    pub const {it}: u32 = {NUMBER};") for it in FAULTS),
     *((f"FAULT_{it}", "crates/instants_memory/src/numbers.rt", rf"^        LineFault::{it.title()}(?:\(name\))? => {NUMBER}\b") for it in FAULTS),
     *((f"FAULT_{it}", "crates/instants_memory/specs/Numbers.antt", rf"^fault_number \(?{it.lower()}(?: name\))? = {NUMBER}\b") for it in FAULTS),
+    *((f"REASON_{it}", "crates/instants_lines/src/line_date.rt", rf"^        Doubt::{doubt} => {NUMBER},") for it, doubt in DOUBTS.items()),
+    *((f"REASON_{it}", "crates/instants_lines/specs/LineDates.antt", rf"^doubt_number {doubt} = {NUMBER}$") for it, doubt in DOUBTS.items()),
+    ("REASON_NONE", "crates/instants_lines/specs/LineDates.antt", rf"^undated = without_moment {NUMBER} 0 0$"),
+    ("REASON_NONE", "crates/instants_lines/src/line_date.rt", rf"^    without_moment\({NUMBER}, 0, 0\)$"),
+    ("REASON_DOUBT", "crates/instants_lines/specs/LineDates.antt", rf"^in_doubt at None = without_moment {NUMBER} 0 0$"),
+    ("REASON_DOUBT", "crates/instants_lines/src/line_date.rt", rf"None => without_moment\({NUMBER}, 0, 0\)"),
+    ("REASON_ESCAPE", "crates/instants_lines/specs/LineDates.antt", rf"^escaped at date = without_moment {NUMBER} "),
+    ("REASON_ESCAPE", "crates/instants_lines/src/line_date.rt", rf"without_moment\({NUMBER}, at \+"),
+    ("REASON_YEAR", "crates/instants_lines/specs/LineDates.antt", rf"^placed start end \(Err refusal\) = without_moment {NUMBER} "),
+    ("REASON_YEAR", "crates/instants_lines/src/line_date.rt", rf"None => without_moment\({NUMBER}, start, end\)"),
+    *((f"REASON_{it}", "bindings/rust/sys/src/lib.rs", rf"^    pub const {it}: u32 = {NUMBER};") for it in REASONS),
+    *((f"REASON_{it}", "bindings/python/instants/_library.py", rf"^    {NUMBER}: \"[a-z ]+\",  # {it}$") for it in REASONS),
 )
 # Where the names of components stand in the order of their numbers, which the header has: a file, and what is around them there.
 LISTS = (
@@ -45,9 +63,12 @@ LISTS = (
 # Where the structs and calls of the header stand elsewhere.
 EXPORTS, SYS, PYTHON = ROOT / "crates" / "instants_c" / "src", "bindings/rust/sys/src/lib.rs", "bindings/python/instants/_library.py"
 # What a struct of the header is called there, and what its pointer is in C.
-STRUCTS = {"Moment": "instants_moment", "Handle": "instants_handle", "Opened": "instants_handle"}
+STRUCTS = {
+    "Moment": "instants_moment", "Handle": "instants_handle", "Opened": "instants_handle", "LinesHandle": "instants_lines_handle",
+    "OpenedLines": "instants_lines_handle", "Above": "instants_lines_above", "LineDate": "instants_lines_date",
+}
 # An argument that goes by another name in the header, by its call.
-RENAMED = {("instants_sentence", "len"): "sentence_len"}
+RENAMED = {("instants_sentence", "len"): "sentence_len", ("instants_lines_sentence", "len"): "sentence_len"}
 # What a type of Rust is in C. A slice is two arguments: where it begins, and its length. The allocator is none.
 C_OF_RUST = {
     "u8": "uint8_t",
@@ -63,15 +84,27 @@ C_OF_RUST = {
     "&mut Handle": "struct instants_handle *",
     "*mut Handle": "struct instants_handle *",
     "*mut Moment": "struct instants_moment *",
+    "&mut LinesHandle": "struct instants_lines_handle *",
+    "*mut LinesHandle": "struct instants_lines_handle *",
+    "&mut Above": "struct instants_lines_above *",
+    "*mut Above": "struct instants_lines_above *",
+    "*mut LineDate": "struct instants_lines_date *",
+    "[u8; 64]": "uint8_t [64]",
 }
-SLICES = {"&[u8]": "const void *", "&'static [u8]": "const void *", "&mut [u8]": "void *", "&mut [Moment]": "struct instants_moment *"}
+SLICES = {
+    "&[u8]": "const void *", "&'static [u8]": "const void *", "&mut [u8]": "void *", "&mut [Moment]": "struct instants_moment *",
+    "&mut [LineDate]": "struct instants_lines_date *",
+}
 # What a type of Python's ctypes may be in C.
 C_OF_PYTHON = {
     "ctypes.c_char_p": ("const void *",),
-    "ctypes.c_void_p": ("void *", "const void *", "struct instants_moment *"),
+    "ctypes.c_void_p": ("void *", "const void *", "struct instants_moment *", "struct instants_lines_date *"),
     "ctypes.c_size_t": ("size_t",),
     "ctypes.POINTER(ctypes.c_size_t)": ("size_t *",),
     "ctypes.POINTER(Opened)": ("struct instants_handle *",),
+    "ctypes.POINTER(OpenedLines)": ("struct instants_lines_handle *",),
+    "ctypes.POINTER(Above)": ("struct instants_lines_above *",),
+    "ctypes.c_uint8 * 64": ("uint8_t [64]",),
     "ctypes.c_uint8": ("uint8_t",),
     "ctypes.c_uint32": ("uint32_t",),
     "None": ("void",),
@@ -122,8 +155,10 @@ def wrong_names() -> list[str]:
 
 def c_parts(text: str, sign: str) -> Parts:
     """Returns the types and names of fields or arguments as C has them."""
-    parts = [sure(re.fullmatch(r"(.+?)(\w+)", re.sub(r"\s+", " ", it).strip())) for it in text.split(sign) if it.strip() not in ("", "void")]
-    return [(it[1].strip(), it[2]) for it in parts]
+    parts = [
+        sure(re.fullmatch(r"(.+?)(\w+)(\[\d+\])?", re.sub(r"\s+", " ", it).strip())) for it in text.split(sign) if it.strip() not in ("", "void")
+    ]
+    return [(f"{it[1].strip()} {it[3] or ''}".strip(), it[2]) for it in parts]
 
 
 def of_header() -> tuple[dict[str, Parts], dict[str, tuple[Parts, str]]]:

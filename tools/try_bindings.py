@@ -17,6 +17,9 @@ their sources, they are proved and built first (tools/build_program.py, tools/bu
   no leak. It refuses words as the program does: by its sentence and its status. `limits.c` ends early in all ways, with the
   sanitizers and under valgrind, `handle.c` answers by handles from four threads, with the sanitizers, under valgrind and under
   helgrind, and prints how long a call of one line takes; `memory.c` refuses each allocation in turn.
+- Dates inside lines, by `bindings/c/keyed.c` with the sanitizers and under valgrind, Python and SQLite: lines of an access log, with some that
+  have no date, have the keys of `instants-lines`; `lines.c` ends early in all ways and asks from four threads, with the sanitizers,
+  under valgrind and under helgrind. tools/try_lines.py compares far more lines.
 - Rust: the tests of `bindings/rust`, and its example `answer` as that in C, without the sanitizers. Both crates are packed
   without a network, and what was packed is unpacked and tried outside of the repository, with the library that
   INSTANTS_LIB_DIR names and with that which pkg-config finds; where there is none the build says how to get it.
@@ -41,7 +44,7 @@ import shutil
 import subprocess
 import sys
 from collections.abc import Iterator, Mapping, Sequence
-from typing import Any
+from typing import Any, NamedTuple
 
 sys.dont_write_bytecode = True
 
@@ -79,7 +82,12 @@ IN_C: dict[str, tuple[str, list[str], list[str], list[str]]] = {
     "handles under valgrind": ("handle", [], THREADED, VALGRIND),
     "handles under helgrind": ("handle", [], THREADED, HELGRIND),
     "each allocation refused": ("memory", [], WRAPPED, []),
+    "lines with sanitizers": ("lines", SANITIZERS, THREADED, []),
+    "lines under valgrind": ("lines", [], THREADED, VALGRIND),
+    "lines under helgrind": ("lines", [], THREADED, HELGRIND),
 }
+# Words of `instants-lines`, for lines of a log.
+LINES_WORDS = ["carry", "rfc3339"]
 # Calls of one line that are measured in a round.
 CALLS = "200000"
 # Lines for valgrind through SQLite, where each is a call of its own.
@@ -173,6 +181,11 @@ EXPRESSIONS = (
     ("instant_fault('+00:00', 'rfc3339', '2021-01-02T03:04:05Z' || char(10) || 'b')", b"component year\n"),
     ("instant_fault('+00:00', 'rfc3339', '2021-01-02T03:04:05Z') IS NULL", b"1\n"),
     ("instant_fault('+00:00', 'rfc3339', NULL) IS NULL", b"1\n"),
+    ("instant_key('+00:00', 'rfc3339', 'at 2021-01-02T03:04:05Z up')", b"2021-01-02T03:04:05.000000000Z\n"),
+    ("instant_key('+00:00', 'access-log', 'rfc3339', 'x' || char(9) || 'y' || char(10) || '2021-01-02T03:04:05Z')", b"! none\n2021-01-02T03:04:05.000000000Z\n"),
+    ("instant_key('+00:00', '+00:00', 'strftime', '%F %T', '2021-01-02 03:04:05')", b"2021-01-02T03:04:05.000000000Z\n"),
+    ("instant_key('+00:00', 'rfc3339', '')", b"! none\n"),
+    ("instant_key('+00:00', 'rfc3339', NULL) IS NULL", b"1\n"),
 )
 # Calls whose words are columns, or stay.
 CALLS_OF_ROWS = (
@@ -324,6 +337,44 @@ def test_c_moments(library: Library, flags: list[str]) -> None:
         answers(ran([moments, *words], library.input), "".join(number_told(it, offset) + "\n" for it in told).encode())
     for words in WRONG_WORDS:
         assert ran([moments, *words])[::2] == ran([library.program, *words])[::2]
+
+
+# ---- dates inside lines
+
+
+class Log(NamedTuple):
+    """Lines of a log, and what the program writes for them after the words."""
+
+    lines: bytes
+    keyed: bytes
+
+
+@pytest.fixture(scope="module")
+def log(instants_lines: pathlib.Path) -> Log:
+    rng = random.Random(40)
+    read = [f"{bench_lines.rfc3339(rng)} {at}" if at % 3 else rng.choice(["", "  trace", "\tat x", "2021-01-02T03:04:05Zulu"]) for at in range(20_000)]
+    lines = "\n".join(read).encode()
+    return Log(lines, subprocess.run([instants_lines, "-q", *LINES_WORDS], input=lines, capture_output=True, check=True).stdout)
+
+
+@pytest.mark.parametrize("flags, wrapper", [(SANITIZERS, []), ([], VALGRIND)], ids=["with sanitizers", "under valgrind"])
+def test_c_keys(library: Library, log: Log, flags: list[str], wrapper: list[str]) -> None:
+    answers(ran([*wrapper, library.compiled("keyed", flags), "-b", "7000", *LINES_WORDS], log.lines), log.keyed)
+
+
+def test_python_keys(library: Library, log: Log, package: None) -> None:
+    import instants
+
+    with instants.Lines(LINES_WORDS[1:], mode=LINES_WORDS[0]) as lines:
+        same("\n".join(lines.keys(log.lines)).encode(), b"\n".join(it.split(b"\t")[0] for it in log.keyed.split(b"\n")[:-1]))
+
+
+def test_sqlite_keys(loaded: Library, log: Log) -> None:
+    read = log.lines.split(b"\n")[:FEW]
+    text = f"{filled(loaded.room, read)}SELECT instant_key('+00:00', 'rfc3339', line) FROM lines ORDER BY rowid;"
+    status, said, wrong = queried(loaded, text, VALGRIND)
+    assert status == 0, wrong.decode(errors="replace")
+    assert said.count(b"\n") == len(read) and said.count(b"! none") == sum(it in (b"", b"  trace", b"\tat x") for it in read)
 
 
 # ---- Rust

@@ -32,7 +32,7 @@ import try_postgres
 from program import ROOT, Command
 
 BINDINGS, INCLUDE = ROOT / "bindings", ROOT / "include"
-WATCHED = ("open", "answer", "answer_moments", "close")
+WATCHED = ("open", "answer", "answer_moments", "close", "lines_open", "lines_keys", "lines_dates", "lines_close")
 # Debian's own, as the other tools have it.
 PYTHON = "/usr/bin/python3"
 IN_PYTHON = """
@@ -45,6 +45,12 @@ def opened(place):
 timelines = [opened(place) for place in range(100)]
 gc.collect()
 others = [b"x" * length for length in range(200) for _ in range(20)]
+inside = [instants.Lines(["strftime", f"at {place} " + "%F %T %z"]) for place in range(100)]
+gc.collect()
+others += [b"x" * length for length in range(200) for _ in range(20)]
+for place, lines in enumerate(inside):
+    assert lines.keys([f"x at {place} 2021-01-02 04:04:05 +0100"]) == ["2021-01-02T03:04:05.000000000Z"], place
+    lines.close()
 for place, timeline in enumerate(timelines):
     assert timeline.answer(f"at {place} 2021-01-02 04:04:05 +0100") == "2021-01-02T03:04:05.000000000Z", place
     timeline.close()

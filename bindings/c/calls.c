@@ -62,6 +62,50 @@ static void try_sentence(const char *refused, uint8_t due, const char *sentence)
     tell("instants_sentence", status == due && length == strlen(sentence) && !memcmp(output, sentence, length));
 }
 
+static const char lines_words[] = "carry\nrfc3339";
+static const char lines_input[] = "at 1969-12-31T23:59:58.25Z\n  none\n2021-01-02T03:04:05Zulu";
+
+#define KEYED                                                                                                                             \
+    "1969-12-31T23:59:58.250000000Z\tat 1969-12-31T23:59:58.25Z\n1969-12-31T23:59:58.250000000Z\t  none\n! doubt\t2021-01-02T03:04:05Zulu\n"
+
+static bool is_date(const struct instants_lines_date *date, int64_t seconds, uint32_t nanoseconds, uint32_t reason, size_t start, size_t end)
+{
+    return date->seconds == seconds && date->nanoseconds == nanoseconds && date->reason == reason && date->start == start && date->end == end;
+}
+
+/* The keys and the dates of lines, by a handle. */
+static void try_lines(const void *at)
+{
+    char output[INSTANTS_LINES_ROOM(sizeof lines_input, 2, 0)];
+    struct instants_lines_above above = {0};
+    struct instants_lines_date dates[3];
+    size_t written = 0, due = strlen(KEYED);
+    uint8_t status = instants_lines_keys(at, lines_input, strlen(lines_input), output, sizeof output, &written, &above);
+    tell("instants_lines_keys", status == INSTANTS_OK && written == due && !memcmp(output, KEYED, due));
+    tell("what is above", above.state == 2 && above.indent == 0 && above.len == 7 && !memcmp(above.key, "! doubt", 7));
+    status = instants_lines_dates(at, lines_input, strlen(lines_input), dates, 3, &written);
+    tell("instants_lines_dates", status == INSTANTS_OK && written == 3);
+    tell("the date of a line", is_date(&dates[0], -2, 250000000, 0, 3, 26));
+    tell("a line without a date", is_date(&dates[1], 0, 0, INSTANTS_REASON_NONE, 0, 0));
+    tell("a line in doubt", is_date(&dates[2], 0, 0, INSTANTS_REASON_GOES_ON, 0, 20));
+}
+
+/* The calls for dates inside lines. */
+static void try_dates_inside(void)
+{
+    struct instants_lines_handle handle = {0};
+    char output[100];
+    size_t length = 0;
+    const char *sentence = "instants-lines: the calls have modes key and carry";
+    uint8_t status = instants_lines_sentence("explain\nrfc3339", 15, NULL, 0, output, sizeof output, &length);
+    tell("instants_lines_sentence", status == INSTANTS_REFUSED && length == strlen(sentence) && !memcmp(output, sentence, length));
+    tell("instants_lines_open", instants_lines_open(lines_words, strlen(lines_words), NULL, 0, &handle) == INSTANTS_OK && handle.at);
+    if (!handle.at)
+        return;
+    try_lines(handle.at);
+    instants_lines_close(handle.at);
+}
+
 int main(void)
 {
     struct instants_handle handle = {0};
@@ -74,5 +118,6 @@ int main(void)
     try_answers(handle.at);
     try_moments(handle.at);
     instants_close(handle.at);
+    try_dates_inside();
     return has_failed;
 }

@@ -109,6 +109,28 @@ static bool is_refused(long allocations, bool *is_done)
     return held == 0 && written == 0 && (*is_done || opened == INSTANTS_FAILED || answered == INSTANTS_FAILED);
 }
 
+/* The same of a handle for lines: opened with words that name formats, asked with no allocation, and closed. */
+static bool are_lines_opened(long allocations, bool *is_done)
+{
+    static const char lines[] = "carry\nlabel\nx\nrfc3339\naccess-log\nv3\n[year]-[month]-[day] [hour]:[minute]:[second] [offset_hour]";
+    uint8_t output[100];
+    size_t written = 12345;
+    struct instants_lines_handle handle = {0};
+    struct instants_lines_above above = {0};
+    struct instants_lines_date date;
+    granted = allocations;
+    uint8_t status = instants_lines_open(lines, strlen(lines), NULL, 0, &handle);
+    *is_done = status == INSTANTS_OK;
+    if (!*is_done)
+        return status == INSTANTS_FAILED && !handle.at && held == 0;
+    granted = 0;
+    status = instants_lines_keys(handle.at, input, strlen(input), output, sizeof output, &written, &above);
+    bool is_well = status == INSTANTS_OK && written == 59;
+    status = instants_lines_dates(handle.at, input, strlen(input), &date, 1, &written);
+    instants_lines_close(handle.at);
+    return is_well && status == INSTANTS_OK && written == 1 && date.seconds == 1609556645 && held == 0;
+}
+
 static bool try_each(const char *what, bool (*call)(long, bool *))
 {
     bool is_done = false;
@@ -129,5 +151,6 @@ int main(void)
     bool sentences = try_each("a sentence", is_told);
     bool handles = try_each("a handle", is_opened);
     bool refused = try_each("refused words", is_refused);
-    return !(answers && sentences && handles && refused);
+    bool lines = try_each("a handle for lines", are_lines_opened);
+    return !(answers && sentences && handles && refused && lines);
 }

@@ -8,6 +8,9 @@
 #undef instants_open
 #undef instants_answer
 #undef instants_answer_moments
+#undef instants_lines_open
+#undef instants_lines_keys
+#undef instants_lines_dates
 
 #include <stdio.h>
 #include <stdlib.h>
@@ -18,10 +21,17 @@ uint8_t true_answer(const void *at, const void *input, size_t input_len, void *o
 uint8_t true_answer_moments(const void *at, const void *input, size_t input_len, struct instants_moment *moments,
                             size_t moments_len, size_t *written);
 void true_close(void *at);
+uint8_t true_lines_open(const void *words, size_t words_len, const void *zone, size_t zone_len,
+                        struct instants_lines_handle *handle);
+uint8_t true_lines_keys(const void *at, const void *input, size_t input_len, void *output, size_t output_len, size_t *written,
+                        struct instants_lines_above *above);
+uint8_t true_lines_dates(const void *at, const void *input, size_t input_len, struct instants_lines_date *dates, size_t dates_len,
+                         size_t *written);
+void true_lines_close(void *at);
 
 /* An open handle, where its words are, and what they were as it was opened. */
 struct watched {
-    struct instants_handle handle;
+    void *at;
     const void *words;
     size_t len;
     char copy[];
@@ -37,34 +47,81 @@ static const struct watched *looked_at(const void *at)
     return watched;
 }
 
-uint8_t instants_open(const void *words, size_t words_len, struct instants_handle *handle)
+/* A watch over words, whose handle is not open yet. */
+static struct watched *watch(const void *words, size_t words_len)
 {
     struct watched *watched = malloc(sizeof *watched + words_len);
     if (!watched)
-        return INSTANTS_FAILED;
+        return NULL;
     *watched = (struct watched){.words = words, .len = words_len};
     memcpy(watched->copy, words, words_len);
-    uint8_t status = true_open(words, words_len, &watched->handle);
+    return watched;
+}
+
+/* Keeps the watch where its handle is open. */
+static uint8_t kept(struct watched *watched, uint8_t status, void **at)
+{
     if (status == INSTANTS_OK)
-        handle->at = watched;
+        *at = watched;
     else
         free(watched);
     return status;
 }
 
+uint8_t instants_open(const void *words, size_t words_len, struct instants_handle *handle)
+{
+    struct instants_handle opened = {0};
+    struct watched *watched = watch(words, words_len);
+    if (!watched)
+        return INSTANTS_FAILED;
+    uint8_t status = true_open(words, words_len, &opened);
+    watched->at = opened.at;
+    return kept(watched, status, &handle->at);
+}
+
+uint8_t instants_lines_open(const void *words, size_t words_len, const void *zone, size_t zone_len,
+                            struct instants_lines_handle *handle)
+{
+    struct instants_lines_handle opened = {0};
+    struct watched *watched = watch(words, words_len);
+    if (!watched)
+        return INSTANTS_FAILED;
+    uint8_t status = true_lines_open(words, words_len, zone, zone_len, &opened);
+    watched->at = opened.at;
+    return kept(watched, status, &handle->at);
+}
+
 uint8_t instants_answer(const void *at, const void *input, size_t input_len, void *output, size_t output_len, size_t *written)
 {
-    return true_answer(looked_at(at)->handle.at, input, input_len, output, output_len, written);
+    return true_answer(looked_at(at)->at, input, input_len, output, output_len, written);
 }
 
 uint8_t instants_answer_moments(const void *at, const void *input, size_t input_len, struct instants_moment *moments,
                                 size_t moments_len, size_t *written)
 {
-    return true_answer_moments(looked_at(at)->handle.at, input, input_len, moments, moments_len, written);
+    return true_answer_moments(looked_at(at)->at, input, input_len, moments, moments_len, written);
 }
 
 void instants_close(void *at)
 {
-    true_close(looked_at(at)->handle.at);
+    true_close(looked_at(at)->at);
+    free(at);
+}
+
+uint8_t instants_lines_keys(const void *at, const void *input, size_t input_len, void *output, size_t output_len, size_t *written,
+                            struct instants_lines_above *above)
+{
+    return true_lines_keys(looked_at(at)->at, input, input_len, output, output_len, written, above);
+}
+
+uint8_t instants_lines_dates(const void *at, const void *input, size_t input_len, struct instants_lines_date *dates,
+                             size_t dates_len, size_t *written)
+{
+    return true_lines_dates(looked_at(at)->at, input, input_len, dates, dates_len, written);
+}
+
+void instants_lines_close(void *at)
+{
+    true_lines_close(looked_at(at)->at);
     free(at);
 }

@@ -26,7 +26,7 @@ from datetime import datetime, timedelta, timezone
 from unittest import mock
 
 import instants
-from instants import _answers, _handle, _library, _lines, _timeline, dask
+from instants import _answers, _dated, _handle, _library, _lines, _timeline, _zones, dask
 
 try:
     import numpy
@@ -119,6 +119,122 @@ class Lines(unittest.TestCase):
             instants.answer_bytes(5, WORDS)
         with self.assertRaises(TypeError):
             instants.answer_bytes(LINE, WORDS)
+
+
+LOG, KEY = '192.0.2.1 - - [10/Oct/2000:13:55:36 -0700] "GET / HTTP/1.0" 200 2326', "2000-10-10T20:55:36.000000000Z"
+
+
+class DatesInside(unittest.TestCase):
+    def test_keys(self):
+        with instants.Lines(["access-log", "rfc3339"]) as lines:
+            self.assertEqual(lines.keys([LOG, "up", f"at {LINE}."]), [KEY, "! none", ANSWER])
+            self.assertEqual(lines.keys(f"{LOG}\nup".encode()), [KEY, "! none"])
+            self.assertEqual(lines.keys([]), [])
+            self.assertEqual(lines.keys(["a\tb", "", f"{LINE}ulu"]), ["! none", "! none", "! doubt"])
+            self.assertEqual(lines.keys(io.BytesIO(LOG.encode())), [KEY])
+        with instants.Lines(["rfc3339"], target="+02:00") as lines:
+            self.assertEqual(lines.keys([LINE]), ["2021-01-02T05:04:05.000000000+02:00"])
+
+    def test_carried(self):
+        with instants.Lines(["rfc3339"], mode="carry") as lines:
+            self.assertEqual(lines.keys(["x", LINE, "y", "  2024-01-01T00:00:00Z"]), ["! none", ANSWER, ANSWER, ANSWER])
+            self.assertEqual([it.reason for it in lines.dates(["x", LINE, "y"])], ["none", None, "none"])
+
+    def test_dates(self):
+        with instants.Lines(["rfc3339"]) as lines:
+            found = lines.dates([f"at {LINE}", "none", "2021-01-02T04:04:05Zulu", "1970-01-01T00:00:00.25Z"])
+        self.assertEqual(found[0], (1609556645, 0, 3, 28, None))
+        self.assertEqual(found[1], (0, 0, 0, 0, "none"))
+        self.assertEqual(found[2], (0, 0, 0, 20, "goes on"))
+        self.assertEqual(found[3], instants.LineDate(0, 250_000_000, 0, 23, None))
+
+    def test_words(self):
+        with instants.Lines(["strftime", "%b %e %T"], assumed="+00:00", year=2024) as lines:
+            self.assertEqual(lines.keys(["Feb 29 01:02:03 x"]), ["2024-02-29T01:02:03.000000000Z"])
+        with instants.Lines(["date"], assumed="+00:00", time="12:30") as lines:
+            self.assertEqual(lines.keys(["2024-02-29 x"]), ["2024-02-29T12:30:00.000000000Z"])
+        with instants.Lines(["rfc3339"], field="t") as lines:
+            self.assertEqual(lines.keys([f'{{"a":"2024-01-01T00:00:00Z","t":"{LINE}"}}']), [ANSWER])
+        with instants.Lines(["rfc3339"], column=2, separator=";") as lines:
+            self.assertEqual(lines.keys([f"2024-01-01T00:00:00Z;{LINE}"]), [ANSWER])
+        with instants.Lines(["rfc3339"], limit=3) as lines:
+            self.assertEqual(lines.keys([f"...{LINE}", f"..{LINE}"]), ["! none", ANSWER])
+
+    def test_refused(self):
+        for sources, others, said in (
+            ([], {}, "there are no sources"),
+            (["rfc"], {}, '"rfc"'),
+            (["rfc3339"], {"mode": "replace"}, "modes key and carry"),
+            (["rfc3339"], {"target": "noon"}, '"noon"'),
+            (["strftime", "%F"], {}, "names no moment"),
+            (["rfc3339\n"], {}, "a line feed"),
+        ):
+            with self.assertRaises(instants.Refused) as refused:
+                instants.Lines(sources, **others)
+            self.assertIn(said, str(refused.exception))
+        with self.assertRaises(TypeError):
+            instants.Lines("rfc3339")
+        with self.assertRaises(TypeError):
+            instants.Lines(["rfc3339"]).keys([1])
+
+    def test_closed(self):
+        lines = instants.Lines(["rfc3339"])
+        lines.close()
+        for call in (lines.keys, lines.dates, lines.to_datetime64, lambda _: lines.__enter__()):
+            with self.assertRaises(ValueError):
+                call([])
+
+    def test_threads(self):
+        with instants.Lines(["rfc3339"]) as lines:
+            found = []
+            threads = [threading.Thread(target=lambda: found.append(lines.keys([LINE] * 1000))) for _ in range(4)]
+            for thread in threads:
+                thread.start()
+            for thread in threads:
+                thread.join()
+        self.assertEqual(found, [[ANSWER] * 1000] * 4)
+
+    @unittest.skipUnless(pathlib.Path(_zones.FOLDER, "Europe/Berlin").is_file(), "there are no files of zones (tzdata)")
+    def test_zones(self):
+        for assumed in ("Europe/Berlin", ":Europe/Berlin"):
+            with instants.Lines(["strftime", "%F %T"], assumed=assumed) as lines:
+                self.assertEqual(lines.keys(["2024-07-01 10:00:00"]), ["2024-07-01T08:00:00.000000000Z"])
+                self.assertEqual([it.reason for it in lines.dates(["2024-03-31 02:30:00"])], ["skipped by the clock"])
+
+    def test_no_zone(self):
+        with tempfile.TemporaryDirectory() as room, mock.patch.dict(os.environ, {"TZDIR": room}):
+            pathlib.Path(room, "short").write_bytes(b"TZif")
+            pathlib.Path(room, "empty").write_bytes(b"")
+            for assumed, said in ((":short", "is cut off"), (":empty", "the zone"), (":none", "no zone none below"), (":a.b", "no zone a.b below"), (":..", "no zone")):
+                with self.assertRaises(instants.Refused) as refused:
+                    instants.Lines(["strftime", "%F %T"], assumed=assumed)
+                self.assertIn(said, str(refused.exception))
+        with mock.patch.dict(os.environ, {"TZDIR": "/nowhere"}), self.assertRaises(instants.Refused) as refused:
+            instants.Lines(["rfc3339"], assumed="Europe/Berlin")
+        self.assertIn("there is no folder /nowhere", str(refused.exception))
+
+    @unittest.skipUnless(numpy, "there is no numpy")
+    def test_arrays(self):
+        with instants.Lines(["rfc3339"]) as lines:
+            found = lines.to_datetime64([LINE, None, float("nan"), "x", "2021-01-02T03:04:05.5Z", "0001-01-01T00:00:00Z"])
+        self.assertEqual(found.dtype, numpy.dtype("datetime64[ns]"))
+        nat = -(2**63)
+        self.assertEqual(found.view("int64").tolist(), [1609556645 * 10**9, nat, nat, nat, 1609556645 * 10**9 + 5 * 10**8, nat])
+        with instants.Lines(["rfc3339"], mode="carry") as lines:
+            found = lines.to_datetime64(["x", LINE, None, "y", f"{LINE}ulu", "z"])
+        self.assertEqual(found.view("int64").tolist(), [nat, *[1609556645 * 10**9] * 3, nat, nat])
+        self.assertEqual(len(lines_of_none := instants.Lines(["rfc3339"]).to_datetime64([])), 0, lines_of_none)
+
+    @unittest.skipUnless(pandas, "there is no pandas")
+    def test_pandas(self):
+        column = pandas.Series([LOG, None, "x"], index=[3, 5, 7])
+        with instants.Lines(["access-log"]) as lines:
+            moments = pandas.Series(lines.to_datetime64(column), index=column.index)
+        self.assertEqual(moments[3], pandas.Timestamp("2000-10-10 20:55:36"))
+        self.assertTrue(moments[[5, 7]].isna().all())
+
+    def test_entry(self):
+        self.assertEqual(_dated.ENTRY.size, _library.DATE_ENTRY)
 
 
 class Iterated(unittest.TestCase):

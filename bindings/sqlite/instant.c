@@ -1,6 +1,7 @@
 /*
- * Functions for SQLite: `instant(TARGET, SOURCE.., TEXT)` is the answer to a text as a line, as the program answers it, and
- * `instant_fault(TARGET, SOURCE.., TEXT)` what is wrong with the text, or NULL.
+ * Functions for SQLite: `instant(TARGET, SOURCE.., TEXT)` is the answer to a text as a line, as the program answers it,
+ * `instant_fault(TARGET, SOURCE.., TEXT)` what is wrong with the text, or NULL, and `instant_key(TARGET, SOURCE.., TEXT)` the key of the
+ * date inside the text, as `instants-lines key` writes it.
  *
  *     .load ./instant
  *     SELECT instant('+00:00', 'rfc3339', 'strftime', '%d/%b/%Y:%H:%M:%S %z', '01/Jan/2021:22:04:07 -0500');
@@ -9,12 +10,14 @@
  *     2021-01-02T03:04:05.000000000Z
  *     SELECT instant_fault('+00:00', 'rfc3339', 'yesterday');
  *     component year
+ *     SELECT instant_key('+00:00', 'access-log', '::1 - - [01/Jan/2021:22:04:07 -0500] "GET / HTTP/1.0" 200 2326');
+ *     2021-01-02T03:04:07.000000000Z
  *
  * Targets and sources are the program's words. An offset after the target is assumed for a text without one; where a source
  * stands there none is. A text of up to INSTANTS_GREATEST_LIMIT bytes is not too long.
  * Answers of one target compare as texts as their moments do, so the function serves as a key, also of an index. It is NULL
  * where one of its arguments is. Of a text with line feeds it is the answers to its lines, with a line feed between them, and
- * `instant_fault` is the first fault among these.
+ * `instant_fault` is the first fault among these; the keys of lines likewise. (No function reads a file, so no zone is named.)
  *
  * Words that are the same for all rows of a statement are read once: a reader of them is kept by SQLite with the target, while
  * that is constant, and it is asked as long as the arguments are those that it was made of.
@@ -39,6 +42,9 @@ struct block {
     size_t len;
 };
 
+/* What a function gives of a text: its user data. */
+enum gives { ANSWER, FAULT, KEY };
+
 /* A text of SQLite's. */
 struct text {
     const char *bytes;
@@ -46,11 +52,12 @@ struct text {
 };
 
 /*
- * An open handle, and what has to stay while it is open: the words. The arguments of which they are made are kept beside them,
- * each with a line feed after it.
+ * An open handle, for lines where keys are given, and what has to stay while it is open: the words. The arguments of which they are
+ * made are kept beside them, each with a line feed after it.
  */
 struct reader {
-    struct instants_handle handle;
+    enum gives gives;
+    void *at;
     struct block words, arguments;
     char room[];
 };
@@ -77,6 +84,11 @@ static void put_value(struct block *block, sqlite3_value *value)
     put(block, sqlite3_value_text(value), length_of(value));
 }
 
+static enum gives given_by(sqlite3_context *context)
+{
+    return *(const enum gives *)sqlite3_user_data(context);
+}
+
 /* Whether an argument is NULL, or there is no memory for its text; in that case the error is told. */
 static bool is_missing(sqlite3_context *context, int count, sqlite3_value **values)
 {
@@ -99,9 +111,10 @@ static bool is_assumed(sqlite3_value *value)
 }
 
 /* Puts the words of the arguments, with a line feed between them; the limit is the greatest. */
-static void put_words(struct block *words, int count, sqlite3_value **values)
+static void put_words(struct block *words, enum gives gives, int count, sqlite3_value **values)
 {
     int at = 1;
+    put_text(words, gives == KEY ? "key\n" : "");
     put_value(words, values[0]);
     put_text(words, "\n");
     if (is_assumed(values[at]))
@@ -144,18 +157,37 @@ static bool is_of(const struct reader *reader, int count, sqlite3_value **values
 static void close_reader(void *kept)
 {
     struct reader *reader = kept;
-    if (reader->handle.at)
-        instants_close(reader->handle.at);
+    if (reader->at && reader->gives == KEY)
+        instants_lines_close(reader->at);
+    else if (reader->at)
+        instants_close(reader->at);
     sqlite3_free(reader);
 }
 
 /* Tells what is refused of the words. */
-static void refuse(sqlite3_context *context, const struct block *words)
+static void refuse(sqlite3_context *context, enum gives gives, const struct block *words)
 {
     char sentence[SENTENCE_ROOM];
     size_t len;
-    instants_sentence(words->bytes, words->len, sentence, sizeof sentence, &len);
+    if (gives == KEY)
+        instants_lines_sentence(words->bytes, words->len, NULL, 0, sentence, sizeof sentence, &len);
+    else
+        instants_sentence(words->bytes, words->len, sentence, sizeof sentence, &len);
     sqlite3_result_error(context, sentence, (int)(len < sizeof sentence ? len : sizeof sentence));
+}
+
+/* Opens a handle for the words of a reader. */
+static uint8_t open_handle(struct reader *reader)
+{
+    struct instants_handle handle = {0};
+    struct instants_lines_handle lines = {0};
+    uint8_t status;
+    if (reader->gives == KEY)
+        status = instants_lines_open(reader->words.bytes, reader->words.len, NULL, 0, &lines);
+    else
+        status = instants_open(reader->words.bytes, reader->words.len, &handle);
+    reader->at = reader->gives == KEY ? lines.at : handle.at;
+    return status;
 }
 
 /* Opens a reader whose memory is there. Whether it is open; else the error is told. */
@@ -165,10 +197,10 @@ static bool is_opened(sqlite3_context *context, struct reader *reader, int count
         sqlite3_result_error(context, "instant: a word has a line feed", -1);
         return false;
     }
-    put_words(&reader->words, count, values);
-    uint8_t status = instants_open(reader->words.bytes, reader->words.len, &reader->handle);
+    put_words(&reader->words, reader->gives, count, values);
+    uint8_t status = open_handle(reader);
     if (status == INSTANTS_REFUSED)
-        refuse(context, &reader->words);
+        refuse(context, reader->gives, &reader->words);
     else if (status != INSTANTS_OK)
         sqlite3_result_error_nomem(context);
     return status == INSTANTS_OK;
@@ -177,7 +209,7 @@ static bool is_opened(sqlite3_context *context, struct reader *reader, int count
 /* Makes a reader of the arguments, or NULL where that fails and the error is told. */
 static struct reader *make_reader(sqlite3_context *context, int count, sqlite3_value **values)
 {
-    size_t arguments_room = 0, words_room = sizeof "\n-\n" DIGITS_OF(INSTANTS_GREATEST_LIMIT);
+    size_t arguments_room = 0, words_room = sizeof "key\n\n-\n" DIGITS_OF(INSTANTS_GREATEST_LIMIT);
     for (int at = 0; at < count; at++)
         arguments_room += length_of(values[at]) + 1;
     struct reader *reader = sqlite3_malloc64(sizeof *reader + words_room + 2 * arguments_room);
@@ -185,7 +217,8 @@ static struct reader *make_reader(sqlite3_context *context, int count, sqlite3_v
         sqlite3_result_error_nomem(context);
         return NULL;
     }
-    *reader = (struct reader){.arguments = {reader->room, 0}, .words = {reader->room + arguments_room, 0}};
+    *reader = (struct reader){
+        .gives = given_by(context), .arguments = {reader->room, 0}, .words = {reader->room + arguments_room, 0}};
     if (is_opened(context, reader, count, values))
         return reader;
     close_reader(reader);
@@ -216,7 +249,7 @@ static void answer(sqlite3_context *context, const void *at, const struct text *
     put_answers(answers, at, text->bytes, text->len, room);
     if (text->len == 0 || text->bytes[text->len - 1] == '\n')
         put_answers(answers, at, "\n", 1, room);
-    if (sqlite3_user_data(context))
+    if (given_by(context) == FAULT)
         give_fault(context, answers);
     else
         sqlite3_result_text(context, answers->bytes, (int)answers->len - 1, SQLITE_TRANSIENT);
@@ -230,7 +263,50 @@ static size_t line_feeds(const struct text *text)
     return count;
 }
 
-/* The same, in memory of its own where there are many lines. */
+/* Leaves of lines after their keys the keys alone, each with a line feed. */
+static void keep_keys(struct block *keyed)
+{
+    const char *at = keyed->bytes, *end = at + keyed->len;
+    keyed->len = 0;
+    while (at < end) {
+        size_t left = (size_t)(end - at), len = (size_t)((const char *)memchr(at, '\t', left) - at);
+        /* (looked for first, since the line feed after the key may take the tab's place) */
+        const char *next = (const char *)memchr(at + len, '\n', left - len) + 1;
+        memmove(keyed->bytes + keyed->len, at, len);
+        keyed->len += len;
+        keyed->bytes[keyed->len++] = '\n';
+        at = next;
+    }
+}
+
+/* Puts lines after their keys behind others; there is room for them. */
+static void put_keyed(struct block *keyed, const void *at, const void *lines, size_t len, size_t room)
+{
+    struct instants_lines_above above = {0};
+    size_t written;
+    instants_lines_keys(at, lines, len, keyed->bytes + keyed->len, room - keyed->len, &written, &above);
+    keyed->len += written;
+}
+
+/* Gives the keys of the lines of a text; after its last line feed, and where it is empty, there is an empty line. */
+static void give_keys(sqlite3_context *context, const void *at, sqlite3_value *value)
+{
+    struct text text = {(const char *)sqlite3_value_text(value), length_of(value)};
+    size_t room = INSTANTS_LINES_ROOM(text.len, line_feeds(&text) + 1, 0);
+    struct block keyed = {sqlite3_malloc64(room), 0};
+    if (!keyed.bytes) {
+        sqlite3_result_error_nomem(context);
+        return;
+    }
+    put_keyed(&keyed, at, text.bytes, text.len, room);
+    if (text.len == 0 || text.bytes[text.len - 1] == '\n')
+        put_keyed(&keyed, at, "\n", 1, room);
+    keep_keys(&keyed);
+    sqlite3_result_text(context, keyed.bytes, (int)keyed.len - 1, SQLITE_TRANSIENT);
+    sqlite3_free(keyed.bytes);
+}
+
+/* Answers a text, in memory of its own where there are many lines. */
 static void answer_text(sqlite3_context *context, const void *at, sqlite3_value *value)
 {
     char few[INSTANTS_ROOM(FEW)];
@@ -245,7 +321,16 @@ static void answer_text(sqlite3_context *context, const void *at, sqlite3_value 
         sqlite3_free(answers.bytes);
 }
 
-/* Both functions; the one that tells faults has user data. */
+/* Gives what a function gives of a text. */
+static void give(sqlite3_context *context, const void *at, sqlite3_value *value)
+{
+    if (given_by(context) == KEY)
+        give_keys(context, at, value);
+    else
+        answer_text(context, at, value);
+}
+
+/* All functions, each with its user data. */
 static void instant(sqlite3_context *context, int count, sqlite3_value **values)
 {
     if (count < 3) {
@@ -256,13 +341,13 @@ static void instant(sqlite3_context *context, int count, sqlite3_value **values)
         return;
     struct reader *kept = sqlite3_get_auxdata(context, 0);
     if (kept && is_of(kept, count - 1, values)) {
-        answer_text(context, kept->handle.at, values[count - 1]);
+        give(context, kept->at, values[count - 1]);
         return;
     }
     struct reader *made = make_reader(context, count - 1, values);
     if (!made)
         return;
-    answer_text(context, made->handle.at, values[count - 1]);
+    give(context, made->at, values[count - 1]);
     /* (SQLite closes it, which it may do at once) */
     sqlite3_set_auxdata(context, 0, made, close_reader);
 }
@@ -271,10 +356,12 @@ int sqlite3_instant_init(sqlite3 *database, char **error, const sqlite3_api_rout
 {
     SQLITE_EXTENSION_INIT2(api);
     (void)error;
-    static char tells_faults;
-    int kind = SQLITE_UTF8 | SQLITE_DETERMINISTIC | SQLITE_INNOCUOUS;
-    int made = sqlite3_create_function(database, "instant", -1, kind, NULL, instant, NULL, NULL);
-    if (made != SQLITE_OK)
-        return made;
-    return sqlite3_create_function(database, "instant_fault", -1, kind, &tells_faults, instant, NULL, NULL);
+    static const struct {
+        const char *name;
+        enum gives gives;
+    } functions[] = {{"instant", ANSWER}, {"instant_fault", FAULT}, {"instant_key", KEY}};
+    int kind = SQLITE_UTF8 | SQLITE_DETERMINISTIC | SQLITE_INNOCUOUS, made = SQLITE_OK;
+    for (size_t at = 0; at < sizeof functions / sizeof *functions && made == SQLITE_OK; at++)
+        made = sqlite3_create_function(database, functions[at].name, -1, kind, (void *)&functions[at].gives, instant, NULL, NULL);
+    return made;
 }

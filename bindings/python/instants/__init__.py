@@ -22,15 +22,23 @@ A long file is read block by block:
     ...     print(answer)
     2021-01-02T04:04:05.000000000Z
 
+Dates inside lines are found as the program `instants-lines` finds them:
+
+    >>> with instants.Lines(["rfc3339", "access-log"]) as logs:
+    ...     logs.keys(["up at 2021-01-02T04:04:05+01:00", "no date"])
+    ['2021-01-02T03:04:05.000000000Z', '! none']
+
 Lines are texts or bytes, one after the other, or one text, one block of bytes or an open file that has them. As a command,
 `python -m instants`, the package is the program `instants`. The shared library is the file that INSTANTS_LIBRARY names, else
 that of this package, else `libinstants.so.0` where the system looks.
 """
 
 from ._answers import Answer, Fault
+from ._dated import LineDate, Lines
 from ._handle import Refused
 from ._library import GREATEST_LIMIT, LINE_ROOM, VERSION, told, version
-from ._lines import Line, Lines
+from ._lines import Line
+from ._lines import Lines as SomeLines
 from ._timeline import Timeline, answer_bytes, answers, datetimes, parse, to_datetime64
 
 # (not among the names that are imported by a star, where it would hide Python's own)
@@ -44,8 +52,10 @@ __all__ = [
     "Answer",
     "Fault",
     "Line",
+    "LineDate",
     "Lines",
     "Refused",
+    "SomeLines",
     "Timeline",
     "__version__",
     "answer_bytes",

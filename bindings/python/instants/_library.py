@@ -16,6 +16,23 @@ OK, FAILED, REFUSED = 0, 1, 2
 
 # The bytes of an entry: eight of seconds, four of nanoseconds, four of a fault.
 ENTRY = 16
+# Those of the date of a line: the same, with a reason, and eight each of its start and its end.
+DATE_ENTRY = 32
+
+# Why a line has no date, by the numbers of instants.h, in the words of mode `locate`.
+REASONS = {
+    100: "none",  # NONE
+    200: "doubt",  # DOUBT
+    201: "goes on",  # GOES_ON
+    202: "clock in front",  # CLOCK_IN_FRONT
+    203: "skipped by the clock",  # SKIPPED
+    204: "twice by the clock",  # REPEATED
+    205: "another offset",  # ANOTHER_OFFSET
+    206: "another time",  # ANOTHER_TIME
+    207: "another year",  # ANOTHER_YEAR
+    208: "escape",  # ESCAPE
+    600: "year",  # YEAR
+}
 
 FILE = "libinstants.so.0"
 HOW_TO_GET = (
@@ -47,6 +64,18 @@ class Opened(ctypes.Structure):
     _fields_ = [("at", ctypes.c_void_p)]
 
 
+class OpenedLines(ctypes.Structure):
+    """A handle for lines as C has it: null where it is not open."""
+
+    _fields_ = [("at", ctypes.c_void_p)]
+
+
+class Above(ctypes.Structure):
+    """What lines take of those above them: all is 0 at the beginning."""
+
+    _fields_ = [("indent", ctypes.c_size_t), ("state", ctypes.c_uint32), ("len", ctypes.c_uint32), ("key", ctypes.c_uint8 * 64)]
+
+
 def declare(library: ctypes.CDLL) -> None:
     """Says what the calls take and return."""
     read, size, size_at, write = ctypes.c_char_p, ctypes.c_size_t, ctypes.POINTER(ctypes.c_size_t), ctypes.c_void_p
@@ -57,6 +86,11 @@ def declare(library: ctypes.CDLL) -> None:
         ("instants_answer", (handle, read, size, write, size, size_at), status),
         ("instants_answer_moments", (handle, read, size, write, size, size_at), status),
         ("instants_close", (handle,), None),
+        ("instants_lines_sentence", (read, size, read, size, write, size, size_at), status),
+        ("instants_lines_open", (read, size, read, size, ctypes.POINTER(OpenedLines)), status),
+        ("instants_lines_keys", (handle, read, size, write, size, size_at, ctypes.POINTER(Above)), status),
+        ("instants_lines_dates", (handle, read, size, write, size, size_at), status),
+        ("instants_lines_close", (handle,), None),
     ):
         call = getattr(library, name)
         call.argtypes, call.restype = takes, returns
@@ -90,4 +124,14 @@ def sentence(words: bytes) -> str:
         room = length.value
         output = ctypes.create_string_buffer(room)
         LIBRARY.instants_sentence(words, len(words), output, room, ctypes.byref(length))
+    return output.raw[: length.value].decode(errors="replace")
+
+
+def lines_sentence(words: bytes, zone: bytes) -> str:
+    """Returns what is refused of the words for lines and of a zone."""
+    room, length = 0, ctypes.c_size_t(256)
+    while room < length.value:
+        room = length.value
+        output = ctypes.create_string_buffer(room)
+        LIBRARY.instants_lines_sentence(words, len(words), zone, len(zone), output, room, ctypes.byref(length))
     return output.raw[: length.value].decode(errors="replace")

@@ -2,6 +2,7 @@
 #![doc = include_str!("../README.md")]
 #![deny(missing_docs)]
 
+mod lines;
 mod moment;
 mod timeline;
 
@@ -9,6 +10,7 @@ use std::fmt;
 
 pub use instants_sys::{GREATEST_LIMIT, LINE_ROOM};
 use instants_sys::{OK, REFUSED};
+pub use lines::{LineDate, Lines, LinesAbove, NoDate};
 pub use moment::{LineFault, Moment, NoSystemTime};
 pub use timeline::Timeline;
 
@@ -134,20 +136,24 @@ fn joined<W: AsRef<str>>(words: &[W]) -> Result<String, Fault> {
 
 /// What is refused of the words.
 fn sentence(words: &str) -> Result<String, Fault> {
+    // As in `answer_into`.
+    sentence_by(|sentence, len| unsafe {
+        instants_sys::instants_sentence(
+            words.as_ptr().cast(),
+            words.len(),
+            sentence.as_mut_ptr().cast(),
+            sentence.len(),
+            len,
+        )
+    })
+}
+
+/// The sentence that a call writes to an output, with its length, and a status.
+fn sentence_by(call: impl Fn(&mut [u8], &mut usize) -> u8) -> Result<String, Fault> {
     let mut sentence = vec![0; 128];
     loop {
         let mut len = 0;
-        // As in `answer_into`.
-        let status = unsafe {
-            instants_sys::instants_sentence(
-                words.as_ptr().cast(),
-                words.len(),
-                sentence.as_mut_ptr().cast(),
-                sentence.len(),
-                &mut len,
-            )
-        };
-        if status != REFUSED {
+        if call(&mut sentence, &mut len) != REFUSED {
             return Err(Fault::Memory);
         }
         if len <= sentence.len() {

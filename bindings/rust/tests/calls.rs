@@ -2,7 +2,7 @@
 
 use std::time::{Duration, SystemTime, UNIX_EPOCH};
 
-use instants::{answer_into, answers, room, version, Fault, Moment, NoSystemTime, Timeline};
+use instants::{answer_into, answers, room, version, Fault, LineDate, Lines, LinesAbove, Moment, NoSystemTime, Timeline};
 
 const WORDS: [&str; 4] = ["+00:00", "-", "100", "rfc3339"];
 const LINE: &[u8] = b"2021-01-02T04:04:05+01:00\n";
@@ -161,4 +161,35 @@ fn moments_are_times_of_the_system() -> Result<(), NoSystemTime> {
         assert_eq!(SystemTime::try_from(moment).map(Moment::from), Ok(moment));
     }
     Ok(())
+}
+
+#[test]
+fn dates_inside_lines() {
+    let lines = Lines::new(&["carry", "label", &"x".repeat(300), "rfc3339"], b"").unwrap();
+    let key = "2021-01-02T03:04:05.000000000Z";
+    let keyed = String::from_utf8(lines.keyed(b"at 2021-01-02T04:04:05+01:00\n  x")).unwrap();
+    let label = "x".repeat(300);
+    assert_eq!(keyed, format!("{key}\t{label}\tat 2021-01-02T04:04:05+01:00\n{key}\t{label}\t  x\n"));
+    let dates = lines.dates(b"at 2021-01-02T04:04:05+01:00\n2021-01-02T03:04:05Zulu");
+    assert_eq!(dates[0].unwrap(), LineDate { moment: Moment { seconds: 1_609_556_645, nanoseconds: 0 }, start: 3, end: 28 });
+    let doubt = dates[1].unwrap_err();
+    assert_eq!((doubt.to_string().as_str(), doubt.start, doubt.end), ("goes on", 0, 20));
+    assert!(lines.keyed(b"").is_empty() && lines.dates(b"").is_empty());
+}
+
+#[test]
+fn blocks_of_lines() {
+    let lines = Lines::new(&["carry", "rfc3339"], b"").unwrap();
+    let mut above = LinesAbove::default();
+    let text = b"2021-01-02T03:04:05Z a\n  2021-01-02T03:04:06Z b\nc\n";
+    let blocks: Vec<u8> = text.split_inclusive(|byte| *byte == b'\n').flat_map(|block| lines.keyed_below(&mut above, block)).collect();
+    assert_eq!(blocks, lines.keyed(text));
+}
+
+#[test]
+fn words_of_lines() {
+    let refused = |words: &[&str], zone: &[u8]| Lines::new(words, zone).err().unwrap().to_string();
+    assert_eq!(refused(&["key", "rfc3339"], b"x"), "instants-lines: the zone is cut off");
+    assert!(refused(&["key", "rfc"], b"").contains("\"rfc\""));
+    assert!(refused(&["key\n", "rfc3339"], b"").contains("line feed"));
 }

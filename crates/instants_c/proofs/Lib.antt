@@ -1,3 +1,4 @@
 pub mod Feeds
 pub mod Kit
+pub mod Statuses
 pub mod Words

@@ -1,4 +1,4 @@
-//! The program `instants` for C: a static library. `include/instants.h` declares its calls, and says what a caller keeps to.
+//! The programs `instants` and `instants-lines` for C: a static library. `include/instants.h` declares its calls, and says what a caller keeps to.
 //!
 //! Words stand in one text, with a line feed between them. All memory that a call takes, from the C library, is given back
 //! before it ends; what an open handle keeps is given back as it is closed, and nothing else is kept from call to call.
@@ -29,6 +29,9 @@ ghost use Rattle.instants_c.specs.Refused.{IsCutShort, IsPut};
 
 mod handle;
 mod kept;
+mod line_calls;
+mod lines_handle;
+mod lines_kept;
 mod parts;
 mod sentences;
 mod texts;
@@ -37,6 +40,12 @@ pub use handle::Handle;
 use instants_memory::{LINE_ROOM, Moment};
 use instants_timeline::ProgramFault;
 pub use kept::Kept;
+pub use line_calls::{
+    instants_lines_close, instants_lines_dates, instants_lines_keys, instants_lines_open,
+    instants_lines_sentence,
+};
+pub use lines_handle::LinesHandle;
+pub use lines_kept::KeptLines;
 use parts::Parts;
 use std::alloc::Global;
 use std::mem;

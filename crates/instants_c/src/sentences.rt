@@ -4,8 +4,12 @@ ghost use Rattle.std.specs.Fmt.{decimal};
 ghost use Rattle.instants_words.specs.declared.fault.WordsFault.{WordsFault};
 ghost use Rattle.instants_faults.specs.ProgramText.{sentence, status_of};
 ghost use Rattle.instants_faults.specs.declared.program_fault.ProgramFault.{ProgramFault};
+ghost use Rattle.instants_lines.specs.declared.lines_fault.LinesFault.{LinesFault};
+ghost use Rattle.instants_lines_memory.specs.FaultText.{sentence as open_sentence, status_of as open_status_of};
+ghost use Rattle.instants_lines_memory.specs.declared.open_fault.OpenFault.{OpenFault};
 ghost use Rattle.instants_c.specs.Refused.{IsPut};
 
+use instants_lines_memory::OpenFault;
 use instants_timeline::ProgramFault;
 use instants_words::WordsFault;
 use std::alloc::Global;
@@ -33,6 +37,29 @@ pub(crate) fn write(alloc: Global, fault: ProgramFault, output: &mut [u8], len: 
         Err(_) => {
             put(output, b"instants: out of memory", len);
             ProgramFault::Memory.status()
+        }
+    }
+}
+
+/// Writes the sentence of why a handle for lines is not opened, as much as there is room for, and gives its status. Where there is
+/// no memory for the sentence, that is the fault.
+pub(crate) fn write_open_fault(
+    alloc: Global,
+    fault: OpenFault,
+    output: &mut [u8],
+    len: &mut usize,
+) -> u8
+    ensures { (told : OpenFault) × ((told ≡ fault.entry) ⊎ (told ≡ OpenFault.Lines (LinesFault.Program ProgramFault.Memory)))
+        × (result ≡ open_status_of told) × IsPut (open_sentence told) output.old output.new len.new }
+{
+    match fault.to_string(alloc) {
+        Ok(sentence) => {
+            put(output, sentence.as_bytes(), len);
+            fault.status()
+        }
+        Err(_) => {
+            put(output, b"instants-lines: out of memory", len);
+            1
         }
     }
 }

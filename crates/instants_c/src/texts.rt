@@ -20,6 +20,16 @@ fn words_of(alloc: Global, text: &str) -> Result<Vec<&str>, AllocError>
     text.split('\n').collect(alloc)
 }
 
+/// A list of the words with a line feed between them. Words that are not UTF-8 are not to be had, as for the program.
+pub(crate) fn list_in<'a>(alloc: Global, words: &'a [u8]) -> Result<Vec<&'a str>, AllocError>
+    ensures { IfOk result (λ list. map (λ word. word.now) list.items ≡ parts words.now) }
+{
+    match str::from_utf8(words) {
+        Ok(text) => words_of(alloc, text),
+        Err(_) => Err(AllocError),
+    }
+}
+
 /// A list of the words with a line feed between them, which are looked at first. Words that are not UTF-8 are not to be had,
 /// as for the program.
 pub(crate) fn words_in<'a>(alloc: Global, words: &'a [u8]) -> Result<Vec<&'a str>, ProgramFault<'a>>

@@ -17,3 +17,5 @@ pub mod Handed
 pub mod Fields
 pub mod WithoutKeys
 pub mod Replaced
+pub mod KeyedLines
+mod Unix

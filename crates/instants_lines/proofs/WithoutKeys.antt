@@ -71,7 +71,7 @@ of_keyed P key carry mode (inr e) = subst P (sym e) carry
 pub not_explained : (mode : Mode) → IsKeyed mode → is_explain mode ≡ false
 not_explained mode is = of_keyed (λ mode. is_explain mode ≡ false) refl refl mode is
 
-text_of : (mode : Mode) → IsKeyed mode → (going : Going) (line : List ℕ) → text_in mode going line ≡ keyed going line
+pub text_of : (mode : Mode) → IsKeyed mode → (going : Going) (line : List ℕ) → text_in mode going line ≡ keyed going line
 text_of mode is going line = of_keyed (λ mode. text_in mode going line ≡ keyed going line) refl refl mode is
 
 end_of : (mode : Mode) → IsKeyed mode → last_end mode ≡ line_feed ∷ []

@@ -39,6 +39,11 @@ is_explain Explain = true
 is_explain _ = false
 
 -- lines are written after their keys
+abbrev pub has_keys : Mode → Bool
+has_keys Key = true
+has_keys Carry = true
+has_keys _ = false
+
 abbrev pub IsKeyed : Mode → Type 0
 IsKeyed mode = (mode ≡ Key) ⊎ (mode ≡ Carry)
 

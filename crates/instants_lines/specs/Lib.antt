@@ -7,9 +7,12 @@ pub mod Going
 pub mod Joining
 pub mod Fields
 pub mod Asked
-pub mod Showing
 pub mod KeptDay
+pub mod Showing
+pub mod Opened
 pub mod Writing
+pub mod LineDates
+pub mod Below
 pub mod Wrote
 pub mod ProgramText
 pub mod Program

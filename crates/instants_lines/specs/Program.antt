@@ -52,7 +52,7 @@ IsBeforeRun (lines.Lacks lacking) = ⊤
 IsBeforeRun (lines.Program fault) = instants.IsBeforeRun fault
 
 -- what is wrong with the words, where that ended the program
-abbrev pub wrong_in : Result (Unit {0}) LinesFault → Option Wrong
+abbrev pub wrong_in : {A : Type 0} → Result A LinesFault → Option Wrong
 wrong_in (Ok done) = None
 wrong_in (Err (lines.Words wrong)) = Some (wrong_of wrong)
 wrong_in (Err (lines.Zone name)) = None

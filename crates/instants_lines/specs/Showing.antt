@@ -19,7 +19,7 @@ limit_in dates = limit_of dates.finder
 
 -- the part of each line in which dates are looked for
 abbrev pub part_in : DateSources → Option PartSaid
-part_in dates = option_map part_of dates.part.now
+part_in dates = option_map part_of dates.part
 
 -- what is given, with a zone
 abbrev pub given_of : Known → Option (Bor Zone) → Given

@@ -3,7 +3,8 @@ use Rattle.std.specs.Prelude.{ℕ, option_map}
 use Rattle.instants_stream.specs.Steps.{by_steps}
 use Rattle.instants_stream.specs.Writing.{Writing}
 use Rattle.instants_lines.specs.Showing.{given_of, part_in, search_in}
-use Rattle.instants_lines.specs.Going.{Going, beginning, lines_steps, reach}
+use Rattle.instants_lines.specs.Going.{Going, lines_steps, reach}
+use Rattle.instants_lines.specs.Opened.{begins_in}
 use Rattle.instants_lines.specs.declared.line_writer.LineWriter.{LineWriter}
 use Rattle.instants_lines.specs.declared.program.LinesAsked.{LinesAsked}
 
@@ -12,5 +13,4 @@ going_of writer = record { mode = writer.mode; search = search_in writer.dates.n
 
 -- what is written as words ask, where there is room for lines of so many bytes
 abbrev pub writing_for : LinesAsked → ℕ → Writing
-writing_for lines most =
-    by_steps lines_steps (beginning lines.mode (option_map (λ text. text.now) lines.label) (search_in lines.dates (given_of lines.known lines.zone))) (reach lines.mode (part_in lines.dates) most)
+writing_for asked most = by_steps lines_steps (begins_in asked.lines.now asked.zone) (reach asked.lines.now.mode (part_in asked.lines.now.dates) most)

@@ -10,9 +10,9 @@ use instants_lines_words::LinePart;
 
 /// Sources that are looked for in lines or in a part of each, the offset that they assume for whole lines, and the target at which moments are shown.
 #[derive(Drop)]
-pub(crate) struct DateSources<'a, 'p> {
+pub(crate) struct DateSources<'a> {
     pub(crate) finder: Finder<'a>,
-    pub(crate) part: &'p Option<LinePart<'a>>,
+    pub(crate) part: Option<LinePart<'a>>,
     pub(crate) assumed: Option<UtcOffset>,
     pub(crate) target: Target,
 }

@@ -24,7 +24,7 @@ fn before(number: usize) -> &'static [u8]
 
 // The answer of a source to a line, or its fault.
 #[tactic(auto, unfolding(crate::specs::Explained::text_by))]
-fn text_by(dates: &DateSources<'_, '_>, source: &DateSource<'_>, line: &[u8]) -> Answer
+fn text_by(dates: &DateSources<'_>, source: &DateSource<'_>, line: &[u8]) -> Answer
     ensures { result ≡ text_by (setting_in dates.now) line.now (grammar_in source.now) }
 {
     match answer_by(source.source(), line, dates.assumed, dates.target) {
@@ -36,7 +36,7 @@ fn text_by(dates: &DateSources<'_, '_>, source: &DateSource<'_>, line: &[u8]) ->
 // The answer of the first source that names a moment, and its number; the sources are numbered from here on.
 #[tactic(auto, unfolding(crate::specs::Explained::text_by, crate::specs::Explained::said_by, crate::specs::Explained::first_answer))]
 fn first_answer(
-    dates: &DateSources<'_, '_>,
+    dates: &DateSources<'_>,
     sources: &[DateSource<'_>],
     number: usize,
     line: &[u8],
@@ -55,7 +55,7 @@ fn first_answer(
 // Writes what all sources say, one after another; they are numbered from here on.
 #[tactic(auto, using(crate::proofs::Turns::in_turn), unfolding(crate::specs::Explained::said_by, crate::specs::Explained::all_said))]
 fn write_all_said<W: ByteWriter>(
-    dates: &DateSources<'_, '_>,
+    dates: &DateSources<'_>,
     sources: &[DateSource<'_>],
     number: usize,
     line: &[u8],
@@ -78,7 +78,7 @@ fn write_all_said<W: ByteWriter>(
 /// Writes what the sources say of a line.
 #[tactic(auto, unfolding(crate::specs::Explained::explained))]
 pub(crate) fn write_explained<W: ByteWriter>(
-    dates: &DateSources<'_, '_>,
+    dates: &DateSources<'_>,
     line: &[u8],
     writer: &mut W,
 ) -> Result<(), DeviceFailed>

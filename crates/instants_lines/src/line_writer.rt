@@ -7,6 +7,8 @@ ghost use Rattle.instants_lines.specs.KeptDay.{IsKept-prop};
 ghost use Rattle.instants_lines.specs.Showing.{given_of};
 
 mod calls;
+mod dates;
+mod keys;
 mod writes;
 
 use crate::date_sources::DateSources;
@@ -16,12 +18,12 @@ use instants_found::KeptDay;
 use instants_lines_words::Mode;
 use zones_clock::Zone;
 
-/// Writes lines in a mode, by their dates. It keeps the key that a line without a date takes,
+/// Writes lines in a mode, by their dates, or has their keys or dates without writing. It keeps the key that a line without a date takes,
 /// the year of the last date where one is given, and how deep the last line with a date begins.
 #[derive(Drop)]
-pub(crate) struct LineWriter<'a, 'b, 'p> {
+pub struct LineWriter<'a, 'b> {
     mode: Mode,
-    dates: &'a DateSources<'b, 'p>,
+    dates: &'a DateSources<'b>,
     known: Known,
     zone: Option<&'a Zone>,
     // Whether nothing is given, which is found once.

@@ -55,7 +55,7 @@ fn reason(doubt: Doubt) -> &'static [u8]
 
 // Writes what a source has read at a place that is in doubt, and why.
 fn write_doubt<W: ByteWriter>(
-    dates: &DateSources<'_, '_>,
+    dates: &DateSources<'_>,
     given: &Given,
     at: usize,
     text: &[u8],
@@ -84,7 +84,7 @@ fn write_doubt<W: ByteWriter>(
 // thing that a call does.
 #[tactic(auto, using(crate::proofs::Turns::in_turn), unfolding(crate::specs::Located::doubts_from))]
 fn write_doubts<W: ByteWriter>(
-    dates: &DateSources<'_, '_>,
+    dates: &DateSources<'_>,
     sources: &[DateSource<'_>],
     given: &Given,
     at: usize,
@@ -110,7 +110,7 @@ fn write_doubts<W: ByteWriter>(
 /// Writes the key of a line by what is found in a text, which begins at a place of the line, and what has read it.
 #[tactic(auto, using(crate::proofs::Turns::in_turn), unfolding(crate::specs::Dates::place_of_date))]
 pub(crate) fn write_finding<W: ByteWriter>(
-    dates: &DateSources<'_, '_>,
+    dates: &DateSources<'_>,
     given: &Given,
     at: usize,
     text: &[u8],
@@ -161,7 +161,7 @@ fn write_escaped<W: ByteWriter>(at: usize, date: &Found, writer: &mut W) -> Resu
 
 // Writes the key of a line by what is found in the text of a part, and what has read it.
 fn write_part_finding<W: ByteWriter>(
-    dates: &DateSources<'_, '_>,
+    dates: &DateSources<'_>,
     given: &Given,
     part: &LinePart<'_>,
     at: usize,
@@ -200,7 +200,7 @@ fn write_again<W: ByteWriter>(repeats: bool, writer: &mut W) -> Result<(), Devic
 /// follows.
 #[tactic(auto, using(crate::proofs::Turns::in_turn))]
 pub(crate) fn write_part<W: ByteWriter>(
-    dates: &DateSources<'_, '_>,
+    dates: &DateSources<'_>,
     given: &Given,
     part: &LinePart<'_>,
     place: &Member,

@@ -1,70 +1,38 @@
 //! The program between its words and its end.
-ghost use Rattle.std.specs.Prelude.{◌≡◌, ◌<◌, ◌≤◌, ◌+◌, ◌^◌, ℕ, false, length, map, option_map, None, Some, Ok, Err, Option, IsOk, IfOk, IfSome, IfErr};
-ghost use Rattle.std.specs.Borrow.{Bor};
+ghost use Rattle.std.specs.Prelude.{◌≡◌, false, map, None, Some, Ok, Err, IsOk, IfSome, IfErr};
 ghost use Rattle.std.specs.Io.KnownBytes.{Keeps};
-ghost use Rattle.zones_clock.specs.declared.zone.Zone.{Zone};
 ghost use Rattle.instants_stream.specs.Ran.{RanAndFlushed};
 ghost use Rattle.instants_words.specs.declared.words.Words.{Words};
-ghost use Rattle.instants_timeline.specs.Place.{Setting};
 ghost use Rattle.instants_timeline.specs.Sources.{IsRefusal};
 ghost use Rattle.instants_faults.specs.declared.new_fault.NewFault.{NewFault};
 ghost use Rattle.instants_faults.specs.declared.program_fault.ProgramFault.{ProgramFault};
-ghost use Rattle.instants_lines_words.specs.Asked.{Asking, asking_of};
-ghost use Rattle.instants_lines_words.specs.Part.{part_of};
+ghost use Rattle.instants_lines_words.specs.Asked.{Asking};
 ghost use Rattle.instants_lines_words.specs.Words.{mode_words_said};
 ghost use Rattle.instants_lines_words.specs.Wrong.{Wrong};
-ghost use Rattle.instants_lines.specs.Asked.{given_by, zone_asked, zone_lacking};
-ghost use Rattle.instants_lines.specs.Going.{Going, reach, room};
+ghost use Rattle.instants_lines.specs.Asked.{zone_lacking};
+ghost use Rattle.instants_lines.specs.Going.{Going};
 ghost use Rattle.instants_lines.specs.Lacking.{lacking_in};
-ghost use Rattle.instants_lines.specs.Showing.{given_of, search_in};
 ghost use Rattle.instants_lines.specs.Program.{AsksFor, IsBeforeRun, IsMemory, IsOfWords, IsReportedAs, run_of, writing, wrong_in};
 ghost use Rattle.instants_lines.specs.declared.lacking.Lacking.{Lacking};
 
-use crate::date_sources::{DateSources, first_lacking};
-use crate::known::Known;
-use crate::lacking::Lacking;
-use crate::line_part::LONGEST;
-use crate::line_writer::LineWriter;
 use crate::lines_fault::LinesFault;
-use calendar::UtcOffset;
-use instants_lines_words::{Asked, LinePart, Mode, read_mode_words};
-use instants_prefixes::Years;
+use crate::open_lines::OpenLines;
 use instants_stream::write_lines;
-use instants_timeline::{ByteReader, ByteWriter, RunFault, RunsLines, asked_timeline, run_program};
+use instants_timeline::{ByteReader, ByteWriter, RunFault, RunsLines, run_program};
 use std::alloc::Global;
 use zones_clock::Zone;
 
-// What writes for the lines of a stream as words ask.
+// What writes for the lines of a stream as words ask, with a zone.
 #[derive(Drop)]
-struct LinesAsked<'a, 'b, 'p, 'z> {
-    mode: Mode,
-    label: Option<&'a str>,
-    known: Known,
-    zone: Option<&'z Zone>,
-    dates: DateSources<'b, 'p>,
+struct LinesAsked<'o, 'a> {
+    lines: &'o OpenLines<'a>,
+    zone: Option<&'o Zone>,
 }
 
-impl LinesAsked<'_, '_, '_, '_> {
-    // The first source that can name no moment.
-    fn lacking(&self) -> Option<Lacking>
-        ensures { result ≡ lacking_in (search_in self.now.dates (given_of self.now.known self.now.zone)) }
-    {
-        lacking_by(&self.dates, self.known, self.zone)
-    }
-}
-
-// The first source that can name no moment.
-fn lacking_by(dates: &DateSources<'_, '_>, known: Known, zone: Option<&Zone>) -> Option<Lacking>
-    ensures { result ≡ lacking_in (search_in dates.now (given_of known zone.entry)) }
-{
-    let given = known.on(zone);
-    first_lacking(dates.finder.sources(), 1, &given)
-}
-
-impl RunsLines for LinesAsked<'_, '_, '_, '_> {
+impl RunsLines for LinesAsked<'_, '_> {
     ghost use Rattle.instants_lines.specs.Writing.{writing_for};
 
-    ghost writing = { λ lines limit. writing_for lines limit };
+    ghost writing = { λ asked limit. writing_for asked limit };
 
     // A function of its own, in which the reader, the writer and the buffer are known to lie apart.
     #[inline(never)]
@@ -75,68 +43,9 @@ impl RunsLines for LinesAsked<'_, '_, '_, '_> {
         reader: &mut R,
         writer: &mut W,
     ) -> Result<(), RunFault> {
-        let (mode, label) = (self.mode, self.label);
-        let mut lines = LineWriter::new(mode, label, &self.dates, self.known, self.zone);
-        let near = reach(mode, self.dates.part, limit);
+        let mut lines = self.lines.writer(self.zone);
+        let near = self.lines.reach(limit);
         write_lines(&mut lines, near, buffer, reader, writer)
-    }
-}
-
-// The zone on whose clock dates are, where one is asked for, or the name of it where it is not there.
-fn zone_asked<'z, 'a>(
-    name: Option<&'a str>,
-    zone: Option<&'z Zone>,
-) -> Result<Option<&'z Zone>, &'a str>
-    ensures there { IfOk result (λ there.
-        (there ≡ zone_asked (option_map (λ text. text.now) name.entry) zone.entry)
-        × (zone_lacking (option_map (λ text. text.now) name.entry) zone.entry ≡ None)) }
-    ensures lacking { IfErr result (λ lacking.
-        zone_lacking (option_map (λ text. text.now) name.entry) zone.entry ≡ Some lacking.now) }
-{
-    match (name, zone) {
-        (None, _) => Ok(None),
-        (Some(_), Some(zone)) => Ok(Some(zone)),
-        (Some(name), None) => Err(name),
-    }
-}
-
-// What is given for dates that lack it, beside a zone.
-fn known_by(asked: &Asked<'_>, assumed: Option<UtcOffset>) -> Known
-    ensures { (setting : Setting) (there : Option (Bor Zone)) → setting.assumed ≡ assumed
-        → given_of result (zone_asked (asking_of asked.now).zone there)
-        ≡ given_by (asking_of asked.now) there setting }
-{
-    let years = match asked.year {
-        Some(year) => Years::In(year),
-        None => Years::Unknown,
-    };
-    Known {
-        offset: assumed,
-        years,
-        time: asked.time,
-    }
-}
-
-// The greatest length of lines for which there is room.
-fn room(part: &Option<LinePart<'_>>, limit: usize) -> usize
-    ensures room { result ≡ room (option_map part_of part.now) limit }
-    ensures few { limit ≤ 1_048_576 → result ≤ 1_048_576 }
-{
-    match part {
-        None => limit,
-        Some(_) => LONGEST,
-    }
-}
-
-// How many bytes of a line are looked at, beside one more, where there is room for so many.
-fn reach(mode: Mode, part: &Option<LinePart<'_>>, most: usize) -> usize
-    requires { most + 320 < 2 ^ 64 }
-    ensures reach { result ≡ reach mode (option_map part_of part.now) most }
-    ensures few { result ≤ most + 320 }
-{
-    match (part, mode) {
-        (Some(_), _) | (None, Mode::Explain) => most,
-        (None, Mode::Key | Mode::Carry | Mode::Replace | Mode::Locate) => most + 320,
     }
 }
 
@@ -199,25 +108,12 @@ pub fn run_words<'a, R: ByteReader, W: ByteWriter>(
     ensures handed_on { IfSome (run_of result) (λ ended. ended ≡ Err RunFault.Read
         → W.failed writer.new ≡ false → Keeps (W.held writer.new) (W.handed_on writer.new)) }
 {
-    let (asked, filled) = read_mode_words(alloc, words)?;
-    let zone = match zone_asked(asked.zone, zone) {
-        Ok(zone) => zone,
-        Err(name) => return Err(LinesFault::Zone(name)),
-    };
-    let (timeline, limit) = asked_timeline(alloc, filled.as_slice())?;
-    let known = known_by(&asked, timeline.assumed());
-    let dates = DateSources::of_timeline(alloc, timeline, limit, &asked.part)?;
-    let most = room(dates.part, limit);
-    let lines = LinesAsked {
-        mode: asked.mode,
-        label: asked.label,
-        known,
+    let lines = OpenLines::of_words(alloc, words, zone)?;
+    let most = lines.most();
+    let asked = LinesAsked {
+        lines: &lines,
         zone,
-        dates,
     };
-    if let Some(lacking) = lines.lacking() {
-        return Err(LinesFault::Lacks(lacking));
-    }
-    run_program(&lines, alloc, most, reader, writer)?;
+    run_program(&asked, alloc, most, reader, writer)?;
     Ok(())
 }

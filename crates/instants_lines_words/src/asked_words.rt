@@ -1,5 +1,5 @@
 //! The words that say a zone, a year, a time of day, a part of each line and a label.
-ghost use Rattle.std.specs.Prelude.{◌≡◌, ◌∷◌, ◌==◌, ◌||◌, not, [], codes, option_map, true, unwrap_or};
+ghost use Rattle.std.specs.Prelude.{◌≡◌, ◌∷◌, ◌==◌, ◌||◌, not, [], option_map, true, unwrap_or};
 ghost use Rattle.std.specs.Result.{result_map_both};
 ghost use Rattle.instants_words.specs.Pieces.{number_said};
 ghost use Rattle.instants_lines_words.specs.Asked.{asking_of};

@@ -197,7 +197,7 @@ written_short : (b : Bool) (m : Shown) → length (place_text (cond b (Ok m) (Er
 written_short true m = at_most_35 m
 written_short false m = lit≤ tt
 
-year_short : (m : Option Shown) → length (place_text (in_written_years m)) ≤ 35
+pub year_short : (m : Option Shown) → length (place_text (in_written_years m)) ≤ 35
 year_short None = lit≤ tt
 year_short (Some m) = written_short (has_written_year m) m
 

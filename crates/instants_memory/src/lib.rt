@@ -19,4 +19,4 @@ mod moments;
 mod numbers;
 
 pub use answers::{LINE_ROOM, answer_lines};
-pub use moments::{Moment, moments_over};
+pub use moments::{Moment, first_line, moments_over};

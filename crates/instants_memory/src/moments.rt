@@ -63,9 +63,9 @@ fn line_numbers(timeline: &Timeline, limit: usize, line: &[u8]) -> Moment
     }
 }
 
-// The first line of an input, and the bytes after it and its line feed.
+/// The first line of an input, and the bytes after it and its line feed.
 #[inline(always)]
-fn first_line(input: &[u8]) -> (&[u8], &[u8])
+pub fn first_line(input: &[u8]) -> (&[u8], &[u8])
     requires { 0 < length input.now }
     ensures lines { lines input.now ≡ result.0.now ∷ lines result.1.now }
     ensures less { length result.1.now < length input.now }

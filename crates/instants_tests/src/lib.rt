@@ -23,6 +23,8 @@ mod guesses;
 #[cfg(test)]
 mod lines;
 #[cfg(test)]
+mod lines_memory;
+#[cfg(test)]
 mod memory;
 #[cfg(test)]
 mod moved_lines;

@@ -9,8 +9,8 @@ use std::alloc::{AllocError, Global};
 use std::test::Fail;
 use zones::{Zone, ZoneFault, read_zone};
 
-// The file of a zone whose clock is that of Berlin by today's rule (RFC 9636): twice a block of one type, and a footer.
-static FILE: &[u8] =
+/// The file of a zone whose clock is that of Berlin by today's rule (RFC 9636): twice a block of one type, and a footer.
+pub(crate) static FILE: &[u8] =
     b"TZif2\0\0\0\0\0\0\0\0\0\0\0\0\0\0\0\0\0\0\0\0\0\0\0\0\0\0\0\0\0\0\0\0\0\0\x01\0\0\0\x04\0\0\x0e\x10\0\0CET\0\
 TZif2\0\0\0\0\0\0\0\0\0\0\0\0\0\0\0\0\0\0\0\0\0\0\0\0\0\0\0\0\0\0\0\0\0\0\x01\0\0\0\x04\0\0\x0e\x10\0\0CET\0\
 \nCET-1CEST,M3.5.0,M10.5.0/3\n";

@@ -24,21 +24,36 @@ use instants_timeline::{Timeline, answer_moment};
 use std::alloc::{AllocError, Global};
 use zones_clock::Zone;
 
-impl<'a, 'p> DateSources<'a, 'p> {
+// A part of its own.
+fn own_part<'a>(part: &Option<LinePart<'a>>) -> Option<LinePart<'a>>
+    ensures { option_map part_of result ≡ option_map part_of part.now }
+{
+    match part {
+        Some(LinePart::Field(name)) => Some(LinePart::Field(name)),
+        Some(LinePart::Column { number, separator }) => Some(LinePart::Column {
+            number: *number,
+            separator: *separator,
+        }),
+        None => None,
+    }
+}
+
+impl<'a> DateSources<'a> {
     /// Looks for the sources of a timeline, in order, at so many first places of a line or of a part of it, and shows moments as it
     /// does.
     pub(crate) fn of_timeline(
         alloc: Global,
         timeline: Timeline<'a>,
         limit: usize,
-        part: &'p Option<LinePart<'a>>,
-    ) -> Result<DateSources<'a, 'p>, AllocError>
+        part: &Option<LinePart<'a>>,
+    ) -> Result<DateSources<'a>, AllocError>
         ensures setting { IfOk result (λ dates. setting_in dates ≡ setting_of timeline.entry) }
         ensures limit { IfOk result (λ dates. limit_in dates ≡ limit) }
         ensures part { IfOk result (λ dates. part_in dates ≡ option_map part_of part.now) }
     {
         let (target, assumed) = (timeline.target(), timeline.assumed());
         let finder = Finder::new(alloc, timeline.into_sources(), limit)?;
+        let part = own_part(part);
         Ok(DateSources {
             finder,
             part,
@@ -95,7 +110,7 @@ impl<'a, 'p> DateSources<'a, 'p> {
         ensures within { IfSome result
             (LiesIn (length line.now) (length (setting_in self.now).sources)) }
     {
-        match self.part {
+        match &self.part {
             None => self.finder.find(given, line),
             Some(part) => self.find_in_part(given, part, line),
         }

@@ -30,15 +30,15 @@ use instants_stream::{ByteWriter, DeviceFailed};
 use instants_timeline::shown_at;
 use zones_clock::Zone;
 
-impl<'a, 'b, 'p> LineWriter<'a, 'b, 'p> {
+impl<'a, 'b> LineWriter<'a, 'b> {
     /// At the beginning a line without a date takes `! none`.
     pub(crate) fn new(
         mode: Mode,
         label: Option<&'a str>,
-        dates: &'a DateSources<'b, 'p>,
+        dates: &'a DateSources<'b>,
         known: Known,
         zone: Option<&'a Zone>,
-    ) -> LineWriter<'a, 'b, 'p>
+    ) -> LineWriter<'a, 'b>
         ensures { going_of result ≡ beginning mode (option_map (λ text. text.now) label.entry)
             (search_in dates.now (given_of known zone.entry)) }
     {
@@ -62,7 +62,7 @@ impl<'a, 'b, 'p> LineWriter<'a, 'b, 'p> {
 
     // What is given for dates that lack it.
     #[inline(always)]
-    fn given(&self) -> Given<'a>
+    pub(crate) fn given(&self) -> Given<'a>
         ensures { result ≡ (going_of self.now).search.given }
     {
         self.known.on(self.zone)
@@ -70,7 +70,7 @@ impl<'a, 'b, 'p> LineWriter<'a, 'b, 'p> {
 
     // Whether a line goes on with what the last one with a date says.
     #[inline(always)]
-    fn goes_on(&self, line: &[u8]) -> bool
+    pub(crate) fn goes_on(&self, line: &[u8]) -> bool
         ensures { result ≡ goes_on (going_of self.now).mode (going_of self.now).indent line.now }
     {
         match self.indent {
@@ -165,7 +165,7 @@ impl<'a, 'b, 'p> LineWriter<'a, 'b, 'p> {
     // Makes the key of a date in the storage, and keeps for the lines below what they take of it.
     #[inline(always)]
     #[tactic(auto, unfolding(crate::specs::Dates::place_of_date))]
-    fn take_date(&mut self, date: &Found, line: &[u8])
+    pub(crate) fn take_date(&mut self, date: &Found, line: &[u8])
         ensures key { self.new.storage ≡ key_of_date (going_of self.old).search.setting date.now }
         ensures room { length self.new.storage ≤ 63 }
         ensures next { going_of self.new ≡ below_by (going_of self.old) (depth line.now) (Some (There date.now)) }
@@ -178,7 +178,7 @@ impl<'a, 'b, 'p> LineWriter<'a, 'b, 'p> {
     // The key of a line by what is found in it, which is kept for the lines below.
     #[inline(always)]
     #[tactic(auto, using(crate::proofs::Keyed::below_none))]
-    fn take_key(&mut self, line: &[u8], finding: Option<Finding>) -> Answer
+    pub(crate) fn take_key(&mut self, line: &[u8], finding: Option<Finding>) -> Answer
         ensures key { result ≡ key_or (going_of self.old).search.setting (going_of self.old).key finding }
         ensures room { length result ≤ 63 }
         ensures next { going_of self.new ≡ below_by (going_of self.old) (depth line.now) finding }
@@ -453,7 +453,7 @@ impl<'a, 'b, 'p> LineWriter<'a, 'b, 'p> {
         ensures next { OnOk result (going_of self.new ≡ below (going_of self.old) line.now) }
     {
         let dates = self.dates;
-        match dates.part {
+        match &dates.part {
             None => self.write_located_line(line, writer),
             Some(part) => self.write_located_part(part, line, writer),
         }

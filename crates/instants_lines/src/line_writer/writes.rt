@@ -10,7 +10,7 @@ use crate::line_writer::LineWriter;
 use instants_lines_words::Mode;
 use instants_stream::{ByteWriter, DeviceFailed, WritesLines};
 
-impl LineWriter<'_, '_, '_> {
+impl LineWriter<'_, '_> {
     // Writes the text for a line in any mode, without a line feed: a call beside the loop over lines, which has the modes with
     // keys of whole lines alone.
     #[cold]
@@ -48,7 +48,7 @@ impl LineWriter<'_, '_, '_> {
     }
 }
 
-impl WritesLines for LineWriter<'_, '_, '_> {
+impl WritesLines for LineWriter<'_, '_> {
     ghost use Rattle.instants_lines.specs.Going.{Going, lines_steps};
     ghost use Rattle.instants_lines.specs.Writing.{going_of};
 
@@ -64,7 +64,7 @@ impl WritesLines for LineWriter<'_, '_, '_> {
         line: &[u8],
         writer: &mut W,
     ) -> Result<(), DeviceFailed> {
-        match (self.mode, self.dates.part) {
+        match (self.mode, &self.dates.part) {
             (Mode::Key | Mode::Carry, None) => self.write_keyed(line, writer),
             _ => self.write_text_line(line, writer),
         }

@@ -1,0 +1,4 @@
+pub mod Puts
+pub mod KeysDue
+pub mod DatesDue
+pub mod Wrapped
