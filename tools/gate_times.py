@@ -48,8 +48,9 @@ EVERY = 1
 TICKS = os.sysconf("SC_CLK_TCK")
 # What the gate does of a crate.
 WORK = ("proof", "tests", "mutations")
-# The bounds, in minutes of a processor: for everything, and for a crate with its tests and mutations.
-BOUND, CRATE_BOUND = 85, 6
+# The bounds, in minutes of a processor: for everything (75, and 8 each for zones and for fields and the calls for lines), and for a crate with its
+# tests and mutations.
+BOUND, CRATE_BOUND = 91, 6
 # What docs/gate.json has; a crate and what is done of it; what each process works on, with its seconds, by its number and its beginning.
 Figures = dict[str, Any]
 Work = tuple[str, str]
