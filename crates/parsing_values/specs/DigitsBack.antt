@@ -22,7 +22,7 @@ one_more w v c prefix low high e =
     rw (tens, last, e) refl
 
 -- the digits at the start are the decimal of their number
-decimal_of_digits : (n : ℕ) (bytes : List ℕ) → n ≤ digit_count bytes → decimal n (digits_value 10 (take n bytes)) ≡ take n bytes
+pub decimal_of_digits : (n : ℕ) (bytes : List ℕ) → n ≤ digit_count bytes → decimal n (digits_value 10 (take n bytes)) ≡ take n bytes
 unfolding decimal
 decimal_of_digits zero bytes h = refl
 decimal_of_digits (suc n) bytes h =
