@@ -1,5 +1,9 @@
 -- Bytes put into a room one after another.
-use Rattle.std.proofs.Common.{◌≡◌, ℕ, ◌+◌, ◌≤◌, List, ◌++◌, length, take, sym, ap, ◌∙◌, arith, take-take}
+use Rattle.std.proofs.Common.{◌≡◌, ℕ, ◌+◌, ◌≤◌, List, ◌++◌, length, take, pos, refl, sym, ap, ◌∙◌, arith, take-take}
+use Rattle.calendar.specs.UtcOffset.{IsClockOffset}
+use Rattle.parsing_values.specs.Decimal.{decimal}
+use Rattle.parsing_values.specs.declared.fields.Fields.{Fields}
+use Rattle.instants_answers.specs.Text.{date_text, time_text, offset_text, utc_text}
 use Rattle.std.proofs.lemmas.List.{length-take-le}
 use Rattle.std.proofs.Math.Seq.{take-append-add}
 
@@ -12,3 +16,11 @@ first_of at count old new bytes within few put =
 -- bytes that are a text of so many bytes were put after a text
 pub after_text : (at n : ℕ) (old new bytes text prefix : List ℕ) → bytes ≡ text → length text ≡ n → take at old ≡ prefix → take (at + length bytes) new ≡ take at old ++ bytes → take (at + n) new ≡ prefix ++ text
 after_text at n old new bytes text prefix is long before put = rw (is, long, before) at put
+
+-- a moment in UTC is written in thirty bytes
+pub utc_length : (f : Fields) → length (utc_text f) ≡ 30
+unfolding date_text time_text offset_text decimal
+utc_length f = refl
+
+pub utc_is_clock : IsClockOffset (pos 0)
+utc_is_clock = record { whole_minutes = refl; within_a_day = omega arith }

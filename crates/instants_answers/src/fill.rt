@@ -10,13 +10,14 @@ ghost use Rattle.parsing_values.specs.Moment.{moment_of};
 ghost use Rattle.instants_answers.specs.Line.{HoldsLine};
 ghost use Rattle.instants_answers.specs.Minute.{minute_text};
 ghost use Rattle.instants_answers.specs.Moved.{at_offset};
-ghost use Rattle.instants_answers.specs.Text.{FitsLine, date_text, moment_text, parts_text, time_text};
+ghost use Rattle.instants_answers.specs.Text.{FitsLine, date_text, moment_text, parts_text, time_text, utc_text};
 
 use crate::digits::{month_text, two_digits};
 use crate::fields_line::minutes_since;
 use crate::minutes::row;
 use crate::moved::moved_within_month;
 use crate::target::Target;
+use calendar_count::march;
 use parsing_values::{Fields, Fraction, Year};
 
 // Puts bytes into a room at a place. What stands before it stays.
@@ -111,4 +112,28 @@ pub fn fill_fields(fields: &Fields, target: Target, room: &mut [u8]) -> Option<u
 {
     let (day, minute) = moved_within_month(fields, minutes_since(fields, target))?;
     Some(fill_parts(fields, day, minute, target, room))
+}
+
+/// Writes the line of the moment that fields name in UTC, as it is shown in UTC, where a text is that line already, and a line
+/// feed at the start of a room of at least 64 bytes, and says how many bytes they are. What stood in the room is lost.
+#[inline(always)]
+pub fn fill_text(fields: &Fields, text: &[u8], room: &mut [u8]) -> usize
+    requires room { 64 ≤ length room.old }
+    requires text { text.now ≡ utc_text fields.now }
+    requires utc { fields.now.offset ≡ pos 0 }
+    ensures line { HoldsLine (moment_text (at_offset (pos 0) (moment_of fields.now))) result room.new }
+    ensures shown { shown_at (pos 0) (instant (moment_of fields.now))
+        ≡ Some (at_offset (pos 0) (moment_of fields.now)) }
+    ensures fits { FitsLine (at_offset (pos 0) (moment_of fields.now)) }
+    ensures size { length room.new ≡ length room.old }
+{
+    // (these two serve the check alone, and leave no code)
+    let year = i32::from(fields.year.number());
+    let _ = (
+        march::count_of_day(year, fields.month, fields.day),
+        fields.fraction.digits(),
+    );
+    put(room, 0, text);
+    put(room, text.len(), b"\n");
+    text.len() + 1
 }

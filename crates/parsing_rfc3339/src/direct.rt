@@ -1,9 +1,10 @@
 //! The moment that a text names.
-ghost use Rattle.std.specs.Prelude.{◌≡◌, ◌<◌, false, codes, Err, IfErr, IfSome, Ok};
+ghost use Rattle.std.specs.Prelude.{◌≡◌, ◌<◌, true, false, pos, codes, Err, IfErr, IfSome, Ok};
 ghost use Rattle.parsing_combinator.specs.Fault.{component};
 ghost use Rattle.parsing_combinator.specs.FaultOf.{Gives, fault_of};
 ghost use Rattle.parsing_combinator.specs.ShortName.{HasShortName};
 ghost use Rattle.parsing_rfc3339.specs.Direct.{direct, moment_of};
+ghost use Rattle.parsing_rfc3339.specs.Whole.{IsLikeWhole, whole_text};
 ghost use Rattle.parsing_combinator.specs.Readings.{value_read};
 ghost use Rattle.parsing_values.specs.Moment as Moment;
 
@@ -41,7 +42,9 @@ const SHORTEST: usize = 20;
 /// range and its second is no leap second: `None` says nothing of the text.
 #[inline(always)]
 pub fn read_usual_fields(input: &[u8]) -> Option<Fields>
-    ensures { IfSome result (λ fields. direct input.now ≡ Ok (Moment.moment_of fields)) }
+    ensures moment { IfSome result (λ fields. direct input.now ≡ Ok (Moment.moment_of fields)) }
+    ensures whole { IsLikeWhole input.now → IfSome result
+        (λ fields. (input.now ≡ whole_text fields) × (fields.offset ≡ pos 0)) }
 {
     // The hyphen by itself first: it is what most other texts lack.
     if input.len() < SHORTEST || input[4] != b'-' {
@@ -49,6 +52,17 @@ pub fn read_usual_fields(input: &[u8]) -> Option<Fields>
     }
     let fields = read_moment(&shape(), true, input)?;
     Some(fields)
+}
+
+// The bytes of a text with nine digits of a fraction, in UTC.
+const WHOLE: usize = 30;
+
+/// Whether a text has the length, the `T` and the `Z` of one with nine digits of a fraction, in UTC, whatever else it has.
+#[inline(always)]
+pub fn is_like_whole(input: &[u8]) -> bool
+    ensures { result ≡ true → IsLikeWhole input.now }
+{
+    input.len() == WHOLE && input[10] == b'T' && input[29] == b'Z'
 }
 
 /// The fields of a text with more digits of a fraction, or with a small `z`: `None` says nothing of the text.

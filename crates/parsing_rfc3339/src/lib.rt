@@ -8,7 +8,8 @@ mod reading;
 mod shape;
 
 pub use direct::{
-    begins_with_year, read_exact, read_fast, read_fields, read_rare_fields, read_usual_fields,
+    begins_with_year, is_like_whole, read_exact, read_fast, read_fields, read_rare_fields,
+    read_usual_fields,
 };
 pub use parts::Rfc3339Parts;
 pub use reading::parse_prefix;

@@ -1,11 +1,12 @@
 //! The answers of a timeline to lines, each written where it is to lie: at the start of a room of at least 64 bytes, with its
 //! line feed.
-ghost use Rattle.std.specs.Prelude.{◌≡◌, ◌≢◌, ◌<◌, ◌≤◌, ◌+◌, ◌∷◌, codes, drop, length, None, Ok, IfSome};
+ghost use Rattle.std.specs.Prelude.{◌≡◌, ◌≢◌, ◌<◌, ◌≤◌, ◌+◌, ◌∷◌, codes, drop, length, pos, None, Ok, IfSome};
 ghost use Rattle.std.specs.Option.{option_map};
 ghost use Rattle.std.specs.Result.{result_ok};
 ghost use Rattle.parsing_combinator.specs.FaultOf.{fault_of};
 ghost use Rattle.parsing_combinator.specs.ShortName.{HasShortName};
 ghost use Rattle.parsing_values.specs.Moment.{moment_of};
+ghost use Rattle.parsing_rfc3339.specs.Whole.{IsLikeWhole, whole_text};
 ghost use Rattle.instants_answers.specs.Line.{HoldsLine};
 ghost use Rattle.instants_sources.specs.Grammar.{grammar_of};
 ghost use Rattle.instants_sources.specs.Grammar as grammar;
@@ -18,7 +19,7 @@ use crate::shown::answer_moment;
 use crate::timeline::Timeline;
 use crate::timeline::search::none_kept;
 use datetime_types::OffsetDateTime;
-use instants_answers::{Answer, fill_fields};
+use instants_answers::{Answer, fill_fields, fill_text};
 use instants_faults::{LineFault, fill_no_year};
 use instants_sources::{Named, Source, directly_named};
 use parsing_combinator::Parse;
@@ -64,6 +65,31 @@ impl Timeline<'_> {
         let Some(fields) = found else {
             return None;
         };
+        Some(self.fill_moved(fields, room))
+    }
+
+    // Writes the moment that fields of a line in RFC 3339 name, if they were found: in UTC, a line with nine digits of a fraction
+    // is its answer.
+    #[inline(always)]
+    pub(super) fn fill_read(
+        &self,
+        found: Option<Fields>,
+        line: &[u8],
+        room: &mut [u8],
+    ) -> Option<usize>
+        requires room { 64 ≤ length room.old }
+        requires whole { IsLikeWhole line.now → IfSome found
+            (λ fields. (line.now ≡ whole_text fields) × (fields.offset ≡ pos 0)) }
+        ensures line { IfSome result (λ len.
+            HoldsAnswer (setting_of self.now) (option_map moment_of found) len room.new) }
+        ensures size { length room.new ≡ length room.old }
+    {
+        let Some(fields) = found else {
+            return None;
+        };
+        if parsing_rfc3339::is_like_whole(line) && self.target.is_utc() {
+            return Some(fill_text(&fields, line, room));
+        }
         Some(self.fill_moved(fields, room))
     }
 

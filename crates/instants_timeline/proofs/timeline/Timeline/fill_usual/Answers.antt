@@ -10,7 +10,7 @@ returns-in-Rfc2822-clause-line c =
 
 pub returns-in-Rfc3339-clause-line : goal.returns-in-Rfc3339-clause-line
 returns-in-Rfc3339-clause-line c =
-    rw c.in-Rfc3339.is (held_direct c.directly_named.ensures (setting_of c.args.self.now) c.read_usual_fields-in-Rfc3339.result Rfc3339 c.args.line.now c.fill_found-in-Rfc3339.new.room c.fill_found-in-Rfc3339.result c.read_usual_fields-in-Rfc3339.ensures c.fill_found-in-Rfc3339.ensures.line)
+    rw c.in-Rfc3339.is (held_direct c.directly_named.ensures (setting_of c.args.self.now) c.read_usual_fields-in-Rfc3339.result Rfc3339 c.args.line.now c.fill_found-in-Rfc3339.new.room c.fill_found-in-Rfc3339.result c.read_usual_fields-in-Rfc3339.ensures.moment c.fill_found-in-Rfc3339.ensures.line)
 
 pub returns-in-Iso8601-clause-line : goal.returns-in-Iso8601-clause-line
 returns-in-Iso8601-clause-line c =

@@ -13,4 +13,4 @@ fill_after-requires-clause-from c =
 
 pub returns-in-Some-clause-line : goal.returns-in-Some-clause-line
 returns-in-Some-clause-line c =
-    ∥∥₁_elim c.requires.leads (Prim.hlevel props) (λ led. led_direct c.directly_named.ensures (setting_of c.args.timeline.now) c.read_usual_fields.result grammar.Rfc3339 c.args.line.now c.fill_found.new.room c.in-Some.len led c.read_usual_fields.ensures c.in-Some.ensures.line)
+    ∥∥₁_elim c.requires.leads (Prim.hlevel props) (λ led. led_direct c.directly_named.ensures (setting_of c.args.timeline.now) c.read_usual_fields.result grammar.Rfc3339 c.args.line.now c.fill_read.new.room c.in-Some.len led c.read_usual_fields.ensures.moment c.in-Some.ensures.line)
