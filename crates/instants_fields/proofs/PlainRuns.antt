@@ -1,6 +1,6 @@
 -- Runs of bytes that stand for themselves.
 use Rattle.std.proofs.Common.{◌≡◌, ◌∙◌, ℕ, zero, suc, ◌+◌, ◌-◌, ◌<◌, ◌≤◌, max, Option, None, Some, Bool, true, false, cond, nat_lt, List, [], ◌∷◌, ◌++◌, length, take, drop, get_or, map, sym, ap, subst, inl, inr, refl, arith}
-use Rattle.std.specs.Prelude.{bit_or}
+use Rattle.std.specs.Prelude.{bit_or, ◌==◌, position}
 use Rattle.std.specs.Int.{bit_at}
 use Rattle.std.specs.Simd.Lanes.{mask_l}
 use Rattle.std.proofs.lemmas.Simd.{bit_mask_l}
@@ -8,6 +8,7 @@ use Rattle.std.specs.List.{AllByRecursion}
 use Rattle.std.specs.Str.{bytes_eq}
 use Rattle.std.proofs.lemmas.Bool.{cases_lt}
 use Rattle.std.proofs.lemmas.List.{get_or-map, get_or-drop, take-append-drop}
+use Rattle.std.proofs.lemmas.List.Quantifiers.{position-Some}
 use Rattle.std.proofs.lemmas.Nat.Bits.{bit_at-zero, bit_at_or}
 use Rattle.std.proofs.lemmas.Bool.Decides.{nat_tests}
 use Rattle.instants_fields.specs.Pieces.{rest_of}
@@ -68,8 +69,32 @@ plain_cut n text rest within plain at_mark =
 pub plain_says : (n : ℕ) (name text rest : List ℕ) → n ≤ length text → BeginPlain n text → drop n text ≡ 34 ∷ rest → says_after None name (string text) ≡ bytes_eq name (take n text)
 plain_says n name text rest within plain at_mark = ap (says_after None name) (plain_cut n text rest within plain at_mark) ∙ ap (is_text name) (plain_text (take n text))
 
-no_bit : (bits k : ℕ) → bits ≡ 0 → bit_at bits k ≡ 0
+pub no_bit : (bits k : ℕ) → bits ≡ 0 → bit_at bits k ≡ 0
 no_bit bits k none = rw none (bit_at-zero k)
 
 pub plain_sixteen : (text : List ℕ) (bits : ℕ) → bits ≡ 0 → ((k : ℕ) → k < 16 → bit_at bits k ≡ 0 → IsPlain (get_or text k 0)) → BeginPlain 16 text
 plain_sixteen text bits none plain = λ k lt. plain k lt (no_bit bits k none)
+
+-- ---- texts without a backslash
+
+-- the first bytes are none
+abbrev pub BeginFree : ℕ → List ℕ → Type 0
+BeginFree n text = (k : ℕ) → k < n → (get_or text k 0 == 92) ≡ false
+
+pub more_free : (n m : ℕ) (text : List ℕ) → BeginFree n text → BeginFree m (drop n text) → BeginFree (n + m) text
+more_free n m text first next = λ k lt. elim (cases_lt k n) as (λ _. (get_or text k 0 == 92) ≡ false) [
+  | inl before ↦ first k before
+  | inr behind ↦
+      let at : get_or (drop n text) (k - n) 0 ≡ get_or text k 0 = get_or-drop n text (k - n) 0 ∙ ap (λ (i : ℕ). get_or text i 0) (omega (arith, behind)) in
+      rw at at (next (k - n) (omega (arith, lt, behind)))
+]
+
+-- those before a place, and sixteen from an earlier one on, are all
+pub all_free : (n last : ℕ) (text : List ℕ) → last ≤ n → last + 16 ≡ length text → BeginFree n text → BeginFree 16 (drop last text) → BeginFree (length text) text
+all_free n last text few whole first next = λ k lt. more_free last 16 text (λ i l. first i (omega (arith, l, few))) next k (omega (arith, lt, whole))
+
+pub free_position : (text : List ℕ) (o : Option ℕ) → position (λ c. c == 92) text ≡ o → BeginFree (length text) text → o ≡ None
+free_position text None e free = refl
+free_position text (Some i) e free =
+    let at = position-Some (λ c. c == 92) text i 0 e in
+    absurd (cc (sym at.1 ∙ free i at.0))

@@ -1,5 +1,5 @@
 //! The columns of a line: RFC 4180, section 2, and the type text/tab-separated-values.
-ghost use Rattle.std.specs.Prelude.{◌≡◌, ◌≤◌, ◌<◌, ◌↔◌, IsSome, ◌==◌, IfSome, Some, length, position};
+ghost use Rattle.std.specs.Prelude.{◌≡◌, ◌≤◌, ◌<◌, ◌↔◌, IsSome, ◌==◌, IfSome, Some, length};
 ghost use Rattle.instants_fields.specs.Pieces as Pieces;
 ghost use Rattle.instants_fields.specs.Columns as Columns;
 
@@ -218,11 +218,4 @@ pub fn column(line: &[u8], number: usize, separator: Separator) -> Option<Part>
         start: text.len() - cut.before,
         end: text.len() - cut.after,
     })
-}
-
-/// Where the first escape begins, by its backslash: what stands in the part after it is not what the value says.
-pub fn first_escape(part: &[u8]) -> Option<usize>
-    ensures { result ≡ position (λ c. c == 92) part.now }
-{
-    part.iter().position(|byte| *byte == b'\\')
 }

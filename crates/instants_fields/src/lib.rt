@@ -9,5 +9,6 @@ mod space;
 mod string;
 mod value;
 
-pub use columns::{Part, Separator, column, first_escape};
+pub use columns::{Part, Separator, column};
 pub use json::{Member, json_member};
+pub use plain::first_escape;

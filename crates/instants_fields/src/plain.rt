@@ -1,5 +1,5 @@
 //! Bytes of a string that stand for themselves, looked at sixteen at a time.
-ghost use Rattle.std.specs.Prelude.{◌≡◌, ◌<◌, ◌≤◌, ◌==◌, ℕ, true, false, length, drop, get_or, slice_index};
+ghost use Rattle.std.specs.Prelude.{◌≡◌, ◌<◌, ◌≤◌, ◌==◌, ℕ, true, false, length, drop, get_or, position, slice_index};
 ghost use Rattle.std.specs.Int.{bit_at};
 ghost use Rattle.instants_fields.specs.Pieces.{rest_of};
 ghost use Rattle.instants_fields.specs.Strings.{string};
@@ -35,6 +35,43 @@ fn bits_of(bytes: u8x16, byte: u8) -> u64
     ensures { (k : ℕ) → k < LANES → bit_at result k ≡ 0 → (slice_index bytes k == byte) ≡ false }
 {
     bytes.simd_eq(u8x16::splat(byte)).to_bitmask()
+}
+
+// Whether the first sixteen bytes are free of backslashes: `false` says nothing.
+#[inline(always)]
+fn is_free(text: &[u8]) -> bool
+    requires { LANES ≤ length text.now }
+    ensures { result ≡ true → (k : ℕ) → k < LANES → (get_or text.now k 0 == 92) ≡ false }
+{
+    bits_of(load(text), b'\\') == 0
+}
+
+// Whether a text of at least sixteen bytes is free of backslashes, sixteen at a time: `false` says nothing.
+#[inline(always)]
+fn is_all_free(text: &[u8]) -> bool
+    requires { LANES ≤ length text.now }
+    ensures { result ≡ true → (k : ℕ) → k < length text.now → (get_or text.now k 0 == 92) ≡ false }
+{
+    let last = text.len() - LANES;
+    let mut count = 0;
+    while count < last {
+        if !is_free(after(text, count)) {
+            return false;
+        }
+        count += LANES;
+    }
+    is_free(after(text, last))
+}
+
+/// Where the first escape begins, by its backslash: what stands in the part after it is not what the value says.
+#[inline(always)]
+pub fn first_escape(part: &[u8]) -> Option<usize>
+    ensures { result ≡ position (λ c. c == 92) part.now }
+{
+    if part.len() >= LANES && is_all_free(part) {
+        return None;
+    }
+    part.iter().position(|byte| *byte == b'\\')
 }
 
 // A bit for each lane, which is 0 only where the lane is no control character.
