@@ -1,7 +1,7 @@
 //! Lines of fields, shown at another offset. Those that stay in their month are rows of the program `rows`.
 
 use calendar::UtcOffset;
-use instants_answers::{Answer, Target, fill_fields, is_target, write_fields};
+use instants_answers::{Answer, Target, fill_fields, fill_text, is_target, write_fields};
 use instants_sources::Named;
 use instants_timeline::answer_named;
 use parsing_values::Fields;
@@ -60,6 +60,20 @@ fn are_moved() -> bool {
     true
 }
 
+// Whether a line in UTC with nine digits of a fraction is written as it stands.
+#[tactic(auto, using(instants_timeline::proofs::WholeLines::whole_is_utc))]
+fn is_kept(line: &[u8]) -> bool {
+    let Some(fields) = parsing_rfc3339::read_usual_fields(line) else {
+        return false;
+    };
+    if !parsing_rfc3339::is_like_whole(line) {
+        return false;
+    }
+    let mut room = [b'?'; 64];
+    let len = fill_text(&fields, line, &mut room);
+    len == line.len() + 1 && room.starts_with(line) && room[len - 1] == b'\n'
+}
+
 // The Unix time of a moment that a text names, whether its fields are kept, and whether it is answered so in UTC.
 fn told(named: &Named, line: &[u8]) -> (i64, bool, bool) {
     let answer = answer_named(Target::new(UtcOffset::UTC), named);
@@ -81,4 +95,5 @@ fn are_named(fields: &Fields, line: &[u8]) -> bool {
 fn moved_lines_and_named_moments(rt: HostRuntime) {
     let fields = parsing_rfc3339::read_fields(b"1970-01-01T01:00:07+01:00").expect(&rt, "fields");
     assert!(rt; are_moved() && are_named(&fields, b"1970-01-01T00:00:07.000000000Z"));
+    assert!(rt; is_kept(b"1985-04-12T23:20:50.520000000Z") && Target::new(UtcOffset::UTC).is_utc());
 }

@@ -40,6 +40,7 @@ fn are_years_and_minutes(year: Year) -> bool {
         && year.number() == 2023
         && year.is_before(Year::new(2024))
         && parsing_rfc3339::begins_with_year(b"2021-01")
+        && parsing_rfc3339::is_like_whole(b"1985-04-12T23:20:50.520000000Z")
 }
 
 // The nine digits, the nanosecond, and how many bytes are left.

@@ -1,0 +1,2 @@
+use Rattle.instants_timeline.proofs.timeline.Timeline.fill_read.Goals as goal
+
