@@ -1,5 +1,5 @@
 //! The offset at which lines are shown.
-ghost use Rattle.std.specs.Prelude.{◌≡◌, ◌+◌, ◌≤◌, true, [], ◌∷◌, ◌++◌, length, take, pos, ◌+ℤ◌, int_div, int_lt, unsigned_abs, codes, if◌then◌else◌};
+ghost use Rattle.std.specs.Prelude.{◌≡◌, ◌+◌, ◌≤◌, ◌↔◌, [], ◌∷◌, ◌++◌, length, take, pos, ◌+ℤ◌, int_div, int_lt, unsigned_abs, IsTrue, codes, if◌then◌else◌};
 ghost use Rattle.base.specs.Bytes.{line_feed};
 ghost use Rattle.calendar.specs.UtcOffset.{IsClockOffset};
 ghost use Rattle.std.specs.Ordering.{int_eq};
@@ -119,7 +119,7 @@ impl Target {
     /// Whether it is UTC.
     #[inline(always)]
     pub fn is_utc(self) -> bool
-        ensures { result ≡ true → self ≡ pos 0 }
+        ensures { IsTrue result ↔ (self ≡ pos 0) }
     {
         self.offset.whole_seconds() == 0
     }

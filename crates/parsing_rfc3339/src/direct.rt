@@ -1,5 +1,5 @@
 //! The moment that a text names.
-ghost use Rattle.std.specs.Prelude.{◌≡◌, ◌<◌, true, false, pos, codes, Err, IfErr, IfSome, Ok};
+ghost use Rattle.std.specs.Prelude.{◌≡◌, ◌<◌, ◌↔◌, false, pos, codes, Err, IfErr, IfSome, IsTrue, Ok};
 ghost use Rattle.parsing_combinator.specs.Fault.{component};
 ghost use Rattle.parsing_combinator.specs.FaultOf.{Gives, fault_of};
 ghost use Rattle.parsing_combinator.specs.ShortName.{HasShortName};
@@ -60,7 +60,7 @@ const WHOLE: usize = 30;
 /// Whether a text has the length, the `T` and the `Z` of one with nine digits of a fraction, in UTC, whatever else it has.
 #[inline(always)]
 pub fn is_like_whole(input: &[u8]) -> bool
-    ensures { result ≡ true → IsLikeWhole input.now }
+    ensures { IsTrue result ↔ IsLikeWhole input.now }
 {
     input.len() == WHOLE && input[10] == b'T' && input[29] == b'Z'
 }
