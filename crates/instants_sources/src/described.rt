@@ -147,10 +147,7 @@ impl<'a> Described<'a> {
         ensures { result ≡ true
             → ReadsNoneWhole (reads_written (written self.now.description)) line.now }
     {
-        if self.cannot_begin(line) {
-            return true;
-        }
-        if self.first_bounds.rule_out_whole(line) {
+        if self.cannot_begin(line) || self.first_bounds.rule_out_whole(line) {
             return true;
         }
         self.first_bytes.rule_out(line)

@@ -3,8 +3,5 @@ use Rattle.instants_sources.specs.Written.{reads_written, written}
 use Rattle.instants_sources.proofs.Refused.{refused_whole}
 use Rattle.instants_sources.proofs.described.Described.cannot_match_whole.Goals as goal
 
-pub returns-then-cannot_begin : goal.returns-then-cannot_begin
-returns-then-cannot_begin c = λ _. refused_whole (reads_written (written c.args.self.now.description)) c.args.line.now (c.args.self.now.first c.args.line.now (c.cannot_begin.ensures c.if-cannot_begin.true))
-
-pub returns : goal.returns
-returns c = λ e. refused_whole (reads_written (written c.args.self.now.description)) c.args.line.now (c.args.self.now.first c.args.line.now (sym c.rule_out.ensures ∙ e))
+pub returns-then-rule_out : goal.returns-then-rule_out
+returns-then-rule_out c = λ e. refused_whole (reads_written (written c.args.self.now.description)) c.args.line.now (c.args.self.now.first c.args.line.now (sym c.rule_out.ensures ∙ e))
