@@ -15,7 +15,8 @@
 #include <stdlib.h>
 #include <string.h>
 
-enum { BLOCK = 1 << 20, ZONE_ROOM = 65537 };
+/* A block and its output stay in the processor's cache. */
+enum { BLOCK = 1 << 16, FEW_BYTES = 32, ZONE_ROOM = 65537 };
 
 struct text {
     uint8_t *bytes;
@@ -92,15 +93,15 @@ static size_t line_feeds(const uint8_t *bytes, size_t len)
 static uint8_t write_keys(struct reading *reading, size_t len)
 {
     size_t written;
-    uint8_t status;
-    /* (a label takes more room) */
-    for (size_t label = 0;; label = 2 * label + 64) {
-        if (!grow(&reading->output, INSTANTS_LINES_ROOM(len, line_feeds(reading->input.bytes, len), label)))
+    /* (few lines are as short as this; where more are, or a label is long, the output gets more room) */
+    size_t room = INSTANTS_LINES_ROOM(len, len / FEW_BYTES, 0);
+    for (;;) {
+        if (!grow(&reading->output, room))
             return INSTANTS_FAILED;
-        status = instants_lines_keys(reading->at, reading->input.bytes, len, reading->output.bytes, reading->output.room, &written,
-                                     &reading->above);
-        if (status == INSTANTS_OK)
+        if (instants_lines_keys(reading->at, reading->input.bytes, len, reading->output.bytes, reading->output.room, &written,
+                                &reading->above) == INSTANTS_OK)
             break;
+        room = 2 * reading->output.room;
     }
     return fwrite(reading->output.bytes, 1, written, stdout) == written ? INSTANTS_OK : INSTANTS_FAILED;
 }

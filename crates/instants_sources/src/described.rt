@@ -3,7 +3,7 @@ ghost use Rattle.std.specs.Prelude.{◌≡◌, true, false, None, IfSome};
 ghost use Rattle.std.specs.Option.{ForSome};
 ghost use Rattle.std.specs.Result.{result_ok};
 ghost use Rattle.parsing_item_layouts.specs.FirstBounds.{AreBoundsOf, ReadsNoneWhole};
-ghost use Rattle.parsing_item_layouts.specs.FirstBytes.{AreOf, IsRefusedAt, rule_out};
+ghost use Rattle.parsing_item_layouts.specs.FirstBytes.{AreOf, IsRefusedAt};
 ghost use Rattle.parsing_combinator.specs.Tame.{EndsWith};
 ghost use Rattle.parsing_values.specs.Moment.{moment_of};
 ghost use Rattle.parsing_plan.specs.Plan.{IsPlanOf};
@@ -129,28 +129,13 @@ impl<'a> Described<'a> {
         self.first_bytes.rule_out(line) || self.first_bounds.rule_out(line)
     }
 
-    // Whether a line begins with a byte that can't be the first.
-    #[inline(always)]
-    fn cannot_begin(&self, line: &[u8]) -> bool
-        ensures { result ≡ true → rule_out self.now.first_bytes line.now ≡ true }
-    {
-        match line {
-            [first, ..] => !self.first_bytes.can_stand(0, *first),
-            [] => false,
-        }
-    }
-
-    /// Whether its first bytes or its length show that the description doesn't read a line as a whole. (The first byte rules
-    /// most lines out, and of the others the bounds more than the next three bytes.)
+    /// Whether its first bytes or its length show that the description doesn't read a line as a whole.
     #[inline(always)]
     pub(crate) fn cannot_match_whole(&self, line: &[u8]) -> bool
         ensures { result ≡ true
             → ReadsNoneWhole (reads_written (written self.now.description)) line.now }
     {
-        if self.cannot_begin(line) || self.first_bounds.rule_out_whole(line) {
-            return true;
-        }
-        self.first_bytes.rule_out(line)
+        self.first_bytes.rule_out(line) || self.first_bounds.rule_out_whole(line)
     }
 
     /// Whether a line that the description reads can begin with a byte: `true` says nothing of the line.
