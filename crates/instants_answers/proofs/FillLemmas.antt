@@ -1,10 +1,10 @@
 -- Bytes put into a room one after another.
-use Rattle.std.proofs.Common.{◌≡◌, ℕ, ◌+◌, ◌≤◌, List, ◌++◌, length, take, pos, refl, sym, ap, ◌∙◌, arith, take-take}
+use Rattle.std.proofs.Common.{◌≡◌, ℕ, ◌+◌, ◌≤◌, List, ◌++◌, length, take, drop, pos, refl, sym, ap, ◌∙◌, arith, take-take}
 use Rattle.calendar.specs.UtcOffset.{IsClockOffset}
 use Rattle.parsing_values.specs.Decimal.{decimal}
 use Rattle.parsing_values.specs.declared.fields.Fields.{Fields}
 use Rattle.instants_answers.specs.Text.{date_text, time_text, offset_text, utc_text}
-use Rattle.std.proofs.lemmas.List.{length-take-le}
+use Rattle.std.proofs.lemmas.List.{length-drop, length-take-le, take_all, take-append-drop}
 use Rattle.std.proofs.Math.Seq.{take-append-add}
 
 -- more bytes were put than are meant
@@ -24,3 +24,11 @@ utc_length f = refl
 
 pub utc_is_clock : IsClockOffset (pos 0)
 utc_is_clock = record { whole_minutes = refl; within_a_day = omega arith }
+
+-- thirty bytes were put as the first fourteen, and the last sixteen
+pub two_halves : (text mid new : List ℕ) → length text ≡ 30 → take 14 mid ≡ take 14 (take 16 text) → take (14 + length (take 16 (drop 14 text))) new ≡ take 14 mid ++ take 16 (drop 14 text) → take 30 new ≡ text
+two_halves text mid new long first second =
+    let size : length (drop 14 text) ≡ 16 = omega (arith, length-drop 14 text, long) in
+    let rest : take 16 (drop 14 text) ≡ drop 14 text = take_all 16 (drop 14 text) (omega (arith, size)) in
+    let both : take 30 new ≡ take 14 mid ++ drop 14 text = rw (rest, size) at second in
+    both ∙ ap (λ (l : List ℕ). l ++ drop 14 text) (first ∙ take-take 14 16 text (omega arith)) ∙ take-append-drop 14 text

@@ -133,7 +133,9 @@ pub fn fill_text(fields: &Fields, text: &[u8], room: &mut [u8]) -> usize
         march::count_of_day(year, fields.month, fields.day),
         fields.fraction.digits(),
     );
-    put(room, 0, text);
-    put(room, text.len(), b"\n");
-    text.len() + 1
+    // (two stores of sixteen bytes)
+    put_first(room, 0, &text[..16], 14);
+    put(room, 14, &text[14..30]);
+    put(room, 30, b"\n");
+    31
 }

@@ -8,7 +8,8 @@ use Rattle.parsing_values.specs.Moment.{moment_of}
 use Rattle.parsing_values.specs.declared.fields.Fields.{Fields}
 use Rattle.parsing_combinator.specs.Fault.{Fault}
 use Rattle.instants_answers.specs.Line.{HoldsLine}
-use Rattle.instants_sources.specs.Grammar.{Grammar, grammar_of}
+use Rattle.parsing_rfc3339.specs.Direct.{direct}
+use Rattle.instants_sources.specs.Grammar.{Grammar, Rfc3339, grammar_of}
 use Rattle.instants_sources.specs.declared.source.Source.{Source}
 use Rattle.instants_sources.proofs.Roads.{found_named}
 use Rattle.instants_sources.specs.Named.{named, IsDirect, IsNamedBy}
@@ -91,6 +92,11 @@ module _ (law : (grammar : Grammar) (line : List ℕ) (moment : Shown) → IsDir
 
   pub led_direct : (len : ℕ) → IsLedBy setting grammar → IfSome found (λ fields. IsDirect grammar line (moment_of fields)) → HoldsAnswer setting (option_map moment_of found) len room → HoldsLine (answer_to setting line) len room
   led_direct len led is a = led_found setting found grammar line room len led (found_named law grammar line setting.assumed found is) a
+
+-- the same where RFC 3339 is first
+pub led_read : ((grammar : Grammar) (line : List ℕ) (moment : Shown) → IsDirect grammar line moment → IsNamedBy grammar line moment) → (setting : Setting) (line room : List ℕ) (len : ℕ)
+    → IsLedBy setting Rfc3339 → HoldsAnswer setting (result_ok (direct line)) len room → HoldsLine (answer_to setting line) len room
+led_read law setting line room len led a = held_at setting line room len 0 Rfc3339 (drop 1 setting.sources) refl led (held_alike a (ap result_ok (law Rfc3339 line a.moment (ok_of (direct line) a.moment a.is) setting.assumed)))
 
 after : (setting : Setting) (line : List ℕ) (place : ℕ) (grammar : Grammar) (others : List Grammar) → NamesFrom setting line place → drop place setting.sources ≡ grammar ∷ others
     → result_ok (named setting.assumed grammar line) ≡ None → result_ok (first_named setting.assumed setting.sources line) ≡ result_ok (first_named setting.assumed others line)

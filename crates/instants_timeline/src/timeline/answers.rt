@@ -6,7 +6,8 @@ ghost use Rattle.std.specs.Result.{result_ok};
 ghost use Rattle.parsing_combinator.specs.FaultOf.{fault_of};
 ghost use Rattle.parsing_combinator.specs.ShortName.{HasShortName};
 ghost use Rattle.parsing_values.specs.Moment.{moment_of};
-ghost use Rattle.parsing_rfc3339.specs.Whole.{IsLikeWhole, whole_text};
+ghost use Rattle.parsing_rfc3339.specs.Direct.{direct};
+ghost use Rattle.parsing_rfc3339.specs.Whole.{IsLikeWhole};
 ghost use Rattle.instants_answers.specs.Line.{HoldsLine};
 ghost use Rattle.instants_sources.specs.Grammar.{grammar_of};
 ghost use Rattle.instants_sources.specs.Grammar as grammar;
@@ -68,28 +69,33 @@ impl Timeline<'_> {
         Some(self.fill_moved(fields, room))
     }
 
-    // Writes the moment that fields of a line in RFC 3339 name, if they were found: in UTC, a line with nine digits of a fraction
-    // is its answer.
+    // Writes the moment that a line in UTC names in RFC 3339 with nine digits of a fraction, where the target is UTC: the line is
+    // its answer. The line's length and its end are known where it is read here.
     #[inline(always)]
-    pub(super) fn fill_read(
-        &self,
-        found: Option<Fields>,
-        line: &[u8],
-        room: &mut [u8],
-    ) -> Option<usize>
+    fn fill_whole(&self, line: &[u8], room: &mut [u8]) -> Option<usize>
         requires room { 64 ≤ length room.old }
-        requires whole { IsLikeWhole line.now → IfSome found
-            (λ fields. (line.now ≡ whole_text fields) × (fields.offset ≡ pos 0)) }
+        requires target { (setting_of self.now).target ≡ pos 0 }
+        requires whole { IsLikeWhole line.now }
         ensures line { IfSome result (λ len.
-            HoldsAnswer (setting_of self.now) (option_map moment_of found) len room.new) }
+            HoldsAnswer (setting_of self.now) (result_ok (direct line.now)) len room.new) }
         ensures size { length room.new ≡ length room.old }
     {
-        let Some(fields) = found else {
-            return None;
-        };
+        let fields = parsing_rfc3339::read_usual_fields(line)?;
+        Some(fill_text(&fields, line, room))
+    }
+
+    // Writes the moment that a line names by the usual shapes of RFC 3339.
+    #[inline(always)]
+    pub(super) fn fill_usual_rfc3339(&self, line: &[u8], room: &mut [u8]) -> Option<usize>
+        requires { 64 ≤ length room.old }
+        ensures line { IfSome result (λ len.
+            HoldsAnswer (setting_of self.now) (result_ok (direct line.now)) len room.new) }
+        ensures size { length room.new ≡ length room.old }
+    {
         if parsing_rfc3339::is_like_whole(line) && self.target.is_utc() {
-            return Some(fill_text(&fields, line, room));
+            return self.fill_whole(line, room);
         }
+        let fields = parsing_rfc3339::read_usual_fields(line)?;
         Some(self.fill_moved(fields, room))
     }
 

@@ -51,7 +51,7 @@ impl AnswerWay for Rfc3339Way {
             return timeline.fill_after(line, room);
         }
         directly_named();
-        match timeline.fill_read(parsing_rfc3339::read_usual_fields(line), line, room) {
+        match timeline.fill_usual_rfc3339(line, room) {
             Some(len) => len,
             None => timeline.fill_rest_rfc3339(line, room),
         }

@@ -1,20 +1,29 @@
-use Rattle.std.proofs.Common.{rules, ◌≡◌, ◌+◌, [], ◌∷◌, ◌++◌, pos, length, take, ◌+ℤ◌, ◌-ℤ◌, ap, ◌∙◌, ℕ, ℤ, List, arith}
+use Rattle.std.proofs.Common.{rules, ◌≡◌, [], ◌∷◌, ◌++◌, pos, length, take, ◌+ℤ◌, ◌-ℤ◌, sym, ap, ◌∙◌, ℕ, ℤ, List, arith}
 use Rattle.std.specs.Prelude.{int_div}
+use Rattle.std.proofs.lemmas.List.{length-take-le}
 use Rattle.base.specs.Bytes.{line_feed}
 use Rattle.calendar_count.specs.Calendar.{day_at, ymd}
 use Rattle.calendar_count.specs.Range.{IsCount}
 use Rattle.calendar_count.proofs.lemmas.Signed.{signed}
 use Rattle.parsing_values.specs.declared.fields.Fields.{Fields}
 use Rattle.instants_answers.specs.Moved.{IsMoved}
-use Rattle.instants_answers.proofs.FillLemmas.{utc_length, utc_is_clock}
+use Rattle.instants_answers.specs.Text.{utc_text}
+use Rattle.instants_answers.proofs.FillLemmas.{two_halves, utc_length, utc_is_clock}
 use Rattle.instants_answers.proofs.MovedLemmas.{moved, line_is, shown_is, fits}
 use Rattle.instants_answers.proofs.fill.fill_text.Goals as goal
 
-pub put-requires : goal.put-requires
-put-requires c = omega (arith, c.requires.room, ap length c.requires.text, utc_length c.args.fields.now)
+-- the text has thirty bytes
+long : (text : List ℕ) (f : Fields) → text ≡ utc_text f → length text ≡ 30
+long text f e = ap length e ∙ utc_length f
 
-pub put-requires-2 : goal.put-requires-2
-put-requires-2 c = omega (arith, c.requires.room, ap length c.requires.text, utc_length c.args.fields.now, c.put.ensures.size)
+pub slice_bounds-put_first-end : goal.slice_bounds-put_first-end
+slice_bounds-put_first-end c = sym (length-take-le 16 c.args.text.now (omega (arith, long c.args.text.now c.args.fields.now c.requires.text)))
+
+pub put_first-requires-clause-few : goal.put_first-requires-clause-few
+put_first-requires-clause-few c = omega (arith, length-take-le 16 c.args.text.now (omega (arith, long c.args.text.now c.args.fields.now c.requires.text)))
+
+pub slice_bounds-put-end : goal.slice_bounds-put-end
+slice_bounds-put-end c = omega (arith, long c.args.text.now c.args.fields.now c.requires.text)
 
 -- the day and the minute stay as they are
 stays : (f : Fields) (count : ℕ) → IsCount count → day_at count ≡ ymd (pos f.year) f.month f.day → IsMoved f (pos f.minute) f.day f.minute
@@ -28,11 +37,10 @@ returns-clause-line c =
     let f = c.args.fields.now in
     let here : day_at c.count_of_day.result ≡ ymd (pos f.year) f.month f.day = search rules in
     let text = c.args.text.now in
-    let from : 0 + length text ≡ length text = omega arith in
-    let put : take (length text) c.put.new.room ≡ text = rw from at c.put.ensures.prefix in
+    let put : take 30 c.put.new.room ≡ text = two_halves text c.put_first.new.room c.put.new.room (long text f c.requires.text) c.put_first.ensures.prefix c.put.ensures.prefix in
     rw (line_is f (pos 0) (pos f.minute) f.day f.minute (stays f c.count_of_day.result c.count_of_day.ensures.bound here) utc_is_clock c.digits.ensures.bound (no_minutes f.minute f.offset c.requires.utc)) (record {
       bytes = c.put-2.ensures.prefix ∙ ap (λ (l : List ℕ). l ++ line_feed ∷ []) (put ∙ c.requires.text);
-      most = omega (arith, ap length c.requires.text, utc_length f);
+      most = omega arith;
     })
 
 pub returns-clause-shown : goal.returns-clause-shown
