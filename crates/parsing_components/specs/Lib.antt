@@ -1,6 +1,7 @@
 pub mod Ranged
 pub mod Record
 pub mod Component
+pub mod TwoDigits
 pub mod Put
 pub mod Parts
 pub mod Meaning

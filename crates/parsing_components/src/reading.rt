@@ -1,17 +1,19 @@
 //! What each component reads.
-ghost use Rattle.std.specs.Prelude.{◌≡◌, ◌≤◌, None, IfSome};
+ghost use Rattle.std.specs.Prelude.{◌≡◌, ◌≤◌, false, None, IfSome};
 ghost use Rattle.std.specs.Option.{MatchOption, IsSomeAnd};
 ghost use Rattle.parsing_combinator.specs.FaultOf.{Gives, reading_fault};
 ghost use Rattle.parsing_combinator.specs.Pieces.{cut_view};
 ghost use Rattle.parsing_components.specs.Put.{Reads, passed, putting};
 ghost use Rattle.parsing_components.specs.Record.{IsInRange, IsWithin};
 ghost use Rattle.parsing_components.specs.Component as Components;
+ghost use Rattle.parsing_components.specs.TwoDigits.{is_month_or_year, is_usual};
 
 use crate::dates::{month_number, weekday_number};
 use crate::fields::Record;
 use crate::offsets::{hour_of_offset, ignored, ignored_characters, unix};
 use crate::ranged::{full_century, full_year, subsecond, three, two};
 use crate::said::Read;
+use crate::two_digits::{range_of, said_by};
 use description_items::Component;
 use description_items::modifier::TrailingInput;
 use parsing_combinator::{
@@ -32,26 +34,21 @@ fn say<T: Copy, F: FnOnce(T) -> Read>(
     Some((as_read(value), rest))
 }
 
-// What the parts of a time and of an offset, timestamps and passed bytes say.
+// What the parts of a time and of an offset, timestamps and passed bytes say that are not usual.
 #[tactic(auto, unfolding(crate::specs::Component::time_piece, crate::specs::Component::offset_piece))]
 #[inline(always)]
 fn time_piece(component: Component, bytes: &[u8]) -> Option<(Read, &[u8])>
-    ensures reads { cut_view result ≡ Components.time_piece component bytes.now }
+    ensures reads { is_usual component ≡ false
+        → cut_view result ≡ Components.time_piece component bytes.now }
     ensures range { IfSome result (λ x. IsInRange x.0) }
 {
     match component {
-        Component::Hour12(m) => say(two(m.padding, 1, 12, bytes), Read::Hour12),
-        Component::Hour24(m) => say(two(m.padding, 0, 23, bytes), Read::Hour24),
-        Component::Minute(m) => say(two(m.padding, 0, 59, bytes), Read::Minute),
         Component::Period(m) => say(
             period(m.is_uppercase, m.case_sensitive, bytes),
             Read::Afternoon,
         ),
-        Component::Second(m) => say(two(m.padding, 0, 60, bytes), Read::Second),
         Component::Subsecond(m) => say(subsecond(m.digits, bytes), Read::Subsecond),
         Component::OffsetHour(m) => hour_of_offset(m.padding, m.sign_is_mandatory, bytes),
-        Component::OffsetMinute(m) => say(two(m.padding, 0, 59, bytes), Read::OffsetMinute),
-        Component::OffsetSecond(m) => say(two(m.padding, 0, 59, bytes), Read::OffsetSecond),
         Component::UnixTimestampSecond(m) => unix(m.sign_is_mandatory, 14, 1_000_000_000, bytes),
         Component::UnixTimestampMillisecond(m) => unix(m.sign_is_mandatory, 17, 1_000_000, bytes),
         Component::UnixTimestampMicrosecond(m) => unix(m.sign_is_mandatory, 20, 1_000, bytes),
@@ -61,19 +58,17 @@ fn time_piece(component: Component, bytes: &[u8]) -> Option<(Read, &[u8])>
     }
 }
 
-// What years say.
+// What centuries and other years say, of which most descriptions have none.
 #[tactic(auto, unfolding(crate::specs::Component::year_piece))]
 #[inline(always)]
 fn year_piece(component: Component, bytes: &[u8]) -> Option<(Read, &[u8])>
-    ensures reads { cut_view result ≡ Components.year_piece component bytes.now }
+    ensures reads { is_usual component ≡ false
+        → cut_view result ≡ Components.year_piece component bytes.now }
     ensures range { IfSome result (λ x. IsInRange x.0) }
 {
     match component {
         Component::CalendarYearFullExtendedRange(m) => {
             full_year(false, m.padding, m.sign_is_mandatory, true, bytes)
-        }
-        Component::CalendarYearFullStandardRange(m) => {
-            full_year(false, m.padding, m.sign_is_mandatory, false, bytes)
         }
         Component::CalendarYearCenturyExtendedRange(m) => {
             full_century(false, m.padding, m.sign_is_mandatory, true, bytes)
@@ -81,7 +76,6 @@ fn year_piece(component: Component, bytes: &[u8]) -> Option<(Read, &[u8])>
         Component::CalendarYearCenturyStandardRange(m) => {
             full_century(false, m.padding, m.sign_is_mandatory, false, bytes)
         }
-        Component::CalendarYearLastTwo(m) => say(two(m.padding, 0, 99, bytes), Read::YearLastTwo),
         Component::IsoYearFullExtendedRange(m) => {
             full_year(true, m.padding, m.sign_is_mandatory, true, bytes)
         }
@@ -94,24 +88,21 @@ fn year_piece(component: Component, bytes: &[u8]) -> Option<(Read, &[u8])>
         Component::IsoYearCenturyStandardRange(m) => {
             full_century(true, m.padding, m.sign_is_mandatory, false, bytes)
         }
-        Component::IsoYearLastTwo(m) => say(two(m.padding, 0, 99, bytes), Read::IsoYearLastTwo),
         other => time_piece(other, bytes),
     }
 }
 
-/// What a component that is of a newer form, and no end, says at the start of the bytes, and the bytes after it: the longest prefix
-/// of its shape, if its number is in range.
+// What a component says that is not usual. A call of its own: what each of its ways keeps is cleared at its start.
 #[tactic(auto, unfolding(crate::specs::Component::date_piece))]
-#[inline(always)]
-pub fn read(component: Component, bytes: &[u8]) -> Option<(Read, &[u8])>
-    ensures reads { cut_view result ≡ Components.date_piece component bytes.now }
+#[inline(never)]
+fn other_piece(component: Component, bytes: &[u8]) -> Option<(Read, &[u8])>
+    ensures reads { is_usual component ≡ false
+        → cut_view result ≡ Components.date_piece component bytes.now }
     ensures range { IfSome result (λ x. IsInRange x.0) }
 {
     match component {
-        Component::Day(m) => say(two(m.padding, 1, 31, bytes), Read::Day),
         Component::MonthShort(m) => say(short_month(m.case_sensitive, bytes), Read::Month),
         Component::MonthLong(m) => say(long_month(m.case_sensitive, bytes), Read::Month),
-        Component::MonthNumerical(m) => say(month_number(m.padding, bytes), Read::Month),
         Component::Ordinal(m) => say(three(m.padding, 1, 366, bytes), Read::Ordinal),
         Component::WeekdayShort(m) => say(short_weekday(m.case_sensitive, bytes), Read::Weekday),
         Component::WeekdayLong(m) => say(long_weekday(m.case_sensitive, bytes), Read::Weekday),
@@ -123,10 +114,41 @@ pub fn read(component: Component, bytes: &[u8]) -> Option<(Read, &[u8])>
             weekday_number(false, m.one_indexed, bytes),
             Read::Weekday,
         ),
-        Component::WeekNumberIso(m) => say(two(m.padding, 1, 53, bytes), Read::IsoWeek),
-        Component::WeekNumberSunday(m) => say(two(m.padding, 0, 53, bytes), Read::SundayWeek),
-        Component::WeekNumberMonday(m) => say(two(m.padding, 0, 53, bytes), Read::MondayWeek),
         other => year_piece(other, bytes),
+    }
+}
+
+// What a number of two digits says, or a component that is not usual.
+#[tactic(auto, using(crate::proofs::Entries::said_between))]
+#[inline(always)]
+fn number_or_other(component: Component, bytes: &[u8]) -> Option<(Read, &[u8])>
+    ensures reads { is_month_or_year component ≡ false
+        → cut_view result ≡ Components.date_piece component bytes.now }
+    ensures range { IfSome result (λ x. IsInRange x.0) }
+{
+    let Some((padding, low, high)) = range_of(component) else {
+        return other_piece(component, bytes);
+    };
+    let Some((number, rest)) = two(padding, low, high, bytes) else {
+        return None;
+    };
+    Some((said_by(component, number), rest))
+}
+
+/// What a component that is of a newer form, and no end, says at the start of the bytes, and the bytes after it: the longest prefix
+/// of its shape, if its number is in range.
+#[tactic(auto, unfolding(crate::specs::Component::date_piece, crate::specs::Component::year_piece))]
+#[inline(always)]
+pub fn read(component: Component, bytes: &[u8]) -> Option<(Read, &[u8])>
+    ensures reads { cut_view result ≡ Components.date_piece component bytes.now }
+    ensures range { IfSome result (λ x. IsInRange x.0) }
+{
+    match component {
+        Component::MonthNumerical(m) => say(month_number(m.padding, bytes), Read::Month),
+        Component::CalendarYearFullStandardRange(m) => {
+            full_year(false, m.padding, m.sign_is_mandatory, false, bytes)
+        }
+        other => number_or_other(other, bytes),
     }
 }
 
