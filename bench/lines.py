@@ -1,9 +1,9 @@
 #!/usr/bin/env python3
-"""Makes the lines of the benchmark: the same ones each time, of fourteen kinds.
+"""Makes the lines of the benchmark: the same ones each time, of fifteen kinds.
 
     bench/lines.py FOLDER [LINES]
 
-Writes fourteen files of LINES lines (1000000 if left out) to the folder:
+Writes fifteen files of LINES lines (1000000 if left out) to the folder:
 
     rfc3339.txt   RFC 3339: `Z` or a numeric offset, a fraction of 0 to 9 digits
     iso8601.txt   ISO 8601: calendar, week and ordinal dates, extended and basic, a fraction of 0 to 9 digits
@@ -17,6 +17,8 @@ Writes fourteen files of LINES lines (1000000 if left out) to the folder:
     unix.txt      seconds since 1970-01-01, as `1057049557`
     unix_ms.txt   milliseconds since then, as `1057049557123`
     asctime.txt   `Tue Jul  1 10:52:37 2003`
+
+    zulu.txt      RFC 3339 in UTC with nine digits, as `2003-07-01T10:52:37.123456789Z`
 
 and three of whole lines of logs, in which dates are looked for:
 
@@ -220,7 +222,13 @@ def mixed(rng: random.Random) -> str:
     return log(rng) if share < 0.9 else garbage(rng)
 
 
-FILES = (rfc3339, iso8601, rfc2822, mixed, log, postgres, python, syslog, unix, unix_ms, asctime, access, dateless, trace)
+def zulu(rng: random.Random) -> str:
+    """Returns a line of RFC 3339 in UTC with nine digits."""
+    day, hour, minute, second, _, _ = moment(rng)
+    return f"{day}T{hour:02}:{minute:02}:{second:02}.{rng.randrange(10 ** 9):09}Z"
+
+
+FILES = (rfc3339, iso8601, rfc2822, mixed, log, postgres, python, syslog, unix, unix_ms, asctime, access, dateless, trace, zulu)
 
 
 def write(folder: pathlib.Path, count: int) -> None:
