@@ -16,7 +16,7 @@
 #include <string.h>
 
 /* A block and its output stay in the processor's cache. */
-enum { BLOCK = 1 << 16, FEW_BYTES = 32, ZONE_ROOM = 65537 };
+enum { BLOCK = 1 << 15, FEW_BYTES = 32, ZONE_ROOM = 65537 };
 
 struct text {
     uint8_t *bytes;
