@@ -7,28 +7,10 @@ use Rattle.instants_answers.specs.Text.{moment_text, has_written_year}
 use Rattle.instants_answers.specs.Written.{IsWritten}
 use Rattle.instants_answers.proofs.Compares.{Compares, same_when, int_cmp-equal}
 use Rattle.instants_answers.proofs.Lines.{line_field}
-use Rattle.instants_answers.proofs.Placed.{shown_at-is}
 use Rattle.instants.specs.Answered.{IsAnswered}
 use Rattle.instants_faults.specs.Refusal.{Refusal, year}
-use Rattle.instants_timeline.specs.Place.{Setting, in_written_years, place_of, place_text, answer_to}
-
--- a moment at the target, of this instant, whose line is the text
-pub record Shows (target i : ℤ) (text : List ℕ) (a : Shown) : Type 0 where
-  pub line : text ≡ moment_text a
-  pub written : IsWritten a
-  pub offset : a.offset ≡ target
-  pub same : instant a ≡ i
-
-in_year : (b : Bool) (a : Shown) (r : Result Shown Refusal) → r ≡ (if b then Ok a else Err year) → IsOk r → (b ≡ true) × (r ≡ Ok a)
-in_year true a r e h = (refl, e)
-in_year false a r e h = let never : false ≡ true = rw e at h in absurd cc
-
-pub shown_in : (target i : ℤ) (o : Option Shown) → shown_at target i ≡ o → IsOk (in_written_years o) → (a : Shown) × Shows target i (place_text (in_written_years o)) a
-shown_in target i None e h = let never : false ≡ true = h in absurd cc
-shown_in target i (Some a) e h =
-    let is = in_year (has_written_year a) a (in_written_years (Some a)) refl h in
-    let shown = shown_at-is target i a e in
-    (a, record { line = ap (λ r. place_text r) is.1; written = (shown.within, is.0); offset = shown.offset; same = shown.same })
+use Rattle.instants_timeline.specs.Place.{Setting, in_written_years, place_of, answer_to}
+use Rattle.instants_timeline.proofs.Shows.{Shows, shown_in}
 
 pub answered_shows : (setting : Setting) (line : List ℕ) (m : Shown) → IsAnswered setting line m → (a : Shown) × Shows setting.target (instant m) (answer_to setting line) a
 unfolding answer_to place_of

@@ -1,5 +1,5 @@
 -- The bytes of a line, place by place.
-use Rattle.std.proofs.Common.{◌≡◌, ℕ, lit<, ◌+◌, ◌/◌, ◌%◌, ◌<◌, ◌≤◌, Bool, true, false, List, [], ◌∷◌, ◌++◌, length, drop, refl, sym, ap, ◌∙◌, arith, append_assoc, length-append, ℤ, pos, unsigned_abs, int_lt, int_eq}
+use Rattle.std.proofs.Common.{◌≡◌, ℕ, lit<, ◌+◌, ◌/◌, ◌%◌, ◌<◌, Bool, true, false, List, [], ◌∷◌, ◌++◌, length, drop, refl, sym, ap, ◌∙◌, arith, append_assoc, length-append, ℤ, pos, unsigned_abs, int_lt, int_eq}
 use Rattle.std.specs.Prelude.{codes, if◌then◌else◌, ◌==◌}
 use Rattle.std.proofs.lemmas.Bool.Decides.{nat_tests}
 use Rattle.std.proofs.lemmas.List.{take_at, drop_at}
@@ -35,19 +35,6 @@ line_parts m = simp append_assoc
 date_length : (t : YearMonthDay) → length (date_text t) ≡ 10
 unfolding date_text
 date_length t = simp (length-append, decimal_length)
-
-zone_length : (is_named is_negative : Bool) (h m : ℕ) → length (zone_text is_named is_negative h m) ≤ 6
-zone_length true is_negative h m = lit< tt
-zone_length false true h m = simp (length-append, decimal_length) (lit< tt)
-zone_length false false h m = simp (length-append, decimal_length) (lit< tt)
-
-offset_length : (o : ℤ) → length (offset_text o) ≤ 6
-unfolding offset_text
-offset_length o = zone_length (int_eq o (pos 0)) (int_lt o (pos 0)) (unsigned_abs o / 3600) (unsigned_abs o / 60 % 60)
-
-pub at_most_35 : (m : Shown) → length (moment_text m) ≤ 35
-at_most_35 m =
-    rw (line_parts m) (simp (length-append, date_length, decimal_length) (omega (arith, offset_length m.offset)))
 
 -- ---- places
 

@@ -11,24 +11,6 @@ use Rattle.instants_answers.proofs.Placed.{shown_at-is}
 use Rattle.instants_faults.specs.Refusal.{Refusal, year}
 use Rattle.instants_timeline.specs.Place.{Setting, in_written_years, first_named, shown_or_refused, place_of, place_text, answer_to}
 
-kept : (b : Bool) (m a : Shown) (e : Refusal) → (if b then Ok m else Err e) ≡ Ok a → m ≡ a
-kept true m a e h = cc
-kept false m a e h = absurd cc
-
-placed_in : (target i : ℤ) (o : Option Shown) (a : Shown) → shown_at target i ≡ o → in_written_years o ≡ Ok a → a.offset ≡ target
-placed_in target i None a e h = absurd cc
-placed_in target i (Some m) a e h =
-    let same = kept (has_written_year m) m a year h in
-    (shown_at-is target i a (rw same at e)).offset
-
-placed_as : (target : ℤ) (r : Result Shown Fault) (a : Shown) → shown_or_refused target r ≡ Ok a → a.offset ≡ target
-placed_as target (Ok m) a h = placed_in target (instant m) (shown_at target (instant m)) a refl h
-placed_as target (Err f) a h = absurd cc
-
-pub shown_at_target : (setting : Setting) (line : List ℕ) (a : Shown) → place_of setting line ≡ Ok a → a.offset ≡ setting.target
-unfolding place_of
-shown_at_target setting line a h = placed_as setting.target (first_named setting.assumed setting.sources line) a h
-
 -- at one offset instants are as far apart as wall clocks
 instants_apart : (a b : Shown) → a.offset ≡ b.offset → instant a -ℤ instant b ≡ a.wall -ℤ b.wall
 instants_apart a b e =

@@ -8,7 +8,7 @@ use Rattle.datetime_wall.specs.Wall.{Shown, instant, shown_at}
 use Rattle.instants_answers.specs.Text.{moment_text}
 use Rattle.instants_answers.specs.Written.{IsWritten}
 use Rattle.instants.proofs.Again.{rfc3339_again, iso8601_again}
-use Rattle.instants.proofs.Bytes.{at_most_35}
+use Rattle.instants_answers.proofs.FillLemmas.{at_most_35}
 use Rattle.instants_sources.specs.Grammar.{Grammar}
 use Rattle.instants_sources.specs.Named.{named}
 use Rattle.instants_stream.specs.Answers.{answered, answer_or_long}

@@ -1,11 +1,10 @@
 -- The text of a moment, as RFC 3339, section 5.6, writes a date-time, with nine digits of a second's fraction.
-use Rattle.std.specs.Prelude.{ℕ, ◌+◌, ◌*◌, ◌/◌, ◌%◌, List, ◌++◌, codes, if◌then◌else◌, Bool, ◌&&◌, IsTrue, int_le, int_lt, ℤ, pos, unsigned_abs}
+use Rattle.std.specs.Prelude.{ℕ, ◌/◌, ◌%◌, List, ◌++◌, codes, if◌then◌else◌, Bool, ◌&&◌, IsTrue, int_le, int_lt, ℤ, pos, unsigned_abs}
 use Rattle.std.specs.Ordering.{int_eq}
-use Rattle.calendar_count.specs.Calendar.{YearMonthDay, day_at, ymd}
+use Rattle.calendar_count.specs.Calendar.{YearMonthDay, day_at}
 use Rattle.calendar.specs.UtcOffset.{IsClockOffset}
 use Rattle.datetime_wall.specs.Wall.{Shown, day_of, nanosecond_of, second_nanos}
 use Rattle.parsing_values.specs.Decimal.{decimal}
-use Rattle.parsing_values.specs.declared.fields.Fields.{Fields}
 
 unfoldable pub date_text : YearMonthDay → List ℕ
 date_text d = decimal 4 (unsigned_abs d.year) ++ codes "-" ++ decimal 2 d.month ++ codes "-" ++ decimal 2 d.day
@@ -24,10 +23,6 @@ offset_text offset =
 -- a day, a second of it, a nanosecond of that, and an offset
 abbrev pub parts_text : YearMonthDay → ℕ → ℕ → ℤ → List ℕ
 parts_text day second nanosecond offset = date_text day ++ codes "T" ++ time_text second nanosecond ++ offset_text offset
-
--- fields as they stand, as a moment in UTC
-abbrev pub utc_text : Fields → List ℕ
-utc_text f = parts_text (ymd (pos f.year) f.month f.day) (f.minute * 60 + f.second) f.fraction (pos 0)
 
 unfoldable pub moment_text : Shown → List ℕ
 moment_text m =

@@ -6,11 +6,11 @@ ghost use Rattle.calendar.specs.UtcOffset.{IsClockOffset};
 ghost use Rattle.calendar_count.specs.Calendar.{ymd};
 ghost use Rattle.datetime_wall.specs.Wall.{instant, shown_at};
 ghost use Rattle.parsing_values.specs.Decimal.{decimal};
-ghost use Rattle.parsing_values.specs.Moment.{moment_of};
+ghost use Rattle.parsing_values.specs.Moment.{moment_of, whole_text};
 ghost use Rattle.instants_answers.specs.Line.{HoldsLine};
 ghost use Rattle.instants_answers.specs.Minute.{minute_text};
 ghost use Rattle.instants_answers.specs.Moved.{at_offset};
-ghost use Rattle.instants_answers.specs.Text.{FitsLine, date_text, moment_text, parts_text, time_text, utc_text};
+ghost use Rattle.instants_answers.specs.Text.{FitsLine, date_text, moment_text, parts_text, time_text};
 
 use crate::digits::{month_text, two_digits};
 use crate::fields_line::minutes_since;
@@ -119,7 +119,7 @@ pub fn fill_fields(fields: &Fields, target: Target, room: &mut [u8]) -> Option<u
 #[inline(always)]
 pub fn fill_text(fields: &Fields, text: &[u8], room: &mut [u8]) -> usize
     requires room { 64 ≤ length room.old }
-    requires text { text.now ≡ utc_text fields.now }
+    requires text { text.now ≡ whole_text fields.now }
     requires utc { fields.now.offset ≡ pos 0 }
     ensures line { HoldsLine (moment_text (at_offset (pos 0) (moment_of fields.now))) result room.new }
     ensures shown { shown_at (pos 0) (instant (moment_of fields.now))

@@ -7,7 +7,7 @@ use Rattle.instants_answers.proofs.Compares.{Compares, same_when, int_cmp-equal}
 use Rattle.instants_answers.proofs.Lines.{line_field}
 use Rattle.instants_found.specs.declared.found.Found.{Found}
 use Rattle.instants_timeline.specs.Place.{Setting}
-use Rattle.instants.proofs.Answered.{Shows, shown_in}
+use Rattle.instants_timeline.proofs.Shows.{Shows, shown_in}
 use Rattle.instants_lines.specs.Dates.{place_of_date, key_of_date}
 
 key_shows : (setting : Setting) (date : Found) → IsOk (place_of_date setting date) → (a : Shown) × Shows setting.target (instant date.moment) (key_of_date setting date) a

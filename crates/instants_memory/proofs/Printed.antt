@@ -10,7 +10,7 @@ use Rattle.instants_stream.specs.Answers.{answer_or_long, answered, output}
 use Rattle.instants_stream.specs.Lines.{lines}
 use Rattle.instants_timeline.specs.Place.{Setting, answer_to, place_of, place_text}
 use Rattle.instants_faults.specs.Refusal.{Refusal, literal, component, trailing, insufficient, range, year, long, refusal_text}
-use Rattle.instants.proofs.Placed.{shown_at_target}
+use Rattle.instants_timeline.proofs.Shows.{shown_at_target}
 use Rattle.instants_memory.specs.Numbers.{entry_of, fault_number, numbers_of}
 use Rattle.instants_memory.specs.Printed.{HasNumber, entry_line, entry_text, fault_text}
 use Rattle.instants_memory.proofs.FaultTexts.{component_is, range_is}

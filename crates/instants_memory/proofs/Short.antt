@@ -13,7 +13,7 @@ use Rattle.instants_sources.specs.Grammar.{Grammar, Described, Rfc2822, Rfc3339,
 use Rattle.instants_sources.specs.Named.{named, defaults_of}
 use Rattle.instants_timeline.specs.Place.{Setting, or_named, first_named, in_written_years, shown_or_refused, place_of, place_text, answer_to}
 use Rattle.instants_faults.specs.Refusal.{year, refusal_of, refusal_text}
-use Rattle.instants.proofs.Bytes.{at_most_35}
+use Rattle.instants_answers.proofs.FillLemmas.{at_most_35}
 use Rattle.parsing_combinator.specs.Fault.{Fault}
 use Rattle.parsing_combinator.specs.Fault as fault
 use Rattle.parsing_combinator.specs.ShortName.{HasShortName}

@@ -3,7 +3,7 @@ use Rattle.std.proofs.Common.{◌≡◌, ℕ, List, Option, Some, None, Ok, refl
 use Rattle.std.specs.Prelude.{IfSome}
 use Rattle.parsing_values.specs.Moment.{moment_of}
 use Rattle.parsing_values.specs.declared.fields.Fields.{Fields}
-use Rattle.parsing_item_parts.specs.Listed.{NamesWhole}
+use Rattle.parsing_components.specs.Prefix.{NamesWhole}
 use Rattle.parsing_plan.specs.Places.{ArePlacesOf, IsUnixTimeOf}
 use Rattle.parsing_plan.specs.declared.places.Places.{Places}
 use Rattle.parsing_plan.specs.Plan.{IsPlanOf}

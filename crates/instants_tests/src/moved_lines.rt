@@ -61,7 +61,6 @@ fn are_moved() -> bool {
 }
 
 // Whether a line in UTC with nine digits of a fraction is written as it stands.
-#[tactic(auto, using(instants_timeline::proofs::WholeLines::whole_is_utc))]
 fn is_kept(line: &[u8]) -> bool {
     let Some(fields) = parsing_rfc3339::read_usual_fields(line) else {
         return false;

@@ -2,4 +2,4 @@ pub mod Counted
 pub mod FirstNamed
 pub mod Means
 pub mod LineLength
-pub mod WholeLines
+pub mod Shows

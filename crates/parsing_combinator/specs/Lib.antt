@@ -8,5 +8,6 @@ pub mod Tame
 pub mod Chunks
 pub mod Places
 pub mod Shape
+pub mod Written
 pub mod Names
 pub mod Numbers

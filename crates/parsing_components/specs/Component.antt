@@ -1,6 +1,7 @@
 -- What each component reads.
-use Rattle.std.specs.Prelude.{ℕ, Bool, true, false, List, [], ◌∷◌, length, drop, Option, Some, None, Ok, Err, option_map, nat_le, not, codes, if◌then◌else◌}
+use Rattle.std.specs.Prelude.{◌≡◌, ◌≤◌, ◌||◌, ℕ, Bool, true, false, List, [], ◌∷◌, length, drop, Option, Some, None, Ok, Err, option_map, nat_le, not, codes, if◌then◌else◌}
 use Rattle.std.specs.Int.{is_in_range}
+use Rattle.description_modifiers.specs.declared.choices.Padding.{Padding}
 use Rattle.description_modifiers.specs.declared.choices.SubsecondDigits.{SubsecondDigits}
 use Rattle.description_modifiers.specs.declared.choices.SubsecondDigits.TheVariants as digits
 use Rattle.description_modifiers.specs.declared.choices.TrailingInput.{TrailingInput}
@@ -17,6 +18,7 @@ use Rattle.parsing_combinator.specs.Numbers.{padded, year, century, offset_hour,
 use Rattle.parsing_combinator.specs.Names.{named, period, short_months, long_months, short_weekdays, long_weekdays}
 use Rattle.calendar_count.specs.Range.{greatest_year}
 use Rattle.parsing_components.specs.Ranged.{greatest_century, says, between, up_to, since_epoch, counted, months, from_sunday, from_monday}
+use Rattle.parsing_components.specs.Record.{IsInRange}
 use Rattle.parsing_components.specs.declared.said.Read.{Read}
 use Rattle.parsing_components.specs.declared.said.Read.TheVariants as read
 
@@ -96,6 +98,55 @@ date_piece (component.WeekNumberIso m) = says (between 1 53 read.IsoWeek) (taken
 date_piece (component.WeekNumberSunday m) = says (between 0 53 read.SundayWeek) (taken (padded m.padding 2 2))
 date_piece (component.WeekNumberMonday m) = says (between 0 53 read.MondayWeek) (taken (padded m.padding 2 2))
 date_piece other = year_piece other
+
+-- ---- numbers of two digits, which the crate's private clauses name alone
+
+-- what such a number says
+abbrev pub said_by : Component → ℕ → Read
+said_by (component.Day m) = read.Day
+said_by (component.WeekNumberIso m) = read.IsoWeek
+said_by (component.WeekNumberSunday m) = read.SundayWeek
+said_by (component.WeekNumberMonday m) = read.MondayWeek
+said_by (component.CalendarYearLastTwo m) = read.YearLastTwo
+said_by (component.IsoYearLastTwo m) = read.IsoYearLastTwo
+said_by (component.Hour12 m) = read.Hour12
+said_by (component.Hour24 m) = read.Hour24
+said_by (component.Minute m) = read.Minute
+said_by (component.Second m) = read.Second
+said_by (component.OffsetMinute m) = read.OffsetMinute
+said_by other = read.OffsetSecond
+
+-- whether a component is such a number
+abbrev pub is_two_digits : Component → Bool
+is_two_digits (component.Day m) = true
+is_two_digits (component.WeekNumberIso m) = true
+is_two_digits (component.WeekNumberSunday m) = true
+is_two_digits (component.WeekNumberMonday m) = true
+is_two_digits (component.CalendarYearLastTwo m) = true
+is_two_digits (component.IsoYearLastTwo m) = true
+is_two_digits (component.Hour12 m) = true
+is_two_digits (component.Hour24 m) = true
+is_two_digits (component.Minute m) = true
+is_two_digits (component.Second m) = true
+is_two_digits (component.OffsetMinute m) = true
+is_two_digits (component.OffsetSecond m) = true
+is_two_digits other = false
+
+-- the others that most descriptions have
+abbrev pub is_month_or_year : Component → Bool
+is_month_or_year (component.MonthNumerical m) = true
+is_month_or_year (component.CalendarYearFullStandardRange m) = true
+is_month_or_year other = false
+
+abbrev pub is_usual : Component → Bool
+is_usual c = is_two_digits c || is_month_or_year c
+
+-- a component is a number of two digits under a padding, in a range
+pub record IsTwoDigits (c : Component) (padding : Padding) (low high : ℕ) : Type 0 where
+  pub reads : (bytes : List ℕ) → date_piece c bytes ≡ says (between low high (said_by c)) (taken (padded padding 2 2)) bytes
+  pub range : (n : ℕ) → low ≤ n → n ≤ high → IsInRange (said_by c n)
+
+-- ---- what is said
 
 -- the name in a fault
 unfoldable pub time_name : Component → List ℕ

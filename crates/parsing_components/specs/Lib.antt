@@ -1,7 +1,6 @@
 pub mod Ranged
 pub mod Record
 pub mod Component
-pub mod TwoDigits
 pub mod Put
 pub mod Parts
 pub mod Meaning

@@ -1,21 +1,20 @@
 //! What each component reads.
-ghost use Rattle.std.specs.Prelude.{◌≡◌, ◌≤◌, false, None, IfSome};
+ghost use Rattle.std.specs.Prelude.{◌≡◌, ◌≤◌, false, None, IfNone, IfSome};
 ghost use Rattle.std.specs.Option.{MatchOption, IsSomeAnd};
 ghost use Rattle.parsing_combinator.specs.FaultOf.{Gives, reading_fault};
 ghost use Rattle.parsing_combinator.specs.Pieces.{cut_view};
 ghost use Rattle.parsing_components.specs.Put.{Reads, passed, putting};
 ghost use Rattle.parsing_components.specs.Record.{IsInRange, IsWithin};
 ghost use Rattle.parsing_components.specs.Component as Components;
-ghost use Rattle.parsing_components.specs.TwoDigits.{is_month_or_year, is_usual};
+ghost use Rattle.parsing_components.specs.Component.{IsTwoDigits, is_month_or_year, is_two_digits, is_usual, said_by};
 
 use crate::dates::{month_number, weekday_number};
 use crate::fields::Record;
 use crate::offsets::{hour_of_offset, ignored, ignored_characters, unix};
 use crate::ranged::{full_century, full_year, subsecond, three, two};
 use crate::said::Read;
-use crate::two_digits::{range_of, said_by};
 use description_items::Component;
-use description_items::modifier::TrailingInput;
+use description_items::modifier::{Padding, TrailingInput};
 use parsing_combinator::{
     ParseFromDescription, long_month, long_weekday, period, short_month, short_weekday,
 };
@@ -115,6 +114,51 @@ fn other_piece(component: Component, bytes: &[u8]) -> Option<(Read, &[u8])>
             Read::Weekday,
         ),
         other => year_piece(other, bytes),
+    }
+}
+
+// The padding and the range of a number of two digits, if the component is one and no month.
+#[inline(always)]
+#[tactic(auto, unfolding(crate::specs::Component::date_piece, crate::specs::Component::year_piece, crate::specs::Component::time_piece, crate::specs::Component::offset_piece))]
+fn range_of(component: Component) -> Option<(Padding, u8, u8)>
+    ensures some { IfSome result (λ x. IsTwoDigits component x.0 x.1 x.2) }
+    ensures none { IfNone result (is_two_digits component ≡ false) }
+{
+    match component {
+        Component::Day(m) => Some((m.padding, 1, 31)),
+        Component::WeekNumberIso(m) => Some((m.padding, 1, 53)),
+        Component::WeekNumberSunday(m) => Some((m.padding, 0, 53)),
+        Component::WeekNumberMonday(m) => Some((m.padding, 0, 53)),
+        Component::CalendarYearLastTwo(m) => Some((m.padding, 0, 99)),
+        Component::IsoYearLastTwo(m) => Some((m.padding, 0, 99)),
+        Component::Hour12(m) => Some((m.padding, 1, 12)),
+        Component::Hour24(m) => Some((m.padding, 0, 23)),
+        Component::Minute(m) => Some((m.padding, 0, 59)),
+        Component::Second(m) => Some((m.padding, 0, 60)),
+        Component::OffsetMinute(m) => Some((m.padding, 0, 59)),
+        Component::OffsetSecond(m) => Some((m.padding, 0, 59)),
+        _ => None,
+    }
+}
+
+// What such a component says by its number.
+#[inline(always)]
+fn said_by(component: Component, number: u8) -> Read
+    ensures { result ≡ said_by component number }
+{
+    match component {
+        Component::Day(_) => Read::Day(number),
+        Component::WeekNumberIso(_) => Read::IsoWeek(number),
+        Component::WeekNumberSunday(_) => Read::SundayWeek(number),
+        Component::WeekNumberMonday(_) => Read::MondayWeek(number),
+        Component::CalendarYearLastTwo(_) => Read::YearLastTwo(number),
+        Component::IsoYearLastTwo(_) => Read::IsoYearLastTwo(number),
+        Component::Hour12(_) => Read::Hour12(number),
+        Component::Hour24(_) => Read::Hour24(number),
+        Component::Minute(_) => Read::Minute(number),
+        Component::Second(_) => Read::Second(number),
+        Component::OffsetMinute(_) => Read::OffsetMinute(number),
+        _ => Read::OffsetSecond(number),
     }
 }
 

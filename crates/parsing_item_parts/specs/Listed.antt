@@ -1,5 +1,5 @@
 -- Descriptions that are read by their parts.
-use Rattle.std.specs.Prelude.{◌≡◌, true, false, ℕ, ℤ, List, Option, Ok, IfSome}
+use Rattle.std.specs.Prelude.{◌≡◌, true, false, ℤ, List, Option}
 use Rattle.parsing_layout.specs.Items.{all_certain, all_possible}
 use Rattle.parsing_layout.specs.Layout.{Values}
 use Rattle.parsing_layout.specs.declared.parts.Field.{Field}
@@ -7,11 +7,6 @@ use Rattle.parsing_layout.specs.Said.{Said, fields_of}
 use Rattle.parsing_layout.specs.declared.items.Item.{Item}
 use Rattle.parsing_strides.specs.Found.{values_in}
 use Rattle.parsing_components.specs.Meaning.{Meaning}
-use Rattle.parsing_components.specs.Prefix.{beginning}
-use Rattle.parsing_components.specs.Whole.{whole, names, moment_named, starting}
-use Rattle.parsing_components.specs.declared.fields.Record.{Record}
-use Rattle.parsing_values.specs.Moment.{moment_of}
-use Rattle.parsing_values.specs.declared.fields.Fields.{Fields}
 use Rattle.parsing_item_parts.specs.Items.{AreItems, items_kept}
 use Rattle.parsing_item_parts.specs.declared.listed.Listed.{Listed}
 use Rattle.parsing_item_parts.specs.declared.reading.ListedAt.{ListedAt}
@@ -40,7 +35,3 @@ IsListOf m l = AreItems m (items_listed l)
 -- the offset that is assumed has the minutes that count where lines have none
 abbrev pub ListedAssumes : ListedAt → Option ℤ → Type 0
 ListedAssumes way assumed = Assumes way.listed.now.kind.has_offset assumed way.minutes.number
-
--- fields that are found are those of the moment that each such meaning names of the whole line, with an offset assumed or none
-abbrev pub NamesWhole : (Meaning → Type 0) → List ℕ → Option ℤ → Option Fields → Type 0
-NamesWhole IsRead line assumed found = (m : Meaning) (defaults : Option Record) → IsRead m → starting defaults ≡ beginning assumed → IfSome found (λ f. names moment_named (whole m defaults line) ≡ Ok (moment_of f))

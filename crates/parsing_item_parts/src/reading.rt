@@ -11,7 +11,8 @@ ghost use Rattle.parsing_components.specs.Prefix.{NamesPrefix, beginning};
 ghost use Rattle.parsing_components.specs.Whole.{whole, moment_named, offset_named};
 ghost use Rattle.parsing_values.specs.NamedTime.{hour_of};
 ghost use Rattle.parsing_item_parts.specs.Assumed.{Assumes};
-ghost use Rattle.parsing_item_parts.specs.Listed.{IsListOf, IsWay, ListedAssumes, NamesWhole};
+ghost use Rattle.parsing_components.specs.Prefix.{NamesWhole};
+ghost use Rattle.parsing_item_parts.specs.Listed.{IsListOf, IsWay, ListedAssumes};
 ghost use Rattle.parsing_item_parts.specs.Recorded.{recorded};
 
 use crate::listed::Listed;

@@ -11,7 +11,7 @@ use Rattle.parsing_combinator.specs.Pieces.{digit_count, digit_run, fraction, na
 use Rattle.parsing_combinator.specs.Shape.{taken, digits_between}
 use Rattle.parsing_combinator.proofs.Decimal.{digit_count_within, count_drop, count_prefix}
 use Rattle.parsing_combinator.proofs.FractionDigits.{long_fraction, short_fraction}
-use Rattle.parsing_values.specs.Written.{WriteFraction}
+use Rattle.parsing_combinator.specs.Written.{WriteFraction}
 use Rattle.parsing_combinator.proofs.Longest.{taken_digits}
 use Rattle.parsing_layout.specs.Layout.{exact_fraction}
 use Rattle.parsing_layout.proofs.PieceLemmas.{inside, exact_said}

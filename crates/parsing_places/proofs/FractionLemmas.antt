@@ -13,7 +13,7 @@ use Rattle.parsing_combinator.proofs.AtPlaces.{is_digit}
 use Rattle.parsing_combinator.proofs.FractionDigits.{short_fraction}
 use Rattle.parsing_combinator.proofs.Lanes.{spelled, spelled_is, take_fit}
 use Rattle.parsing_values.specs.Digits.{nine_digits, AreNineDigits}
-use Rattle.parsing_values.specs.Written.{WriteFraction}
+use Rattle.parsing_combinator.specs.Written.{WriteFraction}
 use lib.Lanes.{number_l, chunk}
 
 -- digits before are counted

@@ -3,7 +3,7 @@ use Rattle.std.proofs.Common.{◌≡◌, ◌≤◌, ◌<◌, ◌+◌, ◌-◌, �
 use Rattle.std.proofs.lemmas.Bool.{cases_lt}
 use Rattle.std.proofs.lemmas.List.{get_or-drop, length-drop}
 use Rattle.parsing_values.specs.Digits.{AreNineDigits}
-use Rattle.parsing_values.specs.Written.{WriteFraction}
+use Rattle.parsing_combinator.specs.Written.{WriteFraction}
 use Rattle.std.specs.Str.Parse.{digits_value}
 use Rattle.parsing_values.specs.Digits.{nine_digits}
 use Rattle.parsing_places.specs.Lanes.{are_moves, above}

@@ -8,7 +8,7 @@ use Rattle.calendar_count.specs.Calendar.{days_in_month}
 use Rattle.parsing_components.specs.Prefix.{beginning}
 use Rattle.parsing_components.specs.Whole.{moment_named, offset_named}
 use Rattle.parsing_values.specs.Moment.{moment_of}
-use Rattle.parsing_values.specs.Written.{WriteFraction}
+use Rattle.parsing_combinator.specs.Written.{WriteFraction}
 use Rattle.parsing_values.specs.declared.fields.Fields.{Fields}
 use Rattle.parsing_item_parts.specs.Recorded.{recorded, said_or}
 use Rattle.parsing_item_parts.proofs.MomentLemmas.{hour_said, moment_said, offset_assumed, offset_said}

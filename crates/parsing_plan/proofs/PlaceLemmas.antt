@@ -5,7 +5,7 @@ use Rattle.parsing_combinator.specs.Pieces.{digits}
 use Rattle.parsing_components.specs.Meaning.{Meaning}
 use Rattle.parsing_components.specs.Prefix.{NamesPrefix, beginning}
 use Rattle.parsing_values.specs.Moment.{moment_of}
-use Rattle.parsing_values.specs.Written.{WriteFraction}
+use Rattle.parsing_combinator.specs.Written.{WriteFraction}
 use Rattle.parsing_values.specs.declared.fields.Fields.{Fields}
 use Rattle.parsing_item_parts.specs.Items.{parts_kept}
 use Rattle.parsing_item_parts.proofs.ReadingLemmas.{prefix_named}

@@ -9,7 +9,7 @@ use Rattle.parsing_combinator.specs.Shape.{taken, fraction_between}
 use Rattle.parsing_combinator.proofs.Decimal.{count_drop}
 use Rattle.parsing_combinator.proofs.FractionDigits.{none_there}
 use Rattle.parsing_combinator.proofs.Longest.{taken_digits}
-use Rattle.parsing_values.specs.Written.{WriteFraction}
+use Rattle.parsing_combinator.specs.Written.{WriteFraction}
 use Rattle.parsing_values.specs.declared.fields.Fields.{Fields}
 use Rattle.parsing_layout.specs.Layout.{Says, length_of}
 use Rattle.parsing_layout.specs.declared.parts.Part.{Part}

@@ -14,7 +14,7 @@ use Rattle.parsing_components.specs.Ranged.{kept, since_epoch, nanoseconds_after
 use Rattle.parsing_components.specs.declared.said.Read.TheVariants as read
 use Rattle.parsing_values.specs.declared.fields.Fields.{Fields}
 use Rattle.parsing_values.specs.Moment.{moment_of}
-use Rattle.parsing_values.specs.Written.{WriteFraction}
+use Rattle.parsing_combinator.specs.Written.{WriteFraction}
 use Rattle.parsing_values.specs.NamedMoment.{named_moment, unix_subsecond, unix_instant}
 use Rattle.parsing_combinator.specs.Fault.{Fault}
 use Rattle.parsing_combinator.specs.Pieces.{digits, digit_count, fraction, sign}

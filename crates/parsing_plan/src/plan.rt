@@ -9,7 +9,7 @@ ghost use Rattle.parsing_components.specs.Meaning.{Meaning};
 ghost use Rattle.parsing_components.specs.Prefix.{NamesPrefix, beginning};
 ghost use Rattle.parsing_components.specs.Reads.{reading, reading_of_all};
 ghost use Rattle.parsing_components.specs.Whole.{whole, names};
-ghost use Rattle.parsing_item_parts.specs.Listed.{NamesWhole};
+ghost use Rattle.parsing_components.specs.Prefix.{NamesWhole};
 ghost use Rattle.parsing_plan.specs.Plan.{HasAssumed, IsPlanOf, plan_of};
 
 use crate::places::Places;

@@ -11,7 +11,7 @@ ghost use Rattle.parsing_shapes.specs.Sums.{AreSums};
 ghost use Rattle.parsing_item_parts.specs.Assumed.{Assumes};
 ghost use Rattle.parsing_plan.specs.Fields.{AreFieldsOf};
 ghost use Rattle.parsing_plan.specs.Parts.{are_numbers, is_plain};
-ghost use Rattle.parsing_item_parts.specs.Listed.{NamesWhole};
+ghost use Rattle.parsing_components.specs.Prefix.{NamesWhole};
 ghost use Rattle.parsing_plan.specs.Places.{ArePlacesOf, AssumesMinutes};
 
 use crate::parts::{day_of, fraction_of, month_of, offset_of, weekday_of};

@@ -1,7 +1,7 @@
 //! Unix time alone on a line.
 ghost use Rattle.std.specs.Prelude.{◌≡◌, ◌+◌, ◌<◌, ◌≤◌, drop, length, Option, ℤ, IfSome};
-ghost use Rattle.parsing_values.specs.Written.{WriteFraction};
-ghost use Rattle.parsing_item_parts.specs.Listed.{NamesWhole};
+ghost use Rattle.parsing_combinator.specs.Written.{WriteFraction};
+ghost use Rattle.parsing_components.specs.Prefix.{NamesWhole};
 ghost use Rattle.parsing_components.specs.Reads.{reading};
 ghost use Rattle.parsing_plan.specs.UnixTime.{IsUnixOf};
 

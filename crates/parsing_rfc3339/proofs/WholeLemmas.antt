@@ -28,7 +28,8 @@ use Rattle.parsing_places.specs.Tail.{is_written, is_zulu}
 use Rattle.parsing_places.specs.declared.ending.Ending.{Ending}
 use Rattle.parsing_places.specs.declared.ending.Ending.TheVariants.{Zulu, Colon, Plain}
 use Rattle.parsing_rfc3339.specs.Layout.{date_parts, clock_parts, front_parts}
-use Rattle.parsing_rfc3339.specs.Whole.{whole_text, IsLikeWhole}
+use Rattle.parsing_values.specs.Moment.{whole_text}
+use Rattle.parsing_rfc3339.specs.Whole.{IsLikeWhole}
 
 -- digits are the decimal of the number that they write
 digits_text : (n : ℕ) (bytes rest : List ℕ) (v : ℕ) → digits n bytes ≡ Some (v, rest) → bytes ≡ decimal n v ++ rest

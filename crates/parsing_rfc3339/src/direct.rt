@@ -4,7 +4,7 @@ ghost use Rattle.parsing_combinator.specs.Fault.{component};
 ghost use Rattle.parsing_combinator.specs.FaultOf.{Gives, fault_of};
 ghost use Rattle.parsing_combinator.specs.ShortName.{HasShortName};
 ghost use Rattle.parsing_rfc3339.specs.Direct.{direct, moment_of};
-ghost use Rattle.parsing_rfc3339.specs.Whole.{IsLikeWhole, whole_text};
+ghost use Rattle.parsing_rfc3339.specs.Whole.{IsLikeWhole};
 ghost use Rattle.parsing_combinator.specs.Readings.{value_read};
 ghost use Rattle.parsing_values.specs.Moment as Moment;
 
@@ -44,7 +44,7 @@ const SHORTEST: usize = 20;
 pub fn read_usual_fields(input: &[u8]) -> Option<Fields>
     ensures moment { IfSome result (λ fields. direct input.now ≡ Ok (Moment.moment_of fields)) }
     ensures whole { IsLikeWhole input.now → IfSome result
-        (λ fields. (input.now ≡ whole_text fields) × (fields.offset ≡ pos 0)) }
+        (λ fields. (input.now ≡ Moment.whole_text fields) × (fields.offset ≡ pos 0)) }
 {
     // The hyphen by itself first: it is what most other texts lack.
     if input.len() < SHORTEST || input[4] != b'-' {

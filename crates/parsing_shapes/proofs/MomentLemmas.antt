@@ -6,7 +6,7 @@ use Rattle.std.proofs.lemmas.Bool.Decides.{nat_tests}
 use Rattle.std.proofs.lemmas.List.{drop_all}
 use Rattle.base.specs.Bytes.{dot, hyphen}
 use Rattle.parsing_combinator.specs.Pieces as Pieces
-use Rattle.parsing_values.specs.Written.{WriteFraction}
+use Rattle.parsing_combinator.specs.Written.{WriteFraction}
 use Rattle.parsing_values.specs.Resolution.{signed_offset_of}
 use Rattle.parsing_places.specs.Windows.{Taken, is_offset_bounded, spares_one}
 use Rattle.parsing_places.specs.declared.shape.Window.{Window}

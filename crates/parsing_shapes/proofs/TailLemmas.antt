@@ -5,7 +5,7 @@ use Rattle.std.proofs.lemmas.Bool.Decides.{nat_tests}
 use Rattle.std.proofs.lemmas.List.{drop-drop, get_or-drop, get_or-replicate, length-drop}
 use Rattle.base.specs.Bytes.{dot}
 use Rattle.parsing_combinator.specs.Pieces.{digit_count}
-use Rattle.parsing_values.specs.Written.{WriteFraction}
+use Rattle.parsing_combinator.specs.Written.{WriteFraction}
 use Rattle.parsing_places.specs.Last.{HaveEnd, HaveWindow}
 use Rattle.parsing_places.specs.Numbers.{LieIn}
 use Rattle.parsing_places.specs.Windows.{Taken}

@@ -4,7 +4,7 @@ use Rattle.std.specs.Prelude.{nat_lt, if◌then◌else◌}
 use Rattle.std.proofs.lemmas.Bool.{agree_below, agree_below_at, cases_lt, le-ltb, lt-ltb}
 use Rattle.std.proofs.lemmas.Bool.Decides.{nat_tests}
 use Rattle.base.specs.Bytes.{dot, lower_z}
-use Rattle.parsing_values.specs.Written.{WriteFraction}
+use Rattle.parsing_combinator.specs.Written.{WriteFraction}
 use Rattle.parsing_places.specs.Last.{HaveEnd, HaveFraction, with_moves}
 use Rattle.parsing_places.specs.Tail.{is_zulu}
 use Rattle.parsing_places.specs.Windows.{lets}

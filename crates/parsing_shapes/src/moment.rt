@@ -1,6 +1,6 @@
 //! The fields of a text, whose numbers are all read at once.
 ghost use Rattle.std.specs.Prelude.{◌≡◌, ◌≤◌, ◌<◌, ◌+◌, ◌-◌, drop, length, true, IfSome, List};
-ghost use Rattle.parsing_values.specs.Written.{WriteFraction};
+ghost use Rattle.parsing_combinator.specs.Written.{WriteFraction};
 ghost use Rattle.parsing_places.specs.Last.{HaveEnd, with_moves};
 ghost use Rattle.parsing_places.specs.Tail.{is_written, is_zulu};
 ghost use Rattle.parsing_places.specs.declared.ending.Ending.{Ending};

@@ -1,6 +1,6 @@
 //! The numbers of a text, all read at once.
 ghost use Rattle.std.specs.Prelude.{◌≡◌, ◌≤◌, ◌<◌, ◌+◌, ◌-◌, drop, false, length, true, IfSome};
-ghost use Rattle.parsing_values.specs.Written.{WriteFraction};
+ghost use Rattle.parsing_combinator.specs.Written.{WriteFraction};
 ghost use Rattle.parsing_shapes.specs.Moment.{AreTaken};
 ghost use Rattle.parsing_shapes.specs.Sums.{AreSums};
 

@@ -3,7 +3,7 @@ use Rattle.std.proofs.Common.{◌≡◌, ℕ, zero, suc, ◌≤◌, true, false,
 use Rattle.std.specs.Prelude.{nat_lt, unsigned_abs}
 use Rattle.std.proofs.lemmas.Bool.Decides.{nat_tests}
 use Rattle.std.proofs.lemmas.Int.{ints}
-use Rattle.calendar_clock.specs.UtcOffset.{offset_of, offset_seconds}
+use Rattle.calendar.specs.UtcOffset.{offset_of, offset_seconds}
 use Rattle.parsing_values.specs.Resolution.{signed_offset_of}
 
 not_above : (most n : ℕ) → n ≤ most → nat_lt most n ≡ false

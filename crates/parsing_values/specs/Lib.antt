@@ -12,4 +12,3 @@ pub mod Digits
 pub mod DigitsBack
 pub mod Moment
 pub mod Numbers
-pub mod Written

@@ -5,7 +5,7 @@ ghost use Rattle.parsing_combinator.specs.Pieces as Pieces;
 ghost use Rattle.std.specs.Str.Parse.{digits_value};
 ghost use Rattle.parsing_values.specs.Decimal.{decimal};
 ghost use Rattle.parsing_values.specs.Digits.{AreNineDigits, nine_digits};
-ghost use Rattle.parsing_values.specs.Written.{WriteFraction};
+ghost use Rattle.parsing_combinator.specs.Written.{WriteFraction};
 
 use crate::before::digits_before;
 use crate::digits::digit_pair;

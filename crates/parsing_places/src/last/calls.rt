@@ -1,6 +1,6 @@
 //! The last bytes of a text.
 ghost use Rattle.std.specs.Prelude.{◌≡◌, ◌≤◌, ◌<◌, ◌+◌, ◌-◌, ℕ, List, drop, get_or, length, true, IfSome};
-ghost use Rattle.parsing_values.specs.Written.{WriteFraction};
+ghost use Rattle.parsing_combinator.specs.Written.{WriteFraction};
 ghost use Rattle.parsing_places.specs.Last.{HaveFraction, HaveLast};
 
 use super::{LastBytes, TWICE};

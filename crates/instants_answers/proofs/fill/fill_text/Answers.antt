@@ -7,14 +7,14 @@ use Rattle.calendar_count.specs.Range.{IsCount}
 use Rattle.calendar_count.proofs.lemmas.Signed.{signed}
 use Rattle.parsing_values.specs.declared.fields.Fields.{Fields}
 use Rattle.instants_answers.specs.Moved.{IsMoved}
-use Rattle.instants_answers.specs.Text.{utc_text}
-use Rattle.instants_answers.proofs.FillLemmas.{two_halves, utc_length, utc_is_clock}
+use Rattle.parsing_values.specs.Moment.{whole_text}
+use Rattle.instants_answers.proofs.FillLemmas.{two_halves, whole_length, whole_is_line, utc_is_clock}
 use Rattle.instants_answers.proofs.MovedLemmas.{moved, line_is, shown_is, fits}
 use Rattle.instants_answers.proofs.fill.fill_text.Goals as goal
 
 -- the text has thirty bytes
-long : (text : List ℕ) (f : Fields) → text ≡ utc_text f → length text ≡ 30
-long text f e = ap length e ∙ utc_length f
+long : (text : List ℕ) (f : Fields) → text ≡ whole_text f → length text ≡ 30
+long text f e = ap length e ∙ whole_length f
 
 pub slice_bounds-put_first-end : goal.slice_bounds-put_first-end
 slice_bounds-put_first-end c = sym (length-take-le 16 c.args.text.now (omega (arith, long c.args.text.now c.args.fields.now c.requires.text)))
@@ -39,7 +39,7 @@ returns-clause-line c =
     let text = c.args.text.now in
     let put : take 30 c.put.new.room ≡ text = two_halves text c.put_first.new.room c.put.new.room (long text f c.requires.text) c.put_first.ensures.prefix c.put.ensures.prefix in
     rw (line_is f (pos 0) (pos f.minute) f.day f.minute (stays f c.count_of_day.result c.count_of_day.ensures.bound here) utc_is_clock c.digits.ensures.bound (no_minutes f.minute f.offset c.requires.utc)) (record {
-      bytes = c.put-2.ensures.prefix ∙ ap (λ (l : List ℕ). l ++ line_feed ∷ []) (put ∙ c.requires.text);
+      bytes = c.put-2.ensures.prefix ∙ ap (λ (l : List ℕ). l ++ line_feed ∷ []) (put ∙ c.requires.text ∙ whole_is_line f);
       most = omega arith;
     })
 

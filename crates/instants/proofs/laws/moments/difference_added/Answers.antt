@@ -1,6 +1,7 @@
 use Rattle.std.proofs.Common.{◌≡◌, Some, sym, ◌∙◌}
 use Rattle.std.specs.Prelude.{◌+ℤ◌}
-use Rattle.instants.proofs.Placed.{shown_at_target, moved_by_difference, sum_is, has_line}
+use Rattle.instants_timeline.proofs.Shows.{shown_at_target}
+use Rattle.instants.proofs.Placed.{moved_by_difference, sum_is, has_line}
 use Rattle.instants.proofs.laws.moments.difference_added.Goals as goal
 
 pub returns : goal.returns
