@@ -64,7 +64,7 @@ MODULES = {
     "description::modifier": ("description_modifiers/src",),
     "description::laws": ("description/src/laws.rt",),
     "description::strftime_laws": ("description_strftime/src/laws.rt",),
-    "parsing::laws": ("parsing/src/laws.rt", "parsing_laws/src/node_laws.rt", "parsing_laws/src/two_roads.rt", "parsing_laws/src/descriptions.rt"),
+    "parsing::laws": ("parsing/src/laws.rt", "parsing/src/node_laws.rt", "parsing/src/two_roads.rt", "parsing/src/descriptions.rt"),
     "parsing_values::date_laws": ("parsing_values/src/date_laws.rt",),
     "parsing_rfc3339::laws": ("parsing_rfc3339/src/laws.rt",),
     "parsing_rfc2822::laws": ("parsing_rfc2822/src/laws.rt",),

@@ -17,7 +17,7 @@ use Rattle.parsing_parsable.specs.Staged.{reads_rfc3339}
 use Rattle.parsing_parsable.specs.TwoRoads.{AgreeOn, HoldsAtMostAnOffset}
 use Rattle.parsing_parsable.proofs.Rfc3339Roads.{agree}
 use Rattle.parsing_parsable.proofs.Assumed.{one_road}
-use Rattle.parsing_laws.proofs.Assumed.{same_moment, two_formats}
+use Rattle.parsing.proofs.Assumed.{same_moment, two_formats}
 use Rattle.instants.proofs.Pieces.{date_read, any_read, clock_read, subsecond_read, zone_named, offset_read, offset_ends}
 use Rattle.instants.proofs.Values.{day_named, time_named, offset_named}
 use Rattle.instants.proofs.Bytes.{after_second, after_date, line_parts, both, unrounded}

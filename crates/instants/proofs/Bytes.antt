@@ -11,8 +11,8 @@ use Rattle.instants_answers.specs.Text.{date_text, time_text, offset_text, momen
 use Rattle.parsing_values.proofs.lemmas.Decimals.{decimal_length}
 use Rattle.parsing_iso8601.specs.Designators.{time_designator}
 use Rattle.parsing_iso8601.proofs.Rounding.{none_left}
-use Rattle.parsing_laws.specs.TwoFormats.{separator, last_byte, fraction_of, rounds_up, is_of_both, rounded}
-use Rattle.parsing_laws.proofs.Places.{byte_at, last_of_rest}
+use Rattle.parsing.specs.TwoFormats.{separator, last_byte, fraction_of, rounds_up, is_of_both, rounded}
+use Rattle.parsing.proofs.Places.{byte_at, last_of_rest}
 use Rattle.parsing_combinator.specs.Pieces.{digit_count}
 use Rattle.parsing_combinator.proofs.Prefixes.{byte_at as byte_read}
 use Rattle.instants.proofs.Decimals.{count_with}

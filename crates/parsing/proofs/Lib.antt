@@ -1,0 +1,13 @@
+pub mod Assumed
+pub mod Inversion
+pub mod Moments
+pub mod NearTimes
+pub mod Places
+pub mod RfcPieces
+pub mod SameDates
+pub mod SameOffsets
+pub mod SameTimes
+pub mod Alike
+pub mod ItemLemmas
+pub mod InTurn
+pub mod Letters

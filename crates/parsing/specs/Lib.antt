@@ -1,2 +1,5 @@
 pub mod Error
 pub mod Laws
+pub mod TwoFormats
+pub mod Joined
+pub mod TwoVersions

@@ -7,9 +7,9 @@ ghost use Rattle.parsing_parsable.specs.Staged.{reads_rfc2822, reads_rfc3339};
 ghost use Rattle.parsing_parsable.specs.TwoRoads.{AgreeOn};
 ghost use Rattle.parsing.specs.Laws.{HasOneInstant};
 
-pub use parsing_laws::descriptions::{joined_descriptions, two_versions};
-pub use parsing_laws::node_laws::{few_nodes, tried_at_most_nodes};
-pub use parsing_laws::two_roads::two_formats;
+pub use crate::descriptions::{joined_descriptions, two_versions};
+pub use crate::node_laws::{few_nodes, tried_at_most_nodes};
+pub use crate::two_roads::two_formats;
 
 /// A record without Unix time that names a date, a time of day and an offset, of which the calendar has the day in UTC,
 /// is accepted alike as `OffsetDateTime`, `UtcDateTime` and `Timestamp`, with one instant; else each refuses it.

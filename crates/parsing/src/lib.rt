@@ -25,8 +25,11 @@
 //! - `laws` has what follows from the contracts. A call of a law hands it to a proof.
 #![tactic(auto)]
 
+mod descriptions;
 mod error;
 pub mod laws;
+mod node_laws;
+mod two_roads;
 
 pub use description_items::{Iso8601, Rfc2822, Rfc3339};
 pub use error::Error;

@@ -9,7 +9,7 @@ fn readings() {
     laws::two_formats();
     laws::joined_descriptions();
     laws::two_versions();
-    parsing_laws::two_roads::two_formats();
+    parsing::laws::two_formats();
     parsing_values::date_laws::one_day();
     parsing_values::laws::three_instants();
     laws::tried_at_most_nodes();

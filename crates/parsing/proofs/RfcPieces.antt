@@ -11,7 +11,7 @@ use Rattle.parsing_values.specs.StandIn.{leap_checked}
 use Rattle.parsing_rfc3339.specs.declared.parts.Rfc3339Parts.{Rfc3339Parts}
 use Rattle.parsing_rfc3339.specs.Direct.{direct, moment, moment_of}
 use Rattle.parsing_rfc3339.specs.Reading.{date, clock, subsecond, offset, rfc3339}
-use Rattle.parsing_laws.proofs.Inversion.{due_piece, due_check, due_part, due_value, due_end, due_whole, last_value, same_end, three_ended}
+use Rattle.parsing.proofs.Inversion.{due_piece, due_check, due_part, due_value, due_end, due_whole, last_value, same_end, three_ended}
 
 -- three numbers, the first one of so many digits and the others of two, with a byte between them
 pub record ThreePieces (n mark : ℕ) (bytes : List ℕ) (d : ℕ × ℕ × ℕ) (rest : List ℕ) : Type 0 where

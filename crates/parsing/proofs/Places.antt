@@ -5,7 +5,7 @@ use Rattle.std.proofs.lemmas.List.{drop-drop, get_or-drop}
 use Rattle.parsing_combinator.specs.Pieces.{digits, digit_count, byte, any_byte, skip_of}
 use Rattle.parsing_combinator.proofs.FractionDigits.{cut_of}
 use Rattle.parsing_iso8601.proofs.Pieces.{same}
-use Rattle.parsing_laws.specs.TwoFormats.{last_byte}
+use Rattle.parsing.specs.TwoFormats.{last_byte}
 
 -- so many digits, their number and the rest
 pub digits_place : (n : ℕ) (bytes : List ℕ) (v : ℕ) (rest : List ℕ) → digits n bytes ≡ Some (v, rest) → (digits_value 10 (take n bytes) ≡ v) × (drop n bytes ≡ rest)

@@ -8,7 +8,7 @@ use Rattle.description_grammar.specs.Spelling.{Spells, SpellsTree}
 use Rattle.description_grammar.specs.Outcomes.{joined}
 use Rattle.parsing_components.specs.declared.fields.Record.{Record}
 use Rattle.parsing_record.specs.Whole.{whole, names, moment_named}
-use Rattle.parsing_laws.specs.Joined.{by_items, by_tree}
+use Rattle.parsing.specs.Joined.{by_items, by_tree}
 
 -- no item ignores bytes
 abbrev pub IgnoresNothing : List Tree → Type 0

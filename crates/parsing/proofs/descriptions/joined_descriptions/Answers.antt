@@ -1,7 +1,7 @@
 use Rattle.parsing_components.specs.Component.{reads_component}
-use Rattle.parsing_laws.proofs.InTurn.{items_in_turn, trees_in_turn}
-use Rattle.parsing_laws.proofs.Letters.{letters_in_turn}
-use Rattle.parsing_laws.proofs.descriptions.joined_descriptions.Goals as goal
+use Rattle.parsing.proofs.InTurn.{items_in_turn, trees_in_turn}
+use Rattle.parsing.proofs.Letters.{letters_in_turn}
+use Rattle.parsing.proofs.descriptions.joined_descriptions.Goals as goal
 
 pub returns-clause-versions : goal.returns-clause-versions
 returns-clause-versions c = items_in_turn c.joined.ensures reads_component

@@ -9,8 +9,8 @@ use Rattle.description_grammar.proofs.ItemsComplete.{unlisted, listed_again}
 use Rattle.description.specs.Laws.{Joins}
 use Rattle.parsing_components.specs.Component.{reads_component_v3}
 use Rattle.parsing_record.specs.Reads.{Language, reads}
-use Rattle.parsing_laws.specs.Joined.{by_tree, in_turn, IsReadInTurn}
-use Rattle.parsing_laws.proofs.ItemLemmas.{items_read, spelled_apart, spelled_as_one}
+use Rattle.parsing.specs.Joined.{by_tree, in_turn, IsReadInTurn}
+use Rattle.parsing.proofs.ItemLemmas.{items_read, spelled_apart, spelled_as_one}
 
 -- what is known of the items of two texts
 abbrev pub AllJoin : Type 0

@@ -29,13 +29,13 @@ use Rattle.parsing_iso8601.specs.Reading.{dated, iso8601, whole}
 use Rattle.parsing_iso8601.specs.ReadView.{day_named}
 use Rattle.parsing_iso8601.specs.Times.{time, time_of, subsecond_of}
 use Rattle.parsing_iso8601_shapes.proofs.FastMoments.{whole_of, moment_named}
-use Rattle.parsing_laws.specs.TwoFormats.{separator, last_byte, second_of, fraction_of, rounds_up, fills_second, is_of_both, rounded}
-use Rattle.parsing_laws.proofs.Places.{digits_place, byte_place, any_place, further, byte_at, last_of_rest}
-use Rattle.parsing_laws.proofs.RfcPieces.{ThreePieces, date_pieces, clock_pieces, TextPieces, text_pieces, nanosecond, shown}
-use Rattle.parsing_laws.proofs.SameDates.{read_date}
-use Rattle.parsing_laws.proofs.SameOffsets.{SameOffset, same_zone}
-use Rattle.parsing_laws.proofs.SameTimes.{no_time, designated, run_of, SameFraction, fraction_by, rounded_cut, same_time, refused_time}
-use Rattle.parsing_laws.proofs.NearTimes.{same_leap, next_time}
+use Rattle.parsing.specs.TwoFormats.{separator, last_byte, second_of, fraction_of, rounds_up, fills_second, is_of_both, rounded}
+use Rattle.parsing.proofs.Places.{digits_place, byte_place, any_place, further, byte_at, last_of_rest}
+use Rattle.parsing.proofs.RfcPieces.{ThreePieces, date_pieces, clock_pieces, TextPieces, text_pieces, nanosecond, shown}
+use Rattle.parsing.proofs.SameDates.{read_date}
+use Rattle.parsing.proofs.SameOffsets.{SameOffset, same_zone}
+use Rattle.parsing.proofs.SameTimes.{no_time, designated, run_of, SameFraction, fraction_by, rounded_cut, same_time, refused_time}
+use Rattle.parsing.proofs.NearTimes.{same_leap, next_time}
 use Rattle.parsing_values.proofs.lemmas.Ranges.{date_ranges, TimeRanges, time_ranges}
 use Rattle.parsing_components.proofs.Entries.{month_with}
 use Rattle.parsing_parsable.proofs.RoadNumbers.{same_date}

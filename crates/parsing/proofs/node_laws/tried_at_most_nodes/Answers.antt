@@ -1,5 +1,5 @@
 use Rattle.parsing_parsable.proofs.Tried.{tree_tried, in_turn_tried}
-use Rattle.parsing_laws.proofs.node_laws.tried_at_most_nodes.Goals as goal
+use Rattle.parsing.proofs.node_laws.tried_at_most_nodes.Goals as goal
 
 pub returns-clause-items : goal.returns-clause-items
 returns-clause-items c = in_turn_tried

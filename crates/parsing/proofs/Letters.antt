@@ -7,8 +7,8 @@ use Rattle.description_strftime.specs.Joined.{EndsInLiteral, BeginsWithLiteral, 
 use Rattle.description_strftime.proofs.Parts.{joined_append}
 use Rattle.description_strftime.proofs.Joins.{ends_or_closed, begins_or_stops, prefix_longer, prefix_joins}
 use Rattle.parsing_components.specs.Component.{reads_component}
-use Rattle.parsing_laws.specs.Joined.{by_items, IsReadInTurn}
-use Rattle.parsing_laws.proofs.ItemLemmas.{spelled_apart, spelled_as_one}
+use Rattle.parsing.specs.Joined.{by_items, IsReadInTurn}
+use Rattle.parsing.proofs.ItemLemmas.{spelled_apart, spelled_as_one}
 
 -- what is known of the items of two texts
 abbrev pub AllJoin : Type 0

@@ -12,9 +12,9 @@ use Rattle.parsing_parsable.specs.Staged.{reads_rfc3339, reads_iso8601}
 use Rattle.parsing_parsable.specs.TwoRoads.{AgreeOn, HoldsAtMostAnOffset}
 use Rattle.parsing_parsable.proofs.Assumed.{assumed, as_staged}
 use Rattle.parsing_parsable.proofs.Iso8601Road.{from_unread}
-use Rattle.parsing_laws.specs.TwoFormats.{IsReadAlike, rounded}
-use Rattle.parsing_laws.proofs.Moments.{placed, accepted, not_accepted}
-use Rattle.parsing_laws.proofs.RfcPieces.{text_pieces}
+use Rattle.parsing.specs.TwoFormats.{IsReadAlike, rounded}
+use Rattle.parsing.proofs.Moments.{placed, accepted, not_accepted}
+use Rattle.parsing.proofs.RfcPieces.{text_pieces}
 
 pub same_moment : (x y : Result Shown Fault) (m : Shown) → result_ok x ≡ result_ok y → y ≡ Ok m → x ≡ Ok m
 same_moment (Ok x) y m alike e = let is : Some x ≡ Some m = alike ∙ ap result_ok e in ap (λ (v : Shown). Ok v) (same x m is)

@@ -6,9 +6,9 @@ ghost use Rattle.parsing_record.specs.Whole.{by_roads};
 ghost use Rattle.parsing_rfc3339.specs.Direct as rfc3339;
 ghost use Rattle.parsing_parsable.specs.Staged.{reads_rfc3339};
 ghost use Rattle.parsing_parsable.specs.TwoRoads.{HoldsAtMostAnOffset};
-ghost use Rattle.parsing_laws.specs.TwoFormats.{IsReadAlike};
+ghost use Rattle.parsing.specs.TwoFormats.{IsReadAlike};
 
-pub use parsing_parsable::laws::{one_road_of_iso8601, two_roads_of_rfc2822, two_roads_of_rfc3339};
+use parsing_parsable::laws::{one_road_of_iso8601, two_roads_of_rfc3339};
 
 /// Where RFC 3339 names a moment for a text, ISO 8601 names one exactly if a `T` stands between date and time, a `Z` is
 /// no small letter, and the fraction does not round up to a whole second. It is the same moment, or the next nanosecond

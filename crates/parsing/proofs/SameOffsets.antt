@@ -19,9 +19,9 @@ use Rattle.parsing_iso8601.specs.declared.written.WrittenOffset.{WrittenOffset}
 use Rattle.parsing_iso8601.specs.Offsets as iso
 use Rattle.parsing_iso8601_shapes.proofs.EndLemmas.{colon_there}
 use Rattle.parsing_iso8601_shapes.proofs.FastOffsets.{seconds_of, signed_there, minute_there}
-use Rattle.parsing_laws.specs.TwoFormats.{last_byte}
-use Rattle.parsing_laws.proofs.Inversion.{due_piece, due_check, same_end}
-use Rattle.parsing_laws.proofs.Places.{digits_place, byte_place, further, last_of_rest}
+use Rattle.parsing.specs.TwoFormats.{last_byte}
+use Rattle.parsing.proofs.Inversion.{due_piece, due_check, same_end}
+use Rattle.parsing.proofs.Places.{digits_place, byte_place, further, last_of_rest}
 use Rattle.parsing_values.proofs.lemmas.Ranges.{offset_ranges}
 
 -- an offset that both formats read, all that is there

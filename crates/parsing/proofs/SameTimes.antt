@@ -22,10 +22,10 @@ use Rattle.parsing_iso8601.specs.Times.{time_of, subsecond_of, time, designator,
 use Rattle.parsing_iso8601.proofs.Pieces.{same, passed, not_passed, fraction_run}
 use Rattle.parsing_iso8601_shapes.proofs.FastTimes.{time_of_pieces, number_of, before_colon}
 use Rattle.parsing_iso8601.proofs.Rounding.{rounded}
-use Rattle.parsing_laws.specs.TwoFormats.{digits_after, rounds_up}
-use Rattle.parsing_laws.proofs.Inversion.{due_piece, same_end}
-use Rattle.parsing_laws.proofs.Places.{byte_place, further}
-use Rattle.parsing_laws.proofs.RfcPieces.{clock_pieces}
+use Rattle.parsing.specs.TwoFormats.{digits_after, rounds_up}
+use Rattle.parsing.proofs.Inversion.{due_piece, same_end}
+use Rattle.parsing.proofs.Places.{byte_place, further}
+use Rattle.parsing.proofs.RfcPieces.{clock_pieces}
 
 -- another byte than `T` begins no time of day after a date
 pub no_time : (c : ℕ) (cs : List ℕ) → (c == 84) ≡ false → time Extended true (c ∷ cs) ≡ None

@@ -7,7 +7,7 @@ use Rattle.parsing_combinator.specs.Readings.{Reading, then_read}
 use Rattle.parsing_components.specs.declared.fields.Record.{Record}
 use Rattle.parsing_record.specs.Meaning.{Answer, Meaning, Counted, meaning, literally, unchanged, then_counted, all_of}
 use Rattle.parsing_record.specs.Reads.{Language, reads, each_reads, reading, reading_of_all}
-use Rattle.parsing_laws.specs.Joined.{in_turn, IsReadInTurn}
+use Rattle.parsing.specs.Joined.{in_turn, IsReadInTurn}
 
 -- what items read in a language
 abbrev pub items_read : Language → List Tree → Meaning

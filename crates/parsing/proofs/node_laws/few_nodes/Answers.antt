@@ -1,5 +1,5 @@
 use Rattle.description.proofs.Few.{items_few, letters_single}
-use Rattle.parsing_laws.proofs.node_laws.few_nodes.Goals as goal
+use Rattle.parsing.proofs.node_laws.few_nodes.Goals as goal
 
 pub returns-clause-items : goal.returns-clause-items
 returns-clause-items c = items_few

@@ -17,9 +17,9 @@ use Rattle.parsing_components.specs.declared.fields.Record.{Record}
 use Rattle.parsing_record.specs.Meaning.{Answer, Meaning}
 use Rattle.parsing_record.specs.Reads.{reads, each_reads, reading}
 use Rattle.parsing_record.specs.Whole.{whole, names, starting, all_read as all_ended, moment_named}
-use Rattle.parsing_laws.specs.Joined.{by_items, by_tree}
-use Rattle.parsing_laws.specs.TwoVersions.{IgnoresNothing, IsReadByBoth}
-use Rattle.parsing_laws.proofs.ItemLemmas.{items_read, first_in_turn, same_after}
+use Rattle.parsing.specs.Joined.{by_items, by_tree}
+use Rattle.parsing.specs.TwoVersions.{IgnoresNothing, IsReadByBoth}
+use Rattle.parsing.proofs.ItemLemmas.{items_read, first_in_turn, same_after}
 
 component_alike : (c : Component) → ((m : Ignore) → ¬ (c ≡ component.Ignore m)) → (bytes : List ℕ) → reads_component_v3 c bytes ≡ reads_component c bytes
 unfolding reads_component_v3

@@ -6,8 +6,8 @@ ghost use Rattle.description_grammar.specs.Spelling.{Spells, SpellsTree};
 ghost use Rattle.description_strftime.specs.Spelled.{SpellsStrftime};
 ghost use Rattle.description_lexer.specs.declared.version.DescriptionVersion.{DescriptionVersion};
 ghost use Rattle.description_lexer.specs.declared.version.DescriptionVersion.TheVariants.{Three};
-ghost use Rattle.parsing_laws.specs.Joined.{IsReadInTurn, by_items, by_tree};
-ghost use Rattle.parsing_laws.specs.TwoVersions.{IgnoresNothing, IsReadByBoth};
+ghost use Rattle.parsing.specs.Joined.{IsReadInTurn, by_items, by_tree};
+ghost use Rattle.parsing.specs.TwoVersions.{IgnoresNothing, IsReadByBoth};
 
 /// Of two texts that a language accepts, it accepts the one followed by the other. Reading by that is reading by the
 /// first and then, from the record and the rest that this leaves, by the second; a fault of either is its fault. A

@@ -8,7 +8,7 @@ use Rattle.parsing_iso8601.specs.declared.kind.Kind.TheVariants.{Extended}
 use Rattle.parsing_iso8601.specs.declared.written.WrittenDate.TheVariants.{OfMonth}
 use Rattle.parsing_iso8601.specs.Reading.{dated}
 use Rattle.parsing_iso8601_shapes.proofs.FastDates.{date_of_pieces}
-use Rattle.parsing_laws.proofs.RfcPieces.{date_pieces}
+use Rattle.parsing.proofs.RfcPieces.{date_pieces}
 
 -- the date that RFC 3339 reads is read by ISO 8601 too, and is of the extended kind
 pub read_date : (bytes : List ℕ) (d : ℕ × ℕ × ℕ) (rest : List ℕ) (is : Month) → date false bytes ≡ Ok (d, rest) → month_number is ≡ d.1 → 1 ≤ d.2 → d.2 ≤ 31

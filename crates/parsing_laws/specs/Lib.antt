@@ -1,3 +1,0 @@
-pub mod TwoFormats
-pub mod Joined
-pub mod TwoVersions
