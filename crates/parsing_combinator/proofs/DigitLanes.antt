@@ -27,10 +27,7 @@ half_next x y z b lt =
 
 even : (k n : ℕ) → count_trailing_zeros (suc k) (n * 2) ≡ suc (count_trailing_zeros k n)
 unfolding count_trailing_zeros
-even k n =
-    let rest : n * 2 % 2 ≡ 0 = omega arith in
-    let next : n * 2 / 2 ≡ n = omega arith in
-    rw (rest, next) refl
+even k n = grind (arith, nat_tests)
 
 two_more : (n : ℕ) → 2 ^ suc n ≡ 2 ^ n * 2
 two_more n = ap (λ (m : ℕ). 2 ^ m) (let e : suc n ≡ n + 1 = omega arith in e) ∙ pow-add 2 n 1

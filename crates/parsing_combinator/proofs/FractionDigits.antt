@@ -1,8 +1,8 @@
 -- The digits of a fraction past the ninth have no effect.
-use Rattle.std.proofs.Common.{◌≡◌, ℕ, suc, Bool, true, false, cond, ◌+◌, ◌-◌, ◌*◌, ◌/◌, ◌^◌, ◌<◌, ◌≤◌, List, [], ◌∷◌, ◌++◌, length, replicate, eqb, take, drop, refl, sym, ap, ◌∙◌, arith, lit<, inl, inr, leb, Some, None, unwrap_or}
+use Rattle.std.proofs.Common.{◌≡◌, ℕ, suc, Bool, true, false, cond, ◌+◌, ◌-◌, ◌*◌, ◌/◌, ◌^◌, ◌<◌, ◌≤◌, List, [], ◌∷◌, ◌++◌, length, replicate, take, drop, refl, sym, ap, ◌∙◌, arith, lit<, inl, inr, Some, None, unwrap_or}
 use Rattle.std.specs.Char.{is_ascii_digit}
 use Rattle.std.specs.Str.Parse.{digits_value, AllDigits}
-use Rattle.std.proofs.lemmas.Bool.{cases_lt, le-leb, leb-true}
+use Rattle.std.proofs.lemmas.Bool.{cases_lt}
 use Rattle.std.proofs.lemmas.Bool.Decides.{nat_tests}
 use Rattle.std.proofs.lemmas.List.{take-append-drop, take_all, length-drop}
 use Rattle.std.proofs.lemmas.List.{drop-replicate, append-nil, length-append, length-replicate}
@@ -61,23 +61,15 @@ cut_of false x y e = absurd (cc)
 
 pub digits_read : (n : ℕ) (bytes : List ℕ) (v : ℕ) (rest : List ℕ) → digits n bytes ≡ Some (v, rest) → Read n bytes v rest
 unfolding digits
-digits_read n bytes v rest h =
-    let cut = cut_of (leb n (digit_count bytes)) _ (v, rest) h in
-    record { enough = leb-true _ _ cut.0; value = ap (λ (x : ℕ × List ℕ). x.0) cut.1; after = ap (λ (x : ℕ × List ℕ). x.1) cut.1 }
+digits_read n bytes v rest h = grind (arith, nat_tests)
 
 pub none_there : (bytes : List ℕ) → digits 1 bytes ≡ None → digit_count bytes ≡ 0
 unfolding digits
-none_there bytes h =
-    elim (cases_lt (digit_count bytes) 1) [
-      | inl lt ↦ omega arith
-      | inr le ↦ absurd (let f = rw (le-leb 1 (digit_count bytes) le) at h in cc)
-    ]
+none_there bytes h = grind (arith, nat_tests)
 
 -- digits, and zeros after them
 pub padded_count : (run : List ℕ) (m : ℕ) → digit_count run ≡ length run → digit_count (run ++ replicate m 48) ≡ length run + m
-padded_count run m all =
-    let same : eqb (digit_count run) (length run) ≡ true = grind (arith, nat_tests) in
-    prefix_len-append is_ascii_digit run (replicate m 48) ∙ rw (same, prefix_len-replicate is_ascii_digit m 48 refl) refl
+padded_count run m all = grind (arith, nat_tests, prefix_len-append, prefix_len-replicate)
 
 pub padded_value : (run : List ℕ) (m : ℕ) → length run + m ≡ 9 → digits_value 10 (run ++ replicate m 48) ≡ nanoseconds_of run
 padded_value run m nine =
@@ -100,6 +92,4 @@ nine_value run used all short long =
 -- the digits that are all that are there are a fraction
 pub fraction_there : (bytes : List ℕ) (count : ℕ) → 0 < count → digit_count bytes ≡ count → fraction bytes ≡ Some (nanoseconds_of (take count bytes), drop count bytes)
 unfolding fraction digit_run
-fraction_there bytes count some is =
-    let nonzero : eqb count 0 ≡ false = grind (arith, nat_tests) in
-    rw (is, nonzero) refl
+fraction_there bytes count some is = grind (arith, nat_tests)

@@ -1,6 +1,6 @@
 -- The longest prefix, by what it is and by what the shape's parts say.
 use Rattle.std.proofs.Common.{◌≡◌, ℕ, zero, suc, min, ◌+◌, ◌<◌, ◌≤◌, ◌&&◌, Bool, true, false, cond, List, [], ◌∷◌, length, take, drop, Option, Some, None, refl, sym, ap, ◌∙◌, arith, inl, inr, lit<, ◌^◌}
-use Rattle.std.specs.Prelude.{option_map, nat_le, nat_eq, IfSome}
+use Rattle.std.specs.Prelude.{option_map, nat_le, IfSome}
 use Rattle.std.specs.List.{list_all}
 use Rattle.std.specs.Char.{is_ascii_digit}
 use Rattle.std.specs.Str.Parse.{digits_value}
@@ -117,22 +117,10 @@ taken_digits value n m bytes le =
 -- exactly n digits
 pub taken_exactly : (n : ℕ) (bytes : List ℕ) → taken (digits_between n n) bytes ≡ digits n bytes
 unfolding digits
-taken_exactly n bytes =
-    taken_digits (digits_value 10) n n bytes (omega arith)
-    ∙ elim (cases_lt (digit_count bytes) n) [
-      | inl few ↦ rw (lt-leb n (digit_count bytes) few) refl
-      | inr enough ↦ let e : min (digit_count bytes) n ≡ n = omega arith in rw e refl
-    ]
+taken_exactly n bytes = grind (arith, nat_tests, taken_digits)
 
 one_or_two : (c : ℕ) (bytes : List ℕ) → cond (nat_le 1 c) (Some (run_of (digits_value 10) (min c 2) bytes)) None ≡ or_before (cond (nat_le 2 c) (Some (run_of (digits_value 10) 2 bytes)) None) (cond (nat_le 1 c) (Some (run_of (digits_value 10) 1 bytes)) None)
-one_or_two c bytes =
-    elim (cases_lt c 1) [
-      | inl none ↦ rw (lt-leb 1 c none, lt-leb 2 c (omega arith)) refl
-      | inr some ↦ elim (cases_lt c 2) [
-        | inl one ↦ let e : min c 2 ≡ 1 = omega arith in rw (le-leb 1 c some, lt-leb 2 c one, e) refl
-        | inr two ↦ let e : min c 2 ≡ 2 = omega arith in rw (le-leb 1 c some, le-leb 2 c two, e) refl
-      ]
-    ]
+one_or_two c bytes = grind (arith, nat_tests)
 
 -- two digits where there are two, or else one
 pub taken_one_or_two : (bytes : List ℕ) → taken (digits_between 1 2) bytes ≡ or_before (digits 2 bytes) (digits 1 bytes)
@@ -148,9 +136,7 @@ taken_bound x k count m lt e = below_power x k m lt (omega arith)
 -- the fraction that digits alone write
 pub whole_fraction : (text : List ℕ) → digit_count text ≡ length text → 0 < length text → fraction text ≡ Some (nanoseconds_of text, [])
 unfolding fraction digit_run
-whole_fraction text all some =
-    let e : nat_eq (length text) 0 ≡ false = grind (arith, nat_tests) in
-    rw (all, e, take-length text, drop_all (length text) text (omega arith)) refl
+whole_fraction text all some = grind (arith, nat_tests, take-length, drop_all)
 
 -- a number below a power of ten is below a greater one
 pub bound_up : {R : Type 0} → (o : Option (ℕ × R)) (k m : ℕ) → k ≤ m → IfSome o (λ x. x.0 < 10 ^ k) → IfSome o (λ x. x.0 < 10 ^ m)

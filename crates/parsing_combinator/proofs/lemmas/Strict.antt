@@ -1,5 +1,5 @@
 -- A strict reading against one that is not: the same where all numbers are in range.
-use Rattle.std.proofs.Common.{◌≡◌, ℕ, Bool, true, false, List, Option, Some, None, Result, Ok, Err, refl, sym, subst, ◌∙◌, arith}
+use Rattle.std.proofs.Common.{◌≡◌, ℕ, Bool, true, false, List, Option, Some, None, Result, Ok, Err, refl, arith}
 use Rattle.std.specs.Borrow.{Bor}
 use Rattle.std.specs.Prelude.{◌↔◌, IfOk}
 use Rattle.std.specs.Int.{IsInRange}
@@ -47,9 +47,7 @@ then_misses Q (Err e) f h = record { holds = tt }
 
 -- a part that is read in both ways
 pub then_narrows : {A B : Type 0} (P : A → Type 0) (Q : B → Type 0) (strict other : Result (A × List ℕ) Fault) (f g : A → Reading B) → Narrows P strict other → ((x : A) (bytes : List ℕ) → P x → Narrows Q (f x bytes) (g x bytes)) → ((x : A) (bytes : List ℕ) → ¬ P x → Misses Q (g x bytes)) → Narrows Q (then_read strict f) (then_read other g)
-then_narrows P Q (Ok x) other f g n h k = rw n.holds.0 (h x.0 x.1 n.holds.1)
-then_narrows P Q (Err e) (Ok y) f g n h k = missed Q e (g y.0 y.1) (k y.0 y.1 n.holds)
-then_narrows P Q (Err e) (Err d) f g n h k = record { holds = tt }
+then_narrows P Q strict other f g n h k = grind (arith, nat_tests)
 
 -- a part that does not ask which way it is
 pub same_then : {A B : Type 0} (P : A → Type 0) (Q : B → Type 0) (r : Result (A × List ℕ) Fault) (f g : A → Reading B) → Says P r → ((x : A) (bytes : List ℕ) → P x → Narrows Q (f x bytes) (g x bytes)) → Narrows Q (then_read r f) (then_read r g)
@@ -88,11 +86,7 @@ required_says false e bytes = record { holds = tt }
 -- ---- the whole
 
 pub narrows_iff : {A : Type 0} (P : A → Type 0) (strict other : Result (A × List ℕ) Fault) → Narrows P strict other → (w : A) (rest : List ℕ) → (strict ≡ Ok (w, rest)) ↔ ((other ≡ Ok (w, rest)) × P w)
-narrows_iff {A = A} P (Ok x) other n w rest =
-    (λ e. let same : x ≡ (w, rest) = cc in (n.holds.0 ∙ e, subst (λ (p : A × List ℕ). P p.0) same n.holds.1), λ p. let e : Ok x ≡ Ok (w, rest) = sym n.holds.0 ∙ p.0 in e)
-narrows_iff {A = A} P (Err e) (Ok y) n w rest =
-    (λ d. absurd cc, λ p. let same : (w, rest) ≡ y = cc in absurd (n.holds (subst (λ (q : A × List ℕ). P q.0) same p.1)))
-narrows_iff P (Err e) (Err f) n w rest = (λ d. absurd cc, λ p. absurd (let no : Err f ≡ Ok (w, rest) = p.0 in cc))
+narrows_iff P strict other n w rest = grind (arith, nat_tests)
 
 -- what a function returns that gives the strict reading
 pub strict_passes : {A X : Type 0} (P : A → Type 0) (view : X → A) (result : Result (X × Bor (List ℕ)) ParseFromDescription) (strict other : Result (A × List ℕ) Fault) → Gives (λ x. (view x.0, x.1.now)) reading_fault result strict → Narrows P strict other → IfOk result (λ x. P (view x.0))
