@@ -33,8 +33,7 @@ greatest_same f g zero same = same 0 (omega arith)
 greatest_same f g (suc n) same = rw (same (suc n) (omega arith), greatest_same f g n (λ j a. same j (omega arith))) refl
 
 before_none : {A : Type 0} → (x : Option A) → or_before x None ≡ x
-before_none (Some x) = refl
-before_none None = refl
+before_none x = grind (arith, nat_tests)
 
 -- where nothing is found at any other number
 pub greatest_at : {A : Type 0} → (f : ℕ → Option A) (n k : ℕ) → k ≤ n → ((j : ℕ) → j ≤ n → ¬ (j ≡ k) → f j ≡ None) → greatest f n ≡ f k
@@ -51,8 +50,7 @@ greatest_up f zero none = rw none (before_none (f 1))
 greatest_up f (suc n) none = ap (or_before (f (suc (suc n)))) (greatest_up f n none)
 
 map_before : {A B : Type 0} → (h : A → B) (x y : Option A) → or_before (option_map h x) (option_map h y) ≡ option_map h (or_before x y)
-map_before h (Some x) y = refl
-map_before h None y = refl
+map_before h x y = grind (arith, nat_tests)
 
 -- what is found passes through a function
 pub greatest_map : {A B : Type 0} → (h : A → B) (f : ℕ → Option A) (n : ℕ) → greatest (λ k. option_map h (f k)) n ≡ option_map h (greatest f n)
@@ -80,8 +78,7 @@ taken_after shape other c cs none same =
 -- ---- a run of digits
 
 one_more : (b x : Bool) (j n : ℕ) → x ≡ nat_le j n → (b && x) ≡ nat_le (suc j) (cond b (1 + n) 0)
-one_more true x j n e = grind (arith, nat_tests)
-one_more false x j n e = grind (arith, nat_tests)
+one_more b x j n e = grind (arith, nat_tests)
 
 pub digits_at : (bytes : List ℕ) (j : ℕ) → j ≤ length bytes → list_all is_ascii_digit (take j bytes) ≡ nat_le j (digit_count bytes)
 digits_at bytes zero le = grind (arith, nat_tests)
@@ -93,8 +90,7 @@ shape_at n m bytes j le = rw (length-take-le j bytes le, digits_at bytes j le) r
 
 said : {A : Type 0} → (b : Bool) (value : List ℕ → A) (n m : ℕ) (bytes : List ℕ) (j : ℕ) → are_digits n m (take j bytes) ≡ b → prefix (digits_as value n m) bytes j ≡ cond b (Some (value (take j bytes), drop j bytes)) None
 unfolding digits_as
-said true value n m bytes j e = rw e refl
-said false value n m bytes j e = rw e refl
+said b value n m bytes j e = grind (arith, nat_tests)
 
 -- as many digits as are there, up to m
 abbrev pub run_of : {A : Type 0} → (List ℕ → A) → ℕ → List ℕ → A × List ℕ

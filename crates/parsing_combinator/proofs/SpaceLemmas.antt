@@ -38,8 +38,7 @@ space_at n m c text e = grind (arith, nat_tests)
 
 bare_at : (n m c : ℕ) (cs : List ℕ) (j : ℕ) → is_space c ≡ false → spaced_between (suc n) m (take j (c ∷ cs)) ≡ digits_between (suc n) m (take j (c ∷ cs))
 unfolding spaced_between
-bare_at n m c cs zero e = no_spaces n m []
-bare_at n m c cs (suc j) e = rw e (no_spaces n m (c ∷ take j cs))
+bare_at n m c cs j e = grind (arith, nat_tests)
 
 taken_no_spaces : (n m : ℕ) (bytes : List ℕ) → taken_after_spaces 0 (suc n) m bytes ≡ taken (digits_between (suc n) m) bytes
 taken_no_spaces n m bytes = past_none (λ n m. taken (digits_between n m) bytes) n m
@@ -49,8 +48,7 @@ step b n m c cs e le more = grind (arith, nat_tests, taken_after, empty_at, spac
 
 empty_same : (n m j : ℕ) → spaced_between (suc n) m (take j []) ≡ digits_between (suc n) m (take j [])
 unfolding spaced_between
-empty_same n m zero = no_spaces n m []
-empty_same n m (suc j) = no_spaces n m []
+empty_same n m j = grind (arith, nat_tests)
 
 none_taken : (s m : ℕ) (bytes : List ℕ) → taken_after_spaces s 0 m bytes ≡ None
 none_taken s m bytes = let e : nat_lt s 0 ≡ false = grind (arith, nat_tests) in rw e refl
