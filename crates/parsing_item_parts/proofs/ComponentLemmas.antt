@@ -1,6 +1,6 @@
 -- Each component reads what its parts say.
-use Rattle.std.proofs.Common.{◌≡◌, ◌∙◌, ◌≤◌, ◌<◌, ℕ, Bool, true, false, List, [], ◌∷◌, ◌++◌, map, Option, Some, None, Ok, pos, refl, sym, ap, arith}
-use Rattle.std.specs.Prelude.{◌==◌, ◌&&◌, bytes_eq, option_map, nat_le}
+use Rattle.std.proofs.Common.{◌≡◌, ◌∙◌, ◌≤◌, ◌<◌, ℕ, Bool, true, false, List, [], ◌∷◌, ◌++◌, map, length, take, drop, Option, Some, None, Ok, pos, refl, sym, ap, arith}
+use Rattle.std.specs.Prelude.{◌==◌, ◌&&◌, ◌||◌, bytes_eq, option_map, nat_le}
 use Rattle.std.specs.Char.{is_ascii_digit}
 use Rattle.std.specs.Int.{is_in_range}
 use Rattle.std.specs.Str.Parse.{digits_value}
@@ -12,6 +12,7 @@ use Rattle.calendar_count.specs.Month.{month_number}
 use Rattle.calendar_count.specs.Range.{greatest_year}
 use Rattle.calendar_count.specs.declared.month.Month.{Month}
 use Rattle.calendar_count.specs.declared.weekday.Weekday.{Weekday}
+use Rattle.calendar_count.specs.declared.weekday.Weekday.TheVariants as weekday
 use Rattle.description_modifiers.specs.declared.choices.Padding.{Padding}
 use Rattle.description_modifiers.specs.declared.choices.Padding.TheVariants as padding
 use Rattle.description_modifiers.specs.declared.choices.SubsecondDigits.{SubsecondDigits}
@@ -59,7 +60,9 @@ part_item : (reading : Reading Read) (p : Part)
     → ((line rest : List ℕ) (v : Values) (x : Read) → piece_of p line ≡ Some (value_of p v, rest) → said_by (field_of p) v ≡ Some x → reading line ≡ Ok (x, rest)) → IsItem (putting reading) (p ∷ [])
 part_item reading p h line v rest r new says sets =
     let c = chosen (said_by (field_of p) v) [] v r new sets in
-    grind (arith, nat_tests, chosen, said_by, field_of, piece_of, value_of, put, inside)
+    let there : piece_of p line ≡ Some (value_of p v, rest) = rw says.2 at says.1 in
+    let same : put c.0 r ≡ new = inside (put c.0 r) new c.2 in
+    rw (h line rest v c.0 there c.1, same) refl
 
 -- a component reads what its parts say
 abbrev Reads : Component → Type 0
@@ -68,7 +71,8 @@ Reads c = (ps : List Part) → parts_of c ≡ Some ps → IsItem (putting (reads
 -- ---- numbers of two digits
 
 padded_as : (p : Padding) (f : Field) (v : Values) → (field_of (padded_part p f) ≡ Some f) × (value_of (padded_part p f) v ≡ v f)
-padded_as p f v = grind (arith, nat_tests)
+padded_as padding.Zero f v = (refl, refl)
+padded_as p f v = (refl, refl)
 
 two_item : (c : Component) (fault : Fault) (p : Padding) (f : Field) → parts_of c ≡ Some (padded_part p f ∷ [])
     → ((line : List ℕ) → reads_component c line ≡ piece_or fault (kept (λ n. said f (λ _. n)) (taken (padded p 2 2) line)))
@@ -83,15 +87,22 @@ two_item c fault p f parts is same ps e = rw (← inside _ ps (sym parts ∙ e))
 
 number_said : {A : Type 0} → (number : A → ℕ) (o : Option (A × List ℕ)) (n : ℕ) (rest : List ℕ) → numbered number o ≡ Some (n, rest)
     → (a : A) × (o ≡ Some (a, rest)) × (number a ≡ n)
-number_said number o n rest e = grind (arith, nat_tests, inside)
+number_said number None n rest e = absurd cc
+number_said number (Some x) n rest e =
+    let same = inside (number x.0, x.1) (n, rest) e in
+    (x.0, ap (λ (r : List ℕ). Some (x.0, r)) (ap (λ (z : ℕ × List ℕ). z.1) same), ap (λ (z : ℕ × List ℕ). z.0) same)
 
 name_read : {A : Type 0} → (fault : Fault) (number : A → ℕ) (make : A → Read) (back : ℕ → Option Read)
     → ((a : A) (n : ℕ) → number a ≡ n → back n ≡ Some (make a)) → (o : Option (A × List ℕ)) (n : ℕ) (rest : List ℕ) (x : Read)
     → numbered number o ≡ Some (n, rest) → back n ≡ Some x → piece_or fault (kept (λ a. Some (make a)) o) ≡ Ok (x, rest)
-name_read fault number make back there o n rest x e k = grind (arith, nat_tests, number_said, inside)
+name_read fault number make back there o n rest x e k =
+    let s = number_said number o n rest e in
+    let same : make s.0 ≡ x = inside (make s.0) x (sym (there s.0 n s.2) ∙ k) in
+    rw (s.1, same) refl
 
 weekday_there : (w : Weekday) → counted true from_monday (weekday_number w) ≡ Some w
-weekday_there w = grind (arith, nat_tests)
+weekday_there weekday.Monday = refl
+weekday_there w = refl
 
 abbrev month_said : ℕ → Option Read
 month_said n = option_map read.Month (counted true months n)
@@ -106,7 +117,8 @@ weekday_back : (w : Weekday) (n : ℕ) → weekday_number w ≡ n → weekday_sa
 weekday_back w n e = rw (← e, weekday_there w) refl
 
 half_back : (b : Bool) (n : ℕ) → half_number b ≡ n → Some (read.Afternoon (n == 1)) ≡ Some (read.Afternoon b)
-half_back b n e = grind (arith, nat_tests)
+half_back true n e = rw (← e) refl
+half_back false n e = rw (← e) refl
 
 -- ---- fractions
 
@@ -116,7 +128,9 @@ subsecond_said n = Some (read.Subsecond n)
 exact_item : (reading : Reading Read) (fault : Fault) (n : ℕ)
     → ((line : List ℕ) → reading line ≡ piece_or fault (kept subsecond_said (taken (fraction_between n n) line)))
     → IsItem (putting reading) (part.Fraction n ∷ [])
-exact_item reading fault n is = grind (arith, nat_tests, part_item, reading, taken_fraction, inside)
+exact_item reading fault n is =
+    part_item reading (part.Fraction n)
+    (λ line rest v x s k. is line ∙ rw (taken_fraction n line, s, inside (read.Subsecond (v field.Nanosecond)) x k) refl)
 
 fraction_item : (reading : Reading Read) (fault : Fault) (d : SubsecondDigits)
     → ((line : List ℕ) → reading line ≡ piece_or fault (kept subsecond_said (taken (parsed.fraction_of d) line)))
@@ -129,7 +143,11 @@ fraction_item reading fault d is = exact_item reading fault _ is
 
 pub no_sign : (line : List ℕ) → 0 < digit_count line → sign line ≡ None
 unfolding byte_of
-no_sign line some = grind (arith, nat_tests, prefix_len_passes, is_ascii_digit)
+no_sign [] some = refl
+no_sign (c ∷ cs) some =
+    let digit = prefix_len_passes is_ascii_digit (c ∷ cs) 0 0 some in
+    let same : ((c == 43) || (c == 45)) ≡ false = grind (arith, nat_tests, digit) in
+    rw same refl
 
 small_year : (n : ℕ) → is_in_range 0 9999 n ≡ true → nat_le n greatest_year ≡ true
 small_year n e = grind (arith, nat_tests)
@@ -138,21 +156,31 @@ abbrev any_year : Bool × ℕ → Option Read
 any_year = up_to greatest_year (λ negative y. read.Year y)
 
 year_in : (b : Bool) (n : ℕ) (x : Read) → is_in_range 0 9999 n ≡ b → between 0 9999 (λ y. read.Year (pos y)) n ≡ Some x → any_year (false, n) ≡ Some x
-year_in b n x is e = grind (arith, nat_tests, small_year)
+year_in true n x is e = rw (small_year n is) (rw is at e)
+year_in false n x is e = absurd (let never : None ≡ Some x = rw is at e in cc)
 
 year_read : (fault : Fault) (extended : Bool) (line rest : List ℕ) (n : ℕ) (x : Read) → digits 4 line ≡ Some (n, rest)
     → between 0 9999 (λ y. read.Year (pos y)) n ≡ Some x
     → piece_or fault (kept any_year (taken (year padding.Zero false extended) line)) ≡ Ok (x, rest)
-year_read fault extended line rest n x e k = grind (arith, nat_tests, digits_read, taken_year, no_sign, taken_padded_exactly, year_in, is_in_range)
+year_read fault extended line rest n x e k =
+    let d = digits_read 4 line n rest e in
+    rw
+    (taken_year padding.Zero false extended line, no_sign line (omega (arith, d.enough)), taken_padded_exactly padding.Zero 4 line, e, year_in (is_in_range 0 9999 n) n x refl k) refl
 
 year_item : (reading : Reading Read) (fault : Fault) (extended : Bool) (p : Padding) (mandatory : Bool) (ps : List Part)
     → ((line : List ℕ) → reading line ≡ piece_or fault (kept any_year (taken (year p mandatory extended) line)))
     → parts_in (year_form p mandatory extended (full_year p)) ≡ Some ps → IsItem (putting reading) ps
-year_item reading fault extended p mandatory ps is e = grind (arith, nat_tests, inside, part_item, reading, year_read)
+year_item reading fault extended padding.Zero false ps is e =
+    rw (← inside _ ps e)
+    (part_item reading (part.Digits field.Year 4) (λ line rest v x s k. is line ∙ year_read fault extended line rest (v field.Year) x s k))
+year_item reading fault extended p true ps is e = absurd cc
+year_item reading fault extended p false ps is e = absurd cc
 
 some_digits_there : (b : Bool) (most : ℕ) (line rest : List ℕ) (n : ℕ) → 1 ≤ most → nat_le 1 (digit_count line) ≡ b
     → taken (digits_between 1 most) line ≡ Some (n, rest) → 0 < digit_count line
-some_digits_there b most line rest n le is e = grind (arith, nat_tests, taken_digits, digits_value)
+some_digits_there true most line rest n le is e = grind (arith, nat_tests)
+some_digits_there false most line rest n le is e =
+    absurd (let none = rw is at (taken_digits (digits_value 10) 1 most line le) in let never : None ≡ Some (n, rest) = sym none ∙ e in cc)
 
 abbrev unix_said : Bool × ℕ → Option Read
 unix_said = since_epoch read.Unix 1_000_000_000
@@ -177,15 +205,24 @@ hour_said = up_to 25 (λ negative hour. read.OffsetHour hour negative)
 hour_item : (reading : Reading Read) (fault : Fault) (p : Padding) (mandatory : Bool) (ps : List Part)
     → ((line : List ℕ) → reading line ≡ piece_or fault (kept hour_said (taken (offset_hour p mandatory) line)))
     → parts_in (hour_form p mandatory) ≡ Some ps → IsItem (putting reading) ps
-hour_item reading fault p mandatory ps is e =
-    grind (arith, nat_tests, reading, inside, padded_as, chosen, said_by, field_of, padded_part, piece_of, taken, padded, padded_is, put, taken_offset_hour)
+hour_item reading fault p false ps is e = absurd cc
+hour_item reading fault p true ps is e = rw (← inside _ ps e) (λ line v rest r new says sets.
+    let hour = says.2 in
+    let part_is = padded_as p field.OffsetHour v in
+    let c = chosen (said_by (field_of (padded_part p field.OffsetHour)) v) [] v r new sets in
+    let there : piece_of (padded_part p field.OffsetHour) says.0 ≡ Some (v field.OffsetHour, rest) = rw (hour.2, part_is.0) at hour.1 in
+    let taken_is : taken (padded p 2 2) says.0 ≡ Some (v field.OffsetHour, rest) = sym (padded_is p field.OffsetHour says.0) ∙ there in
+    let says_it : hour_said (v field.Sign == 45, v field.OffsetHour) ≡ Some c.0 = sym (ap (λ (o : Option Field). said_by o v) part_is.0) ∙ c.1 in
+    let same : put c.0 r ≡ new = inside (put c.0 r) new c.2 in
+    rw (is line, taken_offset_hour p true line, says.1, taken_is, says_it, same) refl)
 
 -- ---- components
 
 -- bytes after a sign or without one are no parts
 no_parts : (mandatory : Bool) (signed bare : Stretch) (ps : List Part)
     → parts_in (signed_form mandatory (piece.Bytes signed) (piece.Bytes bare)) ≡ Some ps → ⊥
-no_parts mandatory signed bare ps e = grind (arith, nat_tests)
+no_parts true signed bare ps e = absurd cc
+no_parts false signed bare ps e = absurd cc
 
 component_is : (c : Component) → Reads c
 unfolding period reads_component reads_modern date_piece year_piece time_piece offset_piece
@@ -234,7 +271,8 @@ component_is c ps e = absurd cc
 -- version 3 reads these components alike
 same_v3 : (c : Component) (ps : List Part) (line : List ℕ) → parts_of c ≡ Some ps → reads_component_v3 c line ≡ reads_component c line
 unfolding reads_component_v3
-same_v3 c ps line e = grind (arith, nat_tests)
+same_v3 (component.Ignore m) ps line e = absurd cc
+same_v3 c ps line e = refl
 
 -- ---- literals
 
@@ -250,7 +288,12 @@ text_sets (c ∷ cs) v r = text_sets cs v r
 pub literal_item : (language : Language) (text : List ℕ) → IsItem (reading language (Literal text)) (map part.Byte text)
 unfolding reads literally
 literal_item language text line v rest r new says sets =
-    grind (arith, nat_tests, text_there, take-append_seam, drop-append_seam, bytes_eq, bytes_eq-Decides, inside, text_sets)
+    let e = text_there text line rest v says in
+    let there : take (length text) line ≡ text = ap (take (length text)) e ∙ take-append_seam text rest in
+    let after : drop (length text) line ≡ rest = ap (drop (length text)) e ∙ drop-append_seam text rest in
+    let same : bytes_eq (take (length text) line) text ≡ true = (bytes_eq-Decides (take (length text) line) text).1 there in
+    let kept_record : r ≡ new = inside r new (sym (text_sets text v r) ∙ sets) in
+    rw (same, after, kept_record) refl
 
 -- ---- in each language
 
