@@ -6,7 +6,7 @@ use Rattle.std.proofs.lemmas.Bool.Decides.{nat_tests}
 use Rattle.std.proofs.lemmas.List.{drop-drop, drop_more, get_or-drop, length-drop}
 use Rattle.base.specs.Bytes.{plus, hyphen}
 use Rattle.parsing_combinator.specs.Pieces.{digits, byte, byte_of, sign}
-use Rattle.parsing_combinator.specs.Places.{HasDigit, HasPair, AreFour}
+use Rattle.parsing_combinator.specs.Places.{HasPair, AreFour}
 use Rattle.parsing_combinator.proofs.Fixed.{digits_two, digits_four}
 use Rattle.parsing_combinator.proofs.Prefixes.{byte_at}
 
@@ -30,7 +30,6 @@ two_there text place h =
 product_of : (w x y z t : ℕ) → x ≤ 9 → y ≤ 9 → z ≤ 9 → t ≤ 9 → w ≡ x + y * 256 + z * 65_536 + t * 16_777_216
     → (w * 2561 % 2 ^ 32 / 256 % 256 ≡ x * 10 + y) × (w * 2561 % 2 ^ 32 / 16_777_216 ≡ z * 10 + t)
 product_of w x y z t hx hy hz ht is =
-    let product : w * 2561 % 2 ^ 32 ≡ x + (x * 10 + y) * 256 + (y * 10 + z) * 65_536 + (z * 10 + t) * 16_777_216 = omega arith in
     (omega arith, omega arith)
 
 abbrev pub first_two : ℕ → ℕ
@@ -52,38 +51,14 @@ pub record Pairs (w : ℕ) (text : List ℕ) (place : ℕ) : Type 0 where
   pub first : digits 2 (drop place text) ≡ Some (first_two w, drop (place + 2) text)
   pub second : digits 2 (drop (place + 2) text) ≡ Some (last_two w, drop (place + 4) text)
 
-digits_of : (w a b c d : ℕ) → w + 808_464_432 ≡ a + b * 256 + c * 65_536 + d * 16_777_216 → 48 ≤ a → a ≤ 57 → 48 ≤ b → b ≤ 57 → 48 ≤ c → c ≤ 57 → 48 ≤ d → d ≤ 57
-    → (w % 256 ≡ a - 48) × (w / 256 % 256 ≡ b - 48) × (w / 65_536 % 256 ≡ c - 48) × (w / 16_777_216 ≡ d - 48)
-digits_of w a b c d is la ha lb hb lc hc ld hd = (omega arith, omega arith, omega arith, omega arith)
-
 pub places_two_on : (text : List ℕ) (place : ℕ) → HasPair text (place + 2) → digits 2 (drop (place + 2) text) ≡ Some ((get_or text (place + 2) 0 - 48) * 10 + (get_or text (place + 3) 0 - 48), drop (place + 4) text)
-places_two_on text place h =
-    let second : place + 2 + 1 ≡ place + 3 = omega arith in
-    let after : place + 2 + 2 ≡ place + 4 = omega arith in
-    rw (second, after) at (two_there text (place + 2) h)
-
-last_digit : (text : List ℕ) (place : ℕ) → HasPair text (place + 2) → HasDigit text (place + 3)
-last_digit text place k = let last : place + 2 + 1 ≡ place + 3 = omega arith in rw last at k.second
+places_two_on text place h = grind (arith, nat_tests, two_there)
 
 pub four_bounds : (text : List ℕ) (place : ℕ) → HasPair text place → HasPair text (place + 2) → (808_464_432 ≤ four_bytes text place) × (four_bytes text place < 2 ^ 32)
-four_bounds text place h k =
-    let d = last_digit text place k in
-    (omega (arith, h.first.low, h.second.low, k.first.low, d.low), omega (arith, h.first.high, h.second.high, k.first.high, d.high))
+four_bounds text place h k = grind (arith, nat_tests)
 
 pub pairs_there : (w : ℕ) (text : List ℕ) (place : ℕ) → HasPair text place → HasPair text (place + 2) → w + 808_464_432 ≡ four_bytes text place → Pairs w text place
-pairs_there w text place h k is =
-    let d = last_digit text place k in
-    let e = digits_of w _ _ _ _ is h.first.low h.first.high h.second.low h.second.high k.first.low k.first.high d.low d.high in
-    record {
-      are = record {
-        first = omega (arith, e.0, h.first.high);
-        second = omega (arith, e.1, h.second.high);
-        third = omega (arith, e.2, k.first.high);
-        fourth = omega (arith, e.3, d.high);
-      };
-      first = rw (e.0, e.1) (two_there text place h);
-      second = rw (e.2, e.3) (places_two_on text place k);
-    }
+pairs_there w text place h k is = grind (arith, nat_tests, two_there)
 
 pub four_there : (text : List ℕ) (place high low : ℕ) → digits 2 (drop place text) ≡ Some (high, drop (place + 2) text) → digits 2 (drop (place + 2) text) ≡ Some (low, drop (place + 4) text) → digits 4 (drop place text) ≡ Some (high * 100 + low, drop (place + 4) text)
 four_there text place high low first second =

@@ -1,5 +1,5 @@
 -- The numbers that digits write, and how many digits there are.
-use Rattle.std.proofs.Common.{◌≡◌, ℕ, zero, suc, cond, ◌+◌, ◌-◌, ◌*◌, ◌^◌, ◌<◌, ◌≤◌, Bool, true, false, List, [], ◌∷◌, ◌++◌, length, take, drop, replicate, get_or, inl, inr, refl, ap, ◌∙◌, arith}
+use Rattle.std.proofs.Common.{◌≡◌, ℕ, zero, suc, cond, ◌+◌, ◌-◌, ◌*◌, ◌^◌, ◌<◌, ◌≤◌, Bool, true, List, [], ◌∷◌, ◌++◌, length, take, drop, replicate, get_or, inl, inr, refl, ap, ◌∙◌, arith}
 use Rattle.std.specs.Char.{is_ascii_digit, digit_value}
 use Rattle.std.specs.Str.Parse.{digits_value_after}
 use Rattle.std.proofs.lemmas.Bool.Decides.{nat_tests}
@@ -35,8 +35,7 @@ value_zeros n zero = omega arith
 value_zeros n (suc m) = value_zeros (n * 10 + 0) m ∙ rw (power_next m) (omega arith)
 
 count_step : (b : Bool) (n k m : ℕ) → (n ≤ k → m + n ≡ k) → suc n ≤ cond b (1 + k) 0 → m + suc n ≡ cond b (1 + k) 0
-count_step true n k m more le = omega (arith, more (omega arith))
-count_step false n k m more le = absurd (omega arith)
+count_step b n k m more le = grind (arith, nat_tests)
 
 -- how many digits are left after the first n
 pub count_drop : (n : ℕ) (bytes : List ℕ) → n ≤ digit_count bytes → digit_count (drop n bytes) + n ≡ digit_count bytes

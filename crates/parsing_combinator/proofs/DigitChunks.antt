@@ -1,5 +1,5 @@
 -- Eight digits read at once.
-use Rattle.std.proofs.Common.{◌≡◌, ℕ, zero, suc, ◌+◌, ◌*◌, ◌/◌, ◌%◌, ◌^◌, ◌<◌, ◌≤◌, ◌∙◌, List, [], ◌∷◌, length, get_or, take, drop, replicate, Some, refl, ap, arith, lit<}
+use Rattle.std.proofs.Common.{◌≡◌, ℕ, suc, ◌+◌, ◌*◌, ◌/◌, ◌%◌, ◌^◌, ◌<◌, ◌≤◌, ◌∙◌, List, [], ◌∷◌, length, get_or, take, drop, replicate, Some, refl, ap, arith, lit<}
 use Rattle.std.specs.Int.Bits.{bit_and}
 use Rattle.std.proofs.lemmas.List.{get_or-take, length-take-le}
 use Rattle.parsing_combinator.specs.Pieces.{digits}
@@ -8,6 +8,7 @@ use Rattle.parsing_combinator.specs.Places.{HasDigit, HasPair, AreFour}
 use Rattle.parsing_combinator.proofs.AtPlaces.{four_bytes, four_bounds, pairs_there, four_there, first_two, last_two}
 use Rattle.parsing_combinator.proofs.Fixed.{digits_eight, joined}
 use Rattle.parsing_combinator.proofs.Lanes.{AreBytes, are_bytes, take_fit, split, half_lane, digit_lane, chunk_eight}
+use Rattle.std.proofs.lemmas.Bool.Decides.{nat_tests}
 
 abbrev IsDigit : ℕ → Type 0
 IsDigit b = (48 ≤ b) × (b ≤ 57)
@@ -21,8 +22,7 @@ halves_below (b ∷ bs) are here =
     omega (arith, halves_below bs are.1 s.high, half_lane b are.0 s.low)
 
 digit_at : (b : ℕ) (bs : List ℕ) (k : ℕ) → IsDigit b → ((j : ℕ) → j < length bs → IsDigit (get_or bs j 0)) → k < suc (length bs) → IsDigit (get_or (b ∷ bs) k 0)
-digit_at b bs zero first rest lt = first
-digit_at b bs (suc k) first rest lt = rest k (omega arith)
+digit_at b bs k first rest lt = grind (arith, nat_tests)
 
 -- a test of all bytes, and of those six above them: each is a digit
 all_digits : (bs : List ℕ) → AreBytes bs → bit_and (chunk bs) (chunk (replicate (length bs) 240)) ≡ chunk (replicate (length bs) 48)

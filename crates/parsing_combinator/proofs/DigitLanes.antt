@@ -27,19 +27,13 @@ half_next x y z b lt =
 
 even : (k n : ℕ) → count_trailing_zeros (suc k) (n * 2) ≡ suc (count_trailing_zeros k n)
 unfolding count_trailing_zeros
-even k n =
-    let rest : n * 2 % 2 ≡ 0 = omega arith in
-    let next : n * 2 / 2 ≡ n = omega arith in
-    rw (rest, next) refl
+even k n = grind (arith, nat_tests)
 
 two_more : (n : ℕ) → 2 ^ suc n ≡ 2 ^ n * 2
 two_more n = ap (λ (m : ℕ). 2 ^ m) (let e : suc n ≡ n + 1 = omega arith in e) ∙ pow-add 2 n 1
 
 zeros_more : (j k n c : ℕ) → n ≡ j + k → count_trailing_zeros n (c * 2 ^ j) ≡ j + count_trailing_zeros k c
-zeros_more zero k n c is =
-    let same : n ≡ k = omega arith in
-    let whole : c * 2 ^ 0 ≡ c = omega arith in
-    rw (same, whole) (omega arith)
+zeros_more zero k n c is = grind (arith, nat_tests)
 zeros_more (suc j) k n c is =
     let more : n ≡ suc (j + k) = omega arith in
     let twice : c * 2 ^ suc j ≡ c * 2 ^ j * 2 = rw (two_more j) (omega arith) in
@@ -108,8 +102,7 @@ all_halves (b ∷ bs) are halves =
     and_block 8 (chunk bs) (chunk (replicate (length bs) 240)) b 240 are.0 (lit< tt) ∙ rw (all_halves bs are.1 (λ k lt. halves (suc k) (omega (arith, lt))), halves 0 (omega arith)) refl
 
 no_digit : (q p : Bool) (v : ℕ) (rest : List ℕ) → p ≡ false → some_if (q && p) v rest ≡ None
-no_digit true p v rest e = rw e refl
-no_digit false p v rest e = refl
+no_digit q p v rest e = grind (arith, nat_tests)
 
 -- what the count says of the bytes
 pub record Counted (bytes : List ℕ) (count : ℕ) : Type 0 where

@@ -2,6 +2,7 @@
 use Rattle.std.proofs.Common.{◌≡◌, ◌+◌, ◌-◌, ◌%◌, ◌^◌, ◌<◌, ◌≤◌, ◌∙◌, ℕ, sym, ap, arith}
 use Rattle.std.specs.Int.Bits.{bit_and, bit_or}
 use Rattle.std.proofs.lemmas.Nat.{and_comm, and_assoc, and_or_apart, and_or_self, and_le_r, or_comm, or_disjoint, or_lt}
+use Rattle.std.proofs.lemmas.Bool.Decides.{nat_tests}
 
 nothing : (a : ℕ) → bit_and a 0 ≡ 0
 nothing a = omega (arith, and_le_r a 0)
@@ -44,11 +45,4 @@ fitting chunk mask pattern added hc hp covers none =
     let y : ℕ = (x + added) % 2 ^ 64 in
     let one = apart pattern mask x hp (omega arith) covers (first_none x y mask none) in
     let other = apart pattern mask y hp (omega arith) covers (second_none x y mask none) in
-    let is : pattern + x ≡ chunk = omega (arith, one.below) in
-    let sum : pattern + y ≡ (chunk + added) % 2 ^ 64 = omega (arith, is, other.below) in
-    record {
-      low = omega (arith, is);
-      above = omega (arith, is);
-      here = rw is at one.under;
-      more = rw sum at other.under;
-    }
+    grind (arith, nat_tests)

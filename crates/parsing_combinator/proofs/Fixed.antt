@@ -1,14 +1,13 @@
 -- Digits of a fixed number, and numbers whose digits are read in two parts.
-use Rattle.std.proofs.Common.{◌≡◌, ℕ, suc, cond, ◌&&◌, ◌+◌, ◌-◌, ◌*◌, ◌^◌, ◌≤◌, Bool, true, false, List, [], ◌∷◌, length, get_or, take, drop, Option, Some, None, leb, refl, ap, ◌∙◌, arith, inl, inr}
+use Rattle.std.proofs.Common.{◌≡◌, ℕ, ◌&&◌, ◌+◌, ◌-◌, ◌*◌, ◌^◌, ◌≤◌, Bool, true, false, List, length, get_or, take, drop, Option, Some, None, leb, refl, ◌∙◌, arith}
 use Rattle.std.specs.Prelude.{option_map}
-use Rattle.std.specs.Char.{is_ascii_digit, digit_value}
+use Rattle.std.specs.Char.{is_ascii_digit}
 use Rattle.std.specs.Str.Parse.{digits_value}
 use Rattle.std.proofs.lemmas.Bool.Decides.{nat_tests}
-use Rattle.std.proofs.lemmas.Bool.{cases_lt}
 use Rattle.std.proofs.lemmas.List.{take_rest, drop-drop, length-take-le}
 use Rattle.std.proofs.lemmas.List.Sums.{prefix_len-le-length}
 use Rattle.std.proofs.Math.Seq.{take-add}
-use Rattle.parsing_combinator.proofs.Decimal.{digit_here, value_after, value_append, count_drop}
+use Rattle.parsing_combinator.proofs.Decimal.{value_after, value_append, count_drop}
 use Rattle.parsing_combinator.specs.Pieces.{digits, digit_count, Piece}
 
 -- a number with the rest, where a test passes
@@ -16,41 +15,15 @@ abbrev pub some_if : Bool → ℕ → List ℕ → Option (ℕ × List ℕ)
 some_if true v rest = Some (v, rest)
 some_if false v rest = None
 
-one : (p : Bool) (a n : ℕ) (rest : List ℕ) → is_ascii_digit a ≡ p → cond {A = Option (ℕ × List ℕ)} (leb 1 (cond p (1 + n) 0)) (Some (0 * 10 + digit_value a, rest)) None ≡ some_if p (a - 48) rest
-one true a n rest h =
-    let enough : leb 1 (1 + n) ≡ true = grind (arith, nat_tests) in
-    let value : 0 * 10 + digit_value a ≡ a - 48 = omega (arith, (digit_here a h).2) in
-    rw (enough, value) refl
-one false a n rest h = refl
-
-two : (p q : Bool) (a b n : ℕ) (rest : List ℕ) → is_ascii_digit a ≡ p → is_ascii_digit b ≡ q → cond {A = Option (ℕ × List ℕ)} (leb 2 (cond p (1 + cond q (1 + n) 0) 0)) (Some ((0 * 10 + digit_value a) * 10 + digit_value b, rest)) None ≡ some_if (p && q) ((a - 48) * 10 + (b - 48)) rest
-two true true a b n rest h k =
-    let enough : leb 2 (1 + (1 + n)) ≡ true = grind (arith, nat_tests) in
-    let value : (0 * 10 + digit_value a) * 10 + digit_value b ≡ (a - 48) * 10 + (b - 48) = omega (arith, (digit_here a h).2, (digit_here b k).2) in
-    rw (enough, value) refl
-two true false a b n rest h k = refl
-two false q a b n rest h k = refl
-
-two_of_one : (p : Bool) (v : ℕ) (rest : List ℕ) → cond {A = Option (ℕ × List ℕ)} (leb 2 (cond p (1 + 0) 0)) (Some (v, rest)) None ≡ None
-two_of_one true v rest = refl
-two_of_one false v rest = refl
-
 -- one digit, by its place
 pub digits_one : (bytes : List ℕ) → digits 1 bytes ≡ some_if (leb 1 (length bytes) && is_ascii_digit (get_or bytes 0 0)) (get_or bytes 0 0 - 48) (drop 1 bytes)
 unfolding digits
-digits_one [] = refl
-digits_one (a ∷ rest) =
-    let more : leb 1 (suc (length rest)) ≡ true = grind (arith, nat_tests) in
-    rw more (one (is_ascii_digit a) a (digit_count rest) rest refl)
+digits_one bytes = grind (arith, nat_tests)
 
 -- two digits, by their places
 pub digits_two : (bytes : List ℕ) → digits 2 bytes ≡ some_if (leb 2 (length bytes) && (is_ascii_digit (get_or bytes 0 0) && is_ascii_digit (get_or bytes 1 0))) ((get_or bytes 0 0 - 48) * 10 + (get_or bytes 1 0 - 48)) (drop 2 bytes)
 unfolding digits
-digits_two [] = refl
-digits_two (a ∷ []) = two_of_one (is_ascii_digit a) _ _
-digits_two (a ∷ b ∷ rest) =
-    let more : leb 2 (suc (suc (length rest))) ≡ true = grind (arith, nat_tests) in
-    rw more (two (is_ascii_digit a) (is_ascii_digit b) a b (digit_count rest) rest refl refl)
+digits_two bytes = grind (arith, nat_tests)
 
 -- one digit that is there
 pub digits_one_there : (bytes : List ℕ) → 1 ≤ length bytes → is_ascii_digit (get_or bytes 0 0) ≡ true → digits 1 bytes ≡ Some (get_or bytes 0 0 - 48, take (length bytes - 1) (drop 1 bytes))
@@ -70,36 +43,12 @@ joined power piece None = None
 joined power piece (Some x) = option_map (λ y. (x.0 * power + y.0, y.1)) (piece x.1)
 
 value_add : (n m : ℕ) (bytes : List ℕ) → m ≤ digit_count (drop n bytes) → digits_value 10 (take (n + m) bytes) ≡ digits_value 10 (take n bytes) * 10 ^ m + digits_value 10 (take m (drop n bytes))
-value_add n m bytes le =
-    let within : m ≤ length (drop n bytes) = omega (arith, prefix_len-le-length is_ascii_digit (drop n bytes)) in
-    ap (digits_value 10) (take-add n m bytes)
-    ∙ value_append 0 (take n bytes) (take m (drop n bytes))
-    ∙ value_after (digits_value 10 (take n bytes)) (take m (drop n bytes))
-    ∙ ap (λ (k : ℕ). digits_value 10 (take n bytes) * 10 ^ k + digits_value 10 (take m (drop n bytes))) (length-take-le m (drop n bytes) within)
+value_add n m bytes le = grind (arith, nat_tests, prefix_len-le-length, take-add, value_append, value_after, length-take-le)
 
 -- so many digits, and then so many more
 pub digits_add : (n m : ℕ) (bytes : List ℕ) → digits (n + m) bytes ≡ joined (10 ^ m) (digits m) (digits n bytes)
 unfolding digits
-digits_add n m bytes =
-    elim (cases_lt (digit_count bytes) n) [
-      | inl lt ↦
-          let e : leb n (digit_count bytes) ≡ false = grind (arith, nat_tests) in
-          let f : leb (n + m) (digit_count bytes) ≡ false = grind (arith, nat_tests) in
-          rw (e, f) refl
-      | inr le ↦
-          let left = count_drop n bytes le in
-          let e : leb n (digit_count bytes) ≡ true = grind (arith, nat_tests) in
-          elim (cases_lt (digit_count (drop n bytes)) m) [
-            | inl lt ↦
-                let f : leb (n + m) (digit_count bytes) ≡ false = grind (arith, nat_tests) in
-                let g : leb m (digit_count (drop n bytes)) ≡ false = grind (arith, nat_tests) in
-                rw (e, f) (rw g refl)
-            | inr more ↦
-                let f : leb (n + m) (digit_count bytes) ≡ true = grind (arith, nat_tests) in
-                let g : leb m (digit_count (drop n bytes)) ≡ true = grind (arith, nat_tests) in
-                rw (e, f) (rw (g, value_add n m bytes more, drop-drop m n bytes) refl)
-          ]
-    ]
+digits_add n m bytes = grind (arith, nat_tests, count_drop, value_add, drop-drop)
 
 pub digits_three : (bytes : List ℕ) → digits 3 bytes ≡ joined 10 (digits 1) (digits 2 bytes)
 digits_three bytes = digits_add 2 1 bytes

@@ -1,21 +1,20 @@
 -- The digits of a fraction past the ninth have no effect.
-use Rattle.std.proofs.Common.{◌≡◌, ℕ, suc, Bool, true, false, cond, ◌+◌, ◌-◌, ◌*◌, ◌/◌, ◌^◌, ◌<◌, ◌≤◌, List, [], ◌∷◌, ◌++◌, length, replicate, eqb, take, drop, refl, sym, ap, ◌∙◌, arith, lit<, inl, inr, leb, Some, None, unwrap_or}
+use Rattle.std.proofs.Common.{◌≡◌, ℕ, suc, Bool, true, cond, ◌+◌, ◌-◌, ◌*◌, ◌/◌, ◌^◌, ◌<◌, ◌≤◌, List, [], ◌∷◌, ◌++◌, length, replicate, take, drop, sym, ap, ◌∙◌, arith, lit<, inl, inr, Some, None}
 use Rattle.std.specs.Char.{is_ascii_digit}
 use Rattle.std.specs.Str.Parse.{digits_value, AllDigits}
-use Rattle.std.proofs.lemmas.Bool.{cases_lt, le-leb, leb-true}
+use Rattle.std.proofs.lemmas.Bool.{cases_lt}
 use Rattle.std.proofs.lemmas.Bool.Decides.{nat_tests}
 use Rattle.std.proofs.lemmas.List.{take-append-drop, take_all, length-drop}
 use Rattle.std.proofs.lemmas.List.{drop-replicate, append-nil, length-append, length-replicate}
 use Rattle.std.proofs.lemmas.List.Folds.{prefix_len-append, prefix_len-replicate}
 use Rattle.std.proofs.lemmas.Int.Digits.{digits_value-lt}
-use Rattle.std.proofs.lemmas.Nat.{pow-add, le-div, div_below}
+use Rattle.std.proofs.lemmas.Nat.{pow-add, le-div}
 use Rattle.std.proofs.Math.Nat.{mul-div_cancel, mul_assoc, mul-div-mul_right, one-le-pow}
 use Rattle.parsing_combinator.proofs.Decimal.{digit_here, value_after, value_append, value_zeros, count_drop, count_prefix}
 use Rattle.parsing_combinator.specs.Pieces.{digits, digit_count, digit_run, fraction, nanoseconds_of}
 
 counted_first : (b : Bool) (n k : ℕ) → cond b (1 + n) 0 ≡ suc k → (b ≡ true) × (n ≡ k)
-counted_first true n k e = (refl, omega arith)
-counted_first false n k e = absurd (omega arith)
+counted_first b n k e = grind (arith, nat_tests)
 
 pub all_digits : (cs : List ℕ) → digit_count cs ≡ length cs → AllDigits 10 cs
 all_digits [] e = tt
@@ -41,12 +40,7 @@ long_fraction run lt all =
     let small : digits_value 10 rest < 10 ^ k = rw rest_length at (digits_value-lt 10 rest (all_digits rest (omega (arith, rest_length, counted)))) in
     let value : digits_value 10 run ≡ prefix * 10 ^ k + digits_value 10 rest = ap (digits_value 10) (sym (take-append-drop 9 run)) ∙ value_append 0 (take 9 run) rest ∙ rw rest_length at (value_after prefix rest) in
     let low : prefix * 10 ^ k ≤ digits_value 10 run = omega (arith, value) in
-    let high : digits_value 10 run < (prefix + 1) * 10 ^ k = omega (arith, value, small) in
-    let power : 10 ^ length run ≡ 10 ^ k * 10 ^ 9 = ap (λ (m : ℕ). 10 ^ m) (let e : length run ≡ k + 9 = omega arith in e) ∙ pow-add 10 k 9 in
-    let less : nanoseconds_of run ≡ digits_value 10 run / 10 ^ k = ap (λ (m : ℕ). digits_value 10 run * 10 ^ 9 / m) power ∙ mul-div-mul_right {m = 10 ^ 9} (digits_value 10 run) (10 ^ k) (lit< tt) in
-    let above = le-div prefix (digits_value 10 run) (10 ^ k) (one-le-pow k 10 (lit< tt)) low in
-    let below = div_below (digits_value 10 run) (10 ^ k) (prefix + 1) (one-le-pow k 10 (lit< tt)) high in
-    omega (arith, above, below, less)
+    grind (arith, nat_tests, pow-add, mul-div-mul_right, le-div)
 
 -- what was read of n digits
 pub record Read (n : ℕ) (bytes : List ℕ) (v : ℕ) (rest : List ℕ) : Type 0 where
@@ -56,28 +50,19 @@ pub record Read (n : ℕ) (bytes : List ℕ) (v : ℕ) (rest : List ℕ) : Type 
 
 -- what stands after a test was there, so the test passed
 pub cut_of : {A : Type 0} (b : Bool) (x y : A) → cond b (Some x) None ≡ Some y → (b ≡ true) × (x ≡ y)
-cut_of true x y e = (refl, ap (λ o. unwrap_or o x) e)
-cut_of false x y e = absurd (cc)
+cut_of b x y e = grind (arith, nat_tests)
 
 pub digits_read : (n : ℕ) (bytes : List ℕ) (v : ℕ) (rest : List ℕ) → digits n bytes ≡ Some (v, rest) → Read n bytes v rest
 unfolding digits
-digits_read n bytes v rest h =
-    let cut = cut_of (leb n (digit_count bytes)) _ (v, rest) h in
-    record { enough = leb-true _ _ cut.0; value = ap (λ (x : ℕ × List ℕ). x.0) cut.1; after = ap (λ (x : ℕ × List ℕ). x.1) cut.1 }
+digits_read n bytes v rest h = grind (arith, nat_tests)
 
 pub none_there : (bytes : List ℕ) → digits 1 bytes ≡ None → digit_count bytes ≡ 0
 unfolding digits
-none_there bytes h =
-    elim (cases_lt (digit_count bytes) 1) [
-      | inl lt ↦ omega arith
-      | inr le ↦ absurd (let f = rw (le-leb 1 (digit_count bytes) le) at h in cc)
-    ]
+none_there bytes h = grind (arith, nat_tests)
 
 -- digits, and zeros after them
 pub padded_count : (run : List ℕ) (m : ℕ) → digit_count run ≡ length run → digit_count (run ++ replicate m 48) ≡ length run + m
-padded_count run m all =
-    let same : eqb (digit_count run) (length run) ≡ true = grind (arith, nat_tests) in
-    prefix_len-append is_ascii_digit run (replicate m 48) ∙ rw (same, prefix_len-replicate is_ascii_digit m 48 refl) refl
+padded_count run m all = grind (arith, nat_tests, prefix_len-append, prefix_len-replicate)
 
 pub padded_value : (run : List ℕ) (m : ℕ) → length run + m ≡ 9 → digits_value 10 (run ++ replicate m 48) ≡ nanoseconds_of run
 padded_value run m nine =
@@ -100,6 +85,4 @@ nine_value run used all short long =
 -- the digits that are all that are there are a fraction
 pub fraction_there : (bytes : List ℕ) (count : ℕ) → 0 < count → digit_count bytes ≡ count → fraction bytes ≡ Some (nanoseconds_of (take count bytes), drop count bytes)
 unfolding fraction digit_run
-fraction_there bytes count some is =
-    let nonzero : eqb count 0 ≡ false = grind (arith, nat_tests) in
-    rw (is, nonzero) refl
+fraction_there bytes count some is = grind (arith, nat_tests)

@@ -1,6 +1,6 @@
 -- The longest prefix, by what it is and by what the shape's parts say.
 use Rattle.std.proofs.Common.{◌≡◌, ℕ, zero, suc, min, ◌+◌, ◌<◌, ◌≤◌, ◌&&◌, Bool, true, false, cond, List, [], ◌∷◌, length, take, drop, Option, Some, None, refl, sym, ap, ◌∙◌, arith, inl, inr, lit<, ◌^◌}
-use Rattle.std.specs.Prelude.{option_map, nat_le, nat_eq, IfSome}
+use Rattle.std.specs.Prelude.{option_map, nat_le, IfSome}
 use Rattle.std.specs.List.{list_all}
 use Rattle.std.specs.Char.{is_ascii_digit}
 use Rattle.std.specs.Str.Parse.{digits_value}
@@ -33,8 +33,7 @@ greatest_same f g zero same = same 0 (omega arith)
 greatest_same f g (suc n) same = rw (same (suc n) (omega arith), greatest_same f g n (λ j a. same j (omega arith))) refl
 
 before_none : {A : Type 0} → (x : Option A) → or_before x None ≡ x
-before_none (Some x) = refl
-before_none None = refl
+before_none x = grind (arith, nat_tests)
 
 -- where nothing is found at any other number
 pub greatest_at : {A : Type 0} → (f : ℕ → Option A) (n k : ℕ) → k ≤ n → ((j : ℕ) → j ≤ n → ¬ (j ≡ k) → f j ≡ None) → greatest f n ≡ f k
@@ -51,8 +50,7 @@ greatest_up f zero none = rw none (before_none (f 1))
 greatest_up f (suc n) none = ap (or_before (f (suc (suc n)))) (greatest_up f n none)
 
 map_before : {A B : Type 0} → (h : A → B) (x y : Option A) → or_before (option_map h x) (option_map h y) ≡ option_map h (or_before x y)
-map_before h (Some x) y = refl
-map_before h None y = refl
+map_before h x y = grind (arith, nat_tests)
 
 -- what is found passes through a function
 pub greatest_map : {A B : Type 0} → (h : A → B) (f : ℕ → Option A) (n : ℕ) → greatest (λ k. option_map h (f k)) n ≡ option_map h (greatest f n)
@@ -80,8 +78,7 @@ taken_after shape other c cs none same =
 -- ---- a run of digits
 
 one_more : (b x : Bool) (j n : ℕ) → x ≡ nat_le j n → (b && x) ≡ nat_le (suc j) (cond b (1 + n) 0)
-one_more true x j n e = grind (arith, nat_tests)
-one_more false x j n e = grind (arith, nat_tests)
+one_more b x j n e = grind (arith, nat_tests)
 
 pub digits_at : (bytes : List ℕ) (j : ℕ) → j ≤ length bytes → list_all is_ascii_digit (take j bytes) ≡ nat_le j (digit_count bytes)
 digits_at bytes zero le = grind (arith, nat_tests)
@@ -93,8 +90,7 @@ shape_at n m bytes j le = rw (length-take-le j bytes le, digits_at bytes j le) r
 
 said : {A : Type 0} → (b : Bool) (value : List ℕ → A) (n m : ℕ) (bytes : List ℕ) (j : ℕ) → are_digits n m (take j bytes) ≡ b → prefix (digits_as value n m) bytes j ≡ cond b (Some (value (take j bytes), drop j bytes)) None
 unfolding digits_as
-said true value n m bytes j e = rw e refl
-said false value n m bytes j e = rw e refl
+said b value n m bytes j e = grind (arith, nat_tests)
 
 -- as many digits as are there, up to m
 abbrev pub run_of : {A : Type 0} → (List ℕ → A) → ℕ → List ℕ → A × List ℕ
@@ -117,22 +113,10 @@ taken_digits value n m bytes le =
 -- exactly n digits
 pub taken_exactly : (n : ℕ) (bytes : List ℕ) → taken (digits_between n n) bytes ≡ digits n bytes
 unfolding digits
-taken_exactly n bytes =
-    taken_digits (digits_value 10) n n bytes (omega arith)
-    ∙ elim (cases_lt (digit_count bytes) n) [
-      | inl few ↦ rw (lt-leb n (digit_count bytes) few) refl
-      | inr enough ↦ let e : min (digit_count bytes) n ≡ n = omega arith in rw e refl
-    ]
+taken_exactly n bytes = grind (arith, nat_tests, taken_digits)
 
 one_or_two : (c : ℕ) (bytes : List ℕ) → cond (nat_le 1 c) (Some (run_of (digits_value 10) (min c 2) bytes)) None ≡ or_before (cond (nat_le 2 c) (Some (run_of (digits_value 10) 2 bytes)) None) (cond (nat_le 1 c) (Some (run_of (digits_value 10) 1 bytes)) None)
-one_or_two c bytes =
-    elim (cases_lt c 1) [
-      | inl none ↦ rw (lt-leb 1 c none, lt-leb 2 c (omega arith)) refl
-      | inr some ↦ elim (cases_lt c 2) [
-        | inl one ↦ let e : min c 2 ≡ 1 = omega arith in rw (le-leb 1 c some, lt-leb 2 c one, e) refl
-        | inr two ↦ let e : min c 2 ≡ 2 = omega arith in rw (le-leb 1 c some, le-leb 2 c two, e) refl
-      ]
-    ]
+one_or_two c bytes = grind (arith, nat_tests)
 
 -- two digits where there are two, or else one
 pub taken_one_or_two : (bytes : List ℕ) → taken (digits_between 1 2) bytes ≡ or_before (digits 2 bytes) (digits 1 bytes)
@@ -148,9 +132,7 @@ taken_bound x k count m lt e = below_power x k m lt (omega arith)
 -- the fraction that digits alone write
 pub whole_fraction : (text : List ℕ) → digit_count text ≡ length text → 0 < length text → fraction text ≡ Some (nanoseconds_of text, [])
 unfolding fraction digit_run
-whole_fraction text all some =
-    let e : nat_eq (length text) 0 ≡ false = grind (arith, nat_tests) in
-    rw (all, e, take-length text, drop_all (length text) text (omega arith)) refl
+whole_fraction text all some = grind (arith, nat_tests, take-length, drop_all)
 
 -- a number below a power of ten is below a greater one
 pub bound_up : {R : Type 0} → (o : Option (ℕ × R)) (k m : ℕ) → k ≤ m → IfSome o (λ x. x.0 < 10 ^ k) → IfSome o (λ x. x.0 < 10 ^ m)

@@ -18,8 +18,7 @@ same_if b xs ys e = (bytes_eq-Decides (compared b xs) (compared b ys)).0 e
 
 -- a name has the length of every text that is it
 pub is_name_length : (b : Bool) (name text : List ℕ) → is_name b name text ≡ true → length name ≡ length text
-is_name_length true name text e = ap length (same_if true name text e)
-is_name_length false name text e = sym (length-map name to_ascii_lowercase) ∙ ap length (same_if false name text e) ∙ length-map text to_ascii_lowercase
+is_name_length b name text e = grind (arith, nat_tests, same_if, length-map)
 
 -- ---- names of one length
 
@@ -82,8 +81,7 @@ alone is_long None = []
 alone is_long (Some entry) = (form is_long entry.0, entry.1) ∷ []
 
 none_if : {A : Type 0} → (o : Option A) → is_none o ≡ true → o ≡ None
-none_if None e = refl
-none_if (Some x) e = absurd (cc)
+none_if o e = grind (arith, nat_tests)
 
 named_told : {A : Type 0} → (b : Bool) (is_long : Bool) (entries : List (List ℕ × A)) (bytes : List ℕ) (j : ℕ) → j ≤ length bytes → are_told is_long entries ≡ true
     → named b (formed is_long entries) (take j bytes) ≡ named b (alone is_long (with_letters (letters bytes) entries)) (take j bytes)

@@ -19,18 +19,7 @@ abbrev past : {A : Type 0} → (ℕ → ℕ → Option A) → ℕ → ℕ → �
 past f s n m = if nat_lt s n then f (n - s) (m - s) else None
 
 past_none : {A : Type 0} → (f : ℕ → ℕ → Option A) (n m : ℕ) → past f 0 (suc n) m ≡ f (suc n) m
-past_none f n m =
-    let t : nat_lt 0 (suc n) ≡ true = grind (arith, nat_tests) in
-    let e : suc n - 0 ≡ suc n = omega arith in
-    let g : m - 0 ≡ m = omega arith in
-    rw (t, e, g) refl
-
-past_one : {A : Type 0} → (f : ℕ → ℕ → Option A) (s n m : ℕ) → past f (suc s) (suc n) (suc m) ≡ past f s n m
-past_one f s n m =
-    let t : nat_lt (suc s) (suc n) ≡ nat_lt s n = grind (arith, nat_tests) in
-    let e : suc n - suc s ≡ n - s = omega arith in
-    let g : suc m - suc s ≡ m - s = omega arith in
-    rw (t, e, g) refl
+past_none f n m = grind (arith, nat_tests)
 
 pub no_spaces : (n m : ℕ) (text : List ℕ) → after_spaces 0 (suc n) m text ≡ digits_between (suc n) m text
 no_spaces n m text = past_none (λ n m. digits_between n m text) n m
@@ -39,40 +28,27 @@ pub no_text : (n m : ℕ) → digits_between (suc n) m [] ≡ None
 unfolding digits_as
 no_text n m = let e : nat_le (suc n) 0 ≡ false = grind (arith, nat_tests) in rw e refl
 
-one_space : (s n m c : ℕ) (text : List ℕ) → after_spaces (suc s) (suc n) (suc m) (c ∷ text) ≡ after_spaces s n m text
-one_space s n m c text = past_one (λ n m. digits_between n m (drop s text)) s n m
-
 empty_at : (n m : ℕ) → spaced_between (suc n) (suc m) [] ≡ None
 unfolding spaced_between
 empty_at n m = no_spaces n (suc m) [] ∙ no_text n (suc m)
 
 space_at : (n m c : ℕ) (text : List ℕ) → is_space c ≡ true → spaced_between (suc n) (suc m) (c ∷ text) ≡ spaced_between n m text
 unfolding spaced_between
-space_at n m c text e =
-    let f : 1 + space_count text ≡ suc (space_count text) = omega arith in
-    rw e (rw f (one_space (space_count text) n m c text))
+space_at n m c text e = grind (arith, nat_tests)
 
 bare_at : (n m c : ℕ) (cs : List ℕ) (j : ℕ) → is_space c ≡ false → spaced_between (suc n) m (take j (c ∷ cs)) ≡ digits_between (suc n) m (take j (c ∷ cs))
 unfolding spaced_between
-bare_at n m c cs zero e = no_spaces n m []
-bare_at n m c cs (suc j) e = rw e (no_spaces n m (c ∷ take j cs))
-
-taken_one_space : (s n m c : ℕ) (cs : List ℕ) → taken_after_spaces (suc s) (suc n) (suc m) (c ∷ cs) ≡ taken_after_spaces s n m cs
-taken_one_space s n m c cs = past_one (λ n m. taken (digits_between n m) (drop s cs)) s n m
+bare_at n m c cs j e = grind (arith, nat_tests)
 
 taken_no_spaces : (n m : ℕ) (bytes : List ℕ) → taken_after_spaces 0 (suc n) m bytes ≡ taken (digits_between (suc n) m) bytes
 taken_no_spaces n m bytes = past_none (λ n m. taken (digits_between n m) bytes) n m
 
 step : (b : Bool) (n m c : ℕ) (cs : List ℕ) → is_space c ≡ b → n ≤ m → taken (spaced_between n m) cs ≡ taken_after_spaces (space_count cs) n m cs → taken (spaced_between (suc n) (suc m)) (c ∷ cs) ≡ taken_after_spaces (cond b (1 + space_count cs) 0) (suc n) (suc m) (c ∷ cs)
-step true n m c cs e le more =
-    let f : 1 + space_count cs ≡ suc (space_count cs) = omega arith in
-    taken_after (spaced_between (suc n) (suc m)) (spaced_between n m) c cs (empty_at n m) (λ text. space_at n m c text e) ∙ more ∙ rw f (sym (taken_one_space (space_count cs) n m c cs))
-step false n m c cs e le more = taken_same (spaced_between (suc n) (suc m)) (digits_between (suc n) (suc m)) (c ∷ cs) (λ j a. bare_at n (suc m) c cs j e) ∙ sym (taken_no_spaces n (suc m) (c ∷ cs))
+step b n m c cs e le more = grind (arith, nat_tests, taken_after, empty_at, space_at, taken_same, bare_at)
 
 empty_same : (n m j : ℕ) → spaced_between (suc n) m (take j []) ≡ digits_between (suc n) m (take j [])
 unfolding spaced_between
-empty_same n m zero = no_spaces n m []
-empty_same n m (suc j) = no_spaces n m []
+empty_same n m j = grind (arith, nat_tests)
 
 none_taken : (s m : ℕ) (bytes : List ℕ) → taken_after_spaces s 0 m bytes ≡ None
 none_taken s m bytes = let e : nat_lt s 0 ≡ false = grind (arith, nat_tests) in rw e refl

@@ -1,5 +1,5 @@
 -- Dates, by their pieces.
-use Rattle.std.proofs.Common.{◌≡◌, ◌≤◌, ◌+◌, ◌-◌, ◌*◌, ◌∙◌, ℕ, Bool, true, false, List, [], ◌∷◌, Option, Some, None, Err, refl, arith, lit≤, pos, ℤ}
+use Rattle.std.proofs.Common.{◌≡◌, ◌≤◌, ◌+◌, ◌-◌, ◌*◌, ◌∙◌, ℕ, Bool, true, false, List, ◌∷◌, Option, Some, None, Err, refl, arith, lit≤, pos, ℤ}
 use Rattle.std.specs.Prelude.{option_map, codes}
 use Rattle.std.proofs.lemmas.Bool.{le-leb}
 use Rattle.std.proofs.lemmas.Bool.Decides.{nat_tests}
@@ -11,7 +11,6 @@ use Rattle.calendar_count.specs.declared.weekday.Weekday.{Weekday}
 use Rattle.parsing_combinator.specs.Fault.{Fault, literal, component}
 use Rattle.parsing_combinator.specs.Pieces.{digits, byte, skip_of}
 use Rattle.parsing_combinator.proofs.Fixed.{digits_three}
-use Rattle.parsing_combinator.proofs.FractionDigits.{digits_read}
 use Rattle.parsing_iso8601.specs.Dates.{month_and_day, date_of_month, date_of_year, date_of_week, week_and_weekday, date_without_month, date_after, year_and_kind}
 use Rattle.parsing_iso8601.specs.Designators.{time_designator, week_designator}
 use Rattle.parsing_iso8601.specs.Kinds.{kind_of_date}
@@ -21,7 +20,7 @@ use Rattle.parsing_iso8601.specs.declared.kind.Kind.{Kind}
 use Rattle.parsing_iso8601.specs.declared.kind.Kind.TheVariants.{Basic, Extended}
 use Rattle.parsing_iso8601.specs.declared.written.WrittenDate.TheVariants.{OfMonth, OfYear, OfWeek}
 use Rattle.parsing_iso8601.proofs.Entries.{weekday_entry}
-use Rattle.parsing_iso8601.proofs.Pieces.{first_digit, no_byte}
+use Rattle.parsing_iso8601.proofs.Pieces.{no_byte}
 use Rattle.parsing_layout.specs.Layout.{Values, Says}
 use Rattle.parsing_layout.specs.declared.parts.Field.TheVariants as field
 use Rattle.parsing_layout.proofs.PieceLemmas.{byte_is, literal_said}
@@ -46,11 +45,7 @@ no_number bytes rest e = rw e (record { two = refl; three = refl; hyphen_there =
 -- after one digit and a `T` there are no two
 no_two : (bytes rest after : List ℕ) (n : ℕ) → digits 1 bytes ≡ Some (n, rest) → rest ≡ time_designator ∷ after → digits 2 bytes ≡ None
 unfolding digits
-no_two [] rest after n e is = refl
-no_two (c ∷ cs) rest after n e is =
-    let left : cs ≡ time_designator ∷ after = (digits_read 1 (c ∷ cs) n rest e).after ∙ is in
-    let digit = first_digit 1 c cs (n, rest) (lit≤ tt) e in
-    rw (left, digit) refl
+no_two bytes rest after n e is = grind (arith, nat_tests)
 
 -- three digits, by two and the last
 three_after : (bytes mid rest : List ℕ) (tens ones : ℕ) → digits 2 bytes ≡ Some (tens, mid) → digits 1 mid ≡ Some (ones, rest) → digits 3 bytes ≡ Some (tens * 10 + ones, rest)
@@ -180,8 +175,6 @@ low_of Week v = v field.Weekday
 -- a date of any form, before a `T`
 pub date_read : (dating : Dating) (is_extended : Bool) (bytes rest after : List ℕ) (v : Values) (month day : ℕ) → Says (date_parts dating is_extended) bytes v rest → rest ≡ time_designator ∷ after → NamesDate dating (v field.Year) (high_of dating v) (low_of dating v) month day
     → ReadsDay bytes (v field.Year) month day (kind_of is_extended) rest
-date_read Calendar is_extended bytes rest after v month day says next n =
-    let same = n.calendar refl in
-    rw (same.0, same.1) (calendar_read is_extended bytes rest v says (rw (same.0, same.1) at n.there))
+date_read Calendar is_extended bytes rest after v month day says next n = grind (arith, nat_tests, calendar_read)
 date_read Ordinal is_extended bytes rest after v month day says next n = let o = n.ordinal refl in ordinal_read is_extended bytes rest after v month day says next o.0 o.1 o.2
 date_read Week is_extended bytes rest after v month day says next n = let w = n.week refl in week_read is_extended bytes rest v month day says w.0 w.1 w.2

@@ -1,8 +1,8 @@
 -- Days of a year and days of weeks as days of a month.
-use Rattle.std.proofs.Common.{◌≡◌, ℕ, ◌+◌, ◌-◌, ◌*◌, ◌/◌, ◌%◌, ◌==◌, ◌⊎◌, Bool, cond, get_or, inl, inr, ◌<◌, ◌≤◌, true, false, Ok, refl, sym, ◌∙◌, arith, ℤ, pos, ◌+ℤ◌}
+use Rattle.std.proofs.Common.{◌≡◌, ℕ, ◌+◌, ◌-◌, ◌*◌, ◌/◌, ◌%◌, ◌==◌, ◌⊎◌, Bool, cond, get_or, inl, inr, ◌<◌, ◌≤◌, true, Ok, refl, arith, ℤ, pos, ◌+ℤ◌}
 use Rattle.std.specs.Int.{IsInRange}
 use Rattle.std.specs.Prelude.{◌&&◌, nat_le, nat_lt}
-use Rattle.std.proofs.lemmas.Bool.{agree_below_at, and_parts, cases_lt, eqb-true, le-ltb, lt-ltb, ltb-true}
+use Rattle.std.proofs.lemmas.Bool.{agree_below_at, and_parts, cases_lt, le-ltb, lt-ltb}
 use Rattle.std.proofs.lemmas.Bool.Decides.{nat_tests}
 use Rattle.std.proofs.lemmas.Int.{ints}
 use Rattle.calendar_count.specs.Range.{greatest_year, IsYear, IsCount}
@@ -112,8 +112,7 @@ abbrev length_by : Bool → ℕ
 length_by b = cond b 366 365
 
 by_leap : (b : Bool) → (length_by b ≡ 365) ⊎ (length_by b ≡ 366)
-by_leap true = inr refl
-by_leap false = inl refl
+by_leap b = grind (arith, nat_tests)
 
 late : (length ordinal m d : ℕ) → is_late length ordinal m d ≡ true → (ordinal + 305 ≡ length + (march_days m + d)) × (march_days m + d < march_days (m + 1)) × (m ≤ 12)
 late length ordinal m d e = (grind (arith, nat_tests, e), grind (arith, nat_tests, e), grind (arith, nat_tests, e))
@@ -144,16 +143,12 @@ split_of length ordinal either range =
     let month = month_of length ordinal in
     let day = day_of length ordinal in
     let all = and_parts (fits length ordinal) (cond (nat_lt month 3) (is_early length ordinal month day) (is_late length ordinal month day)) (rw (lt-ltb 0 ordinal (omega (arith, range.0))) at (split_at length ordinal either (omega (arith, range.1)))) in
-    let one = and_parts (nat_lt (before_month length ordinal) ordinal) (nat_lt month 13 && nat_lt day 31) all.0 in
-    let two = and_parts (nat_lt month 13) (nat_lt day 31) one.1 in
-    record { before = ltb-true (before_month length ordinal) ordinal one.0; month = omega (arith, ltb-true month 13 two.0); day = omega (arith, ltb-true day 31 two.1); splits = all.1 }
+    grind (arith, nat_tests)
 
 -- the two look-ups find the place of the month
 pub looked_up : (length ordinal months first place before : ℕ) → months ≡ months_row length → first ≡ get_or DAYS_BEFORE (months + ordinal / 32 + 1 + 1) 0 → place ≡ next_if (nat_lt first ordinal) (months + ordinal / 32 + 1) → before ≡ get_or DAYS_BEFORE place 0
     → (before ≡ before_month length ordinal) × (place - months ≡ month_of length ordinal)
-looked_up length ordinal months first place before row first_is place_is before_is =
-    let there : place ≡ place_of_month length ordinal = rw (first_is, row) at place_is in
-    (rw there at before_is, rw (there, row) refl)
+looked_up length ordinal months first place before row first_is place_is before_is = grind (arith, nat_tests)
 
 pub length_of : (year : ℕ) → (days_in_year (pos year) ≡ 365) ⊎ (days_in_year (pos year) ≡ 366)
 length_of year = by_leap (is_leap_year (pos year))
@@ -162,8 +157,7 @@ pub ordinal_split : (year ordinal : ℕ) → year ≤ 9999 → IsInRange 1 365 o
 ordinal_split year ordinal four range =
     let length : ℕ = days_in_year (pos year) in
     let s = split_of length ordinal (length_of year) range in
-    let same : day_of length ordinal + 1 ≡ ordinal - before_month length ordinal = omega (arith, s.before) in
-    rw same at (named_by year ordinal (month_of length ordinal) (day_of length ordinal) length refl four range s.splits)
+    grind (arith, nat_tests, named_by)
 
 -- ---- days of weeks
 
@@ -177,19 +171,13 @@ week_named year week weekday four some few in_year bound =
     one_day y Week (is_iso_day y week weekday) c (within year four) bound (rw (at.0, at.1, at.2) (grind (arith, nat_tests, ints))) (λ k within passes.
     (iso_count-is k n week weekday y (since year) (grind (arith, nat_tests, ints, passes)) (grind (arith, nat_tests, passes)) (grind (arith, nat_tests, passes))).0)
 
--- 400 years have so many whole weeks
-again : (k q : ℕ) → first_thursday_of (k + 400 * q) ≡ first_thursday_of k
-again k q = let days : days_before_year (k + 400 * q + greatest_year) ≡ days_before_year (k + greatest_year) + 7 * (20_871 * q) = omega arith in omega (arith, days)
-
 abbrev thursday_there : ℕ → Bool
 thursday_there k = (get_or FIRST_THURSDAYS k 0 == first_thursday_of k + 48)
 
 pub thursday_at : (year : ℕ) → get_or FIRST_THURSDAYS (year % 400) 0 ≡ first_thursday_of year + 48
 thursday_at year =
     let h = agree_below_at thursday_there (λ _. true) 400 (year % 400) refl (omega arith) in
-    let split : year % 400 + 400 * (year / 400) ≡ year = omega arith in
-    let same : first_thursday_of year ≡ first_thursday_of (year % 400) = rw split at (again (year % 400) (year / 400)) in
-    eqb-true (get_or FIRST_THURSDAYS (year % 400) 0) (first_thursday_of (year % 400) + 48) h ∙ rw same refl
+    grind (arith, nat_tests)
 
 -- the same by the pairs of its digits
 pub thursday_by : (century last_two : ℕ) → last_two ≤ 99 → get_or FIRST_THURSDAYS (century % 4 * 100 + last_two) 0 ≡ first_thursday_of (year_by century last_two) + 48
@@ -198,9 +186,4 @@ thursday_by century last_two few =
     rw place at (thursday_at (year_by century last_two))
 
 pub week_ordinal : (year week weekday ordinal : ℕ) → year ≤ 9999 → 1 ≤ week → weekday ≤ 6 → IsInRange 1 365 ordinal → first_thursday_of year + 7 * week ≤ 371 → first_thursday_of year + 7 * week + weekday ≡ ordinal + 9 → NamesWeek year week weekday ordinal
-week_ordinal year week weekday ordinal four some few range thursday is =
-    let start : ℕ = days_before_year (year + greatest_year) in
-    let many : 365 ≤ days_in_year (pos year) = grind (arith, nat_tests) in
-    let same : iso_count start week weekday ≡ place_count (pos year) ordinal = omega (arith, count_is year ordinal, is, range.0) in
-    let bound : IsCount (iso_count start week weekday) = rw same (count_within year ordinal four range) in
-    record { some = some; most = omega arith; same_day = week_named year week weekday four some few (omega (arith, thursday, many)) bound ∙ rw same (sym (ordinal_named year ordinal four range)) }
+week_ordinal year week weekday ordinal four some few range thursday is = grind (arith, nat_tests, count_is, week_named, ordinal_named)

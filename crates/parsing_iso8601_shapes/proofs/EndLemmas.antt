@@ -4,7 +4,6 @@ use Rattle.std.specs.Prelude.{◌==◌, ◌||◌}
 use Rattle.std.proofs.lemmas.Bool.{le-leb, lt-ltb}
 use Rattle.std.proofs.lemmas.Bool.Decides.{nat_tests}
 use Rattle.std.proofs.lemmas.List.{length-drop, length-take-le, get_or-take}
-use Rattle.std.specs.Char.{is_ascii_digit}
 use Rattle.base.specs.Bytes.{plus, hyphen, colon, dot, upper_z}
 use Rattle.parsing_combinator.specs.Pieces.{digits, byte, skip_of, fraction, digit_count}
 use Rattle.parsing_combinator.proofs.Decimal.{count_drop, count_prefix, digit_count_within}
@@ -49,12 +48,7 @@ zulu_ends bytes rest e = rw e (record { no_mark = refl; no_digit = refl; no_numb
 -- a sign is none of these bytes
 sign_apart : (mark : ℕ) (rest : List ℕ) → ((mark == plus) || (mark == hyphen)) ≡ true → (decimal_mark (mark ∷ rest) ≡ None) × (digits 1 (mark ∷ rest) ≡ None) × (digits 2 (mark ∷ rest) ≡ None) × (byte colon (mark ∷ rest) ≡ None) × (byte upper_z (mark ∷ rest) ≡ None)
 unfolding decimal_mark skip_of digits
-sign_apart mark rest marked =
-    let no_point : ((mark == 46) || (mark == 44)) ≡ false = grind (arith, nat_tests) in
-    let no_digit : is_ascii_digit mark ≡ false = grind (arith, nat_tests) in
-    let no_colon : (mark == colon) ≡ false = grind (arith, nat_tests) in
-    let no_zulu : (mark == upper_z) ≡ false = grind (arith, nat_tests) in
-    rw (no_point, no_digit, no_colon, no_zulu) (refl, refl, refl, refl, refl)
+sign_apart mark rest marked = grind (arith, nat_tests)
 
 sign_ends : (bytes rest : List ℕ) (mark : ℕ) → SignIs bytes mark rest → EndTime bytes × (byte upper_z bytes ≡ None)
 sign_ends bytes rest mark s =
@@ -71,15 +65,13 @@ may_end is_extended Colon = is_extended
 may_end is_extended other = true
 
 pub may_be : (has_colon is_extended : Bool) → (has_colon ≡ true → is_extended ≡ true) → (e : Ending) → is_written has_colon e ≡ true → may_end is_extended e ≡ true
-may_be has_colon is_extended extended Colon w = extended w
-may_be has_colon is_extended extended e w = refl
+may_be has_colon is_extended extended e w = grind (arith, nat_tests)
 
 pub colon_there : (bytes rest : List ℕ) → byte colon bytes ≡ Some (tt, rest) → maybe_colon Extended bytes ≡ Some (tt, rest)
 colon_there bytes rest e = rw e refl
 
 no_colon_there : (is_extended : Bool) (bytes : List ℕ) → byte colon bytes ≡ None → maybe_colon (kind_of is_extended) bytes ≡ Some (tt, bytes)
-no_colon_there true bytes none = rw none refl
-no_colon_there false bytes none = refl
+no_colon_there is_extended bytes none = grind (arith, nat_tests)
 
 pub zone_read : (is_extended : Bool) (e : Ending) (bytes : List ℕ) (v : Values) (o : ℤ) → may_end is_extended e ≡ true → Says (zone_parts e) bytes v [] → HasOffset (is_zulu e) v o → IsAllOffset (offset (kind_of is_extended) bytes) o
 zone_read is_extended Zulu bytes v o may says value = zulu_read (kind_of is_extended) bytes o (rw says.2 at (literal_said _ _ says.1)) value
@@ -103,8 +95,7 @@ unfolding decimal_mark skip_of
 dot_there bytes after e = rw e refl
 
 some_digits : (count : ℕ) → (suc count ≡ 1 → ⊥) → 0 < count
-some_digits zero more = absurd (more refl)
-some_digits (suc count) more = omega arith
+some_digits count more = grind (arith, nat_tests)
 
 short_read : (bytes rest : List ℕ) (count n : ℕ) → 0 < count → count ≤ 9 → exact_fraction count bytes ≡ Some (n, rest) → digits 1 rest ≡ None → (fraction bytes ≡ Some (n, rest)) × (length bytes ≤ length rest + 9)
 short_read bytes rest count n some few e none =
@@ -123,10 +114,7 @@ rounded_read : (bytes rest : List ℕ) (count n : ℕ) → 9 < count → exact_f
 rounded_read bytes rest count n many e none =
     let said = exact_said _ bytes rest count n refl e in
     let left : digit_count (drop count bytes) ≡ 0 = rw said.2 (none_there rest none) in
-    let is : digit_count bytes ≡ count = omega (arith, count_drop count bytes said.0, left) in
-    let long : length (take count bytes) ≡ count = length-take-le count bytes (omega (arith, said.0, digit_count_within bytes)) in
-    let tenth : get_or (take count bytes) 9 0 ≡ get_or bytes 9 0 = get_or-take count bytes 9 0 many in
-    (is, said.2, long_rounded (take count bytes) (omega (arith, long, many)) (count_prefix bytes count said.0) ∙ rw (tenth, said.1) refl)
+    grind (arith, nat_tests, count_drop, length-take-le, digit_count_within, get_or-take, long_rounded, count_prefix)
 
 -- of more the tenth rounds it
 pub long_fraction_read : (bytes rest : List ℕ) (v : Values) (count : ℕ) → 10 < count → Says (fraction_parts count) bytes v rest → EndTime rest → subsecond bytes ≡ Some (next_if (leb 53 (get_or bytes 10 0)) (v field.Nanosecond), rest)
@@ -166,11 +154,7 @@ clock_read false true bytes after rest v n says seconds ends hour_few minute_few
     (rw (le-leb (v field.Minute) 59 minute_few, number_of minute.0 (v field.Second) after run rest last read, le-leb (v field.Second) 60 second_few, lt-ltb (subsecond_of run) 1_000_000_000 small) refl) in
     rw is at all)
 clock_read true false bytes after rest v n says seconds ends hour_few minute_few second_few few =
-    let hour = says.2 in
-    let minute = hour.2.2 in
-    let last = rw (minute.2 ∙ seconds.0) at minute.1 in
-    let point = literal_said _ _ hour.2.1 in
-    rw (seconds.1, literal_said _ _ says.1, before_colon says.0 (v field.Hour) hour.0 hour.2.0 hour.1 point, le-leb (v field.Hour) 23 hour_few, point, whole_number hour.2.0 (v field.Minute) rest last ends.no_mark, le-leb (v field.Minute) 59 minute_few, ends.no_colon) refl
+    grind (arith, nat_tests, literal_said, before_colon, whole_number)
 clock_read false false bytes after rest v n says seconds ends hour_few minute_few second_few few =
     let hour = says.2 in
     let minute = hour.2 in
@@ -180,6 +164,4 @@ clock_read false false bytes after rest v n says seconds ends hour_few minute_fe
 
 -- it begins with a `T`
 pub designator_there : (is_extended has_second : Bool) (bytes after : List ℕ) (v : Values) → Says (clock_parts is_extended has_second) bytes v after → (rest : List ℕ) × (bytes ≡ time_designator ∷ rest)
-designator_there true true bytes after v says = (says.0, byte_is time_designator bytes says.0 (literal_said _ _ says.1))
-designator_there false true bytes after v says = (says.0, byte_is time_designator bytes says.0 (literal_said _ _ says.1))
-designator_there e s bytes after v says = (says.0, byte_is time_designator bytes says.0 (literal_said _ _ says.1))
+designator_there is_extended has_second bytes after v says = grind (arith, nat_tests, byte_is)

@@ -1,7 +1,6 @@
 -- A calendar date of the extended kind by its pieces, and the days that dates name.
 use Rattle.std.proofs.Common.{Bool, false, None, ◌==◌, ◌+◌, ◌≡◌, ℕ, zero, suc, ◌≤◌, true, List, Option, Some, Ok, ℤ, refl, sym, ap, ◌∙◌, arith, lit<}
 use Rattle.std.specs.Prelude.{pos}
-use Rattle.std.specs.Int.{is_in_range}
 use Rattle.std.proofs.lemmas.Bool.{agree_below_at, le-leb}
 use Rattle.std.proofs.lemmas.Bool.Decides.{nat_tests}
 use Rattle.base.specs.Bytes.{hyphen}
@@ -9,12 +8,9 @@ use Rattle.calendar_count.specs.Month.{month_number}
 use Rattle.calendar_count.specs.declared.month.Month.{Month}
 use Rattle.calendar_count.specs.Weekday.{days_from_monday}
 use Rattle.calendar_count.specs.declared.weekday.Weekday.{Weekday}
-use Rattle.std.specs.Option.{ok_or, unwrap_or}
-use Rattle.std.proofs.lemmas.Int.{ints}
-use Rattle.calendar_count.specs.Calendar.{is_year, day_at, ymd, IsDay}
+use Rattle.std.specs.Option.{unwrap_or}
+use Rattle.calendar_count.specs.Calendar.{day_at, ymd, IsDay}
 use Rattle.calendar_count.specs.TheDay.{the_day, is_day_of}
-use Rattle.calendar_count.specs.ComponentRange.{out_of_conditional_range}
-use Rattle.calendar_count.specs.declared.component_range.ComponentName.TheVariants.{Day}
 use Rattle.parsing_values.specs.NamedDay.{calendar_date_of}
 use Rattle.parsing_values.proofs.lemmas.Moments.{day_found, day_of_count}
 use Rattle.parsing_iso8601.specs.declared.written.WrittenDate.{WrittenDate}
@@ -53,9 +49,7 @@ month_of bytes m n rest e is = rw e (rw (month_entry m n is) refl)
 -- two digits in a range
 pub within : (n low high : ℕ) (bytes : List ℕ) (v : ℕ) (rest : List ℕ) → digits n bytes ≡ Some (v, rest) → low ≤ v → v ≤ high → digits_within n low high bytes ≡ Some (v, rest)
 unfolding digits_within
-within n low high bytes v rest e above below =
-    let t : is_in_range low high v ≡ true = grind (arith, nat_tests) in
-    rw e (rw t refl)
+within n low high bytes v rest e above below = grind (arith, nat_tests)
 
 -- the date whose pieces these are
 pub date_of_pieces : (b0 b1 b2 b3 b4 b5 : List ℕ) (y n d : ℕ) (m : Month) → digits 4 b0 ≡ Some (y, b1) → byte hyphen b1 ≡ Some (tt, b2) → digits 2 b2 ≡ Some (n, b3) → month_number m ≡ n → byte hyphen b3 ≡ Some (tt, b4) → digits 2 b4 ≡ Some (d, b5) → 1 ≤ d → d ≤ 31
@@ -72,8 +66,7 @@ has_number number None n = false
 has_number number (Some x) n = number x == n
 
 entry_with : {A : Type 0} (number : A → ℕ) (o : Option A) (n : ℕ) → has_number number o n ≡ true → (x : A) × (number x ≡ n)
-entry_with number None n e = absurd cc
-entry_with number (Some x) n e = (x, grind (arith, nat_tests))
+entry_with number o n e = grind (arith, nat_tests)
 
 -- a month has its number
 pub named_month : (n : ℕ) → 1 ≤ n → n ≤ 12 → (m : Month) × (month_number m ≡ n)
@@ -87,9 +80,7 @@ weekday_of n most = entry_with days_from_monday (counted weekdays (n + 1)) n (ag
 -- a date with a month and a day
 pub month_names : (year : ℤ) (month : Month) (y n d : ℕ) → pos y ≡ year → month_number month ≡ n → NamesDay (OfMonth year month d) y n d
 unfolding calendar_date_of
-month_names year month y n d same number = λ is.
-    let in_year : is_year (pos y) ≡ true = let t = is.0 in grind (arith, nat_tests, ints) in
-    rw (← same, number, in_year) (ap (λ (o : Option ℕ). ok_or o (out_of_conditional_range Day)) (day_found (pos y) n d is))
+month_names year month y n d same number = grind (arith, nat_tests, day_found)
 
 -- any date by the count of its day
 pub count_names : (date : WrittenDate) (year : ℤ) (y n d count : ℕ) → day_named date ≡ Ok count → pos y ≡ year → day_at count ≡ ymd year n d → NamesDay date y n d

@@ -13,7 +13,6 @@ use Rattle.parsing_values.specs.Resolution.{permitted_time_of, leap_time_of}
 use Rattle.parsing_values.specs.StandIn.{leap_checked}
 use Rattle.parsing_iso8601.specs.declared.kind.Kind.{Kind}
 use Rattle.parsing_iso8601.specs.declared.written.WrittenDate.{WrittenDate}
-use Rattle.parsing_iso8601.specs.declared.written.WrittenDate.TheVariants.{OfMonth}
 use Rattle.parsing_iso8601.specs.declared.written.WrittenTime.{WrittenTime}
 use Rattle.parsing_iso8601.specs.declared.written.WrittenOffset.{WrittenOffset}
 use Rattle.parsing_iso8601.specs.Moment.{IsOfOffset}
@@ -33,8 +32,7 @@ use Rattle.parsing_values.proofs.lemmas.Moments.{fields_time, moment_is}
 
 pub date_named : (d : WrittenDate) → named_date (date_parts (Some d)) ≡ in_range (day_named d)
 unfolding named_date by_ordinal by_day by_iso_week year_of split_year
-date_named (OfMonth year month day) = refl
-date_named d = refl
+date_named d = grind (arith, nat_tests)
 
 pub time_named : (t : WrittenTime) → named_time true (time_parts (Some t)) ≡ in_range (leap_time_of t.hour t.minute t.second t.subsecond)
 unfolding named_time hour_of half_day_hour finer_parts
@@ -64,7 +62,6 @@ fields_named f bytes b1 b3 k year month day hour minute second fraction o in_day
     let date = in_day.0 in
     let t : WrittenTime = Times.time_of hour minute second fraction in
     let zone = in_offset.0 in
-    let most : second ≤ 59 = omega (arith, numbers.same_second, f.within_a_minute) in
     let plain : (second == 60) ≡ false = grind (arith, nat_tests) in
     let there : IsDay (pos year) month day = rw (← numbers.same_year, ← numbers.same_month, ← numbers.same_day) f.day_is_there in
     let named_day : day_named date ≡ Ok (day_of_fields f) = rw (numbers.same_year, numbers.same_month, numbers.same_day) (in_day.2 there) in

@@ -1,5 +1,5 @@
 -- An offset that is all that is there.
-use Rattle.std.proofs.Common.{◌≡◌, ℕ, ◌≤◌, ◌==◌, Bool, true, false, List, [], Option, Some, None, Ok, refl, ◌∙◌, ℤ}
+use Rattle.std.proofs.Common.{◌≡◌, ℕ, ◌≤◌, ◌==◌, Bool, false, List, [], Option, Some, None, Ok, refl, ◌∙◌, ℤ}
 use Rattle.std.specs.Option.{unwrap_or}
 use Rattle.std.specs.Prelude.{pos, ◌*ℤ◌}
 use Rattle.std.proofs.lemmas.Bool.{le-leb}
@@ -13,6 +13,8 @@ use Rattle.parsing_iso8601.specs.Offsets as Offsets
 use Rattle.parsing_iso8601.specs.Offsets.{maybe_colon, offset_minute, signed_offset, offset, zulu}
 use Rattle.parsing_iso8601.specs.declared.kind.Kind.{Kind}
 use Rattle.parsing_iso8601.specs.declared.written.WrittenOffset.{WrittenOffset}
+use Rattle.std.proofs.Common.{arith}
+use Rattle.std.proofs.lemmas.Bool.Decides.{nat_tests}
 
 pub signed_there : (kind : Kind) (bytes b1 b2 b3 : List ℕ) (mark hour minute : ℕ) → sign bytes ≡ Some (mark, b1) → digits 2 b1 ≡ Some (hour, b2) → hour ≤ 25 → maybe_colon kind b2 ≡ Some (tt, b3) → offset_minute b3 ≡ Some (minute, []) → signed_offset kind bytes ≡ Some (Offsets.offset_of (mark == hyphen) hour minute, [])
 unfolding signed_offset
@@ -20,8 +22,7 @@ signed_there kind bytes b1 b2 b3 mark hour minute e0 e1 few e2 e3 = rw (e0, e1, 
 
 pub seconds_of : (is_negative : Bool) (hour minute : ℕ) → offset_of (signed is_negative hour) (signed is_negative minute) (pos 0) ≡ signed_offset_of is_negative hour minute
 unfolding signed_offset_of
-seconds_of true hour minute = refl
-seconds_of false hour minute = refl
+seconds_of is_negative hour minute = grind (arith, nat_tests)
 
 -- an offset is all that was there, and these are its minutes
 abbrev pub IsAllOffset : Option (WrittenOffset × List ℕ) → ℤ → Type 0

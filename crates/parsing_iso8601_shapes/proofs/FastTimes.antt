@@ -1,6 +1,5 @@
 -- A time of day by its pieces, of the extended kind and of the basic one.
-use Rattle.std.proofs.Common.{◌≡◌, ℕ, ◌+◌, ◌<◌, ◌≤◌, ◌==◌, true, false, List, length, take, drop, Option, Some, None, refl, ◌∙◌, arith, lit<}
-use Rattle.std.proofs.lemmas.Bool.{le-leb, lt-ltb}
+use Rattle.std.proofs.Common.{◌≡◌, ℕ, ◌+◌, ◌<◌, ◌≤◌, true, List, length, take, drop, Option, Some, None, refl, ◌∙◌, arith, lit<}
 use Rattle.std.proofs.lemmas.Bool.Decides.{nat_tests}
 use Rattle.base.specs.Bytes.{colon}
 use Rattle.parsing_combinator.specs.Pieces.{digits, digit_count, digit_run, fraction, byte}
@@ -32,9 +31,7 @@ pub time_of_pieces : (b0 b1 b2 b3 b4 b5 b6 rest : List ℕ) (h m s : ℕ) (run :
     → h ≤ 23 → m ≤ 59 → s ≤ 60 → subsecond_of run < 1_000_000_000
     → time Extended true b0 ≡ Some ((time_of h m s (subsecond_of run), Extended), rest)
 unfolding time designator from_hour kind_of_time minutes from_minute seconds extended_seconds due_second to_second
-time_of_pieces b0 b1 b2 b3 b4 b5 b6 rest h m s run p0 p1 p2 p3 p4 p5 p6 hh hm hs hn =
-    rw (p0, before_colon b1 h b2 b3 p1 p2, le-leb h 23 hh, p2, before_colon b3 m b4 b5 p3 p4, le-leb m 59 hm, p4, number_of b5 s b6 run rest p5 p6)
-    (rw (le-leb s 60 hs, lt-ltb (subsecond_of run) 1_000_000_000 hn) refl)
+time_of_pieces b0 b1 b2 b3 b4 b5 b6 rest h m s run p0 p1 p2 p3 p4 p5 p6 hh hm hs hn = grind (arith, nat_tests, before_colon, number_of)
 
 pub before_digits : (bytes : List ℕ) (n : ℕ) (rest : List ℕ) (x : ℕ × List ℕ) → digits 2 bytes ≡ Some (n, rest) → digits 2 rest ≡ Some x → number bytes ≡ Some ((n, None), rest)
 before_digits bytes n rest x e f = whole_number bytes n rest e (no_mark 2 rest x (lit< tt) f)
@@ -62,9 +59,7 @@ short_subsecond bytes after rest n mark f short =
 -- a fraction of so many digits, rounded
 pub long_subsecond : (bytes after rest : List ℕ) (count n : ℕ) → decimal_mark bytes ≡ Some (tt, after) → 0 < count → digit_count after ≡ count → drop count after ≡ rest → rounded_part_of 1_000_000_000 (take count after) ≡ n → subsecond bytes ≡ Some (n, rest)
 unfolding subsecond fraction_digits due_digits digit_run
-long_subsecond bytes after rest count n mark some is left value =
-    let there : (count == 0) ≡ false = grind (arith, nat_tests) in
-    rw mark (rw (is, there, left, value) refl)
+long_subsecond bytes after rest count n mark some is left value = grind (arith, nat_tests)
 
 pub no_subsecond : (bytes : List ℕ) → decimal_mark bytes ≡ None → subsecond bytes ≡ Some (0, bytes)
 unfolding subsecond fraction_digits

@@ -52,8 +52,7 @@ right (suc (suc (suc (suc (suc (suc (suc (suc (suc (suc (suc (suc n)))))))))))) 
 right at lt = λ p q. (refl, refl, λ a b d. refl)
 
 second_of : (form at : ℕ) (s : Bool) → form < 6 → at ≡ row_of form s → nat_lt at 6 ≡ s
-second_of form at true lt is = grind (arith, nat_tests)
-second_of form at false lt is = grind (arith, nat_tests)
+second_of form at s lt is = grind (arith, nat_tests)
 
 pub row_fits : (form at : ℕ) (s : Bool) → form < 6 → at ≡ row_of form s → at < 12 → (p : are_moves (row at).lanes ≡ true) (q : are_moves (row at).back.lanes ≡ true) (a : 0 < (row at).back.at → (row at).back.at + 16 ≤ (row at).length) (b : lets_year (windows_of (row at) p q) (row at).length 0 ≡ true) (d : are_bounded (windows_of (row at) p q) true ≡ true)
     → fits (shape_of (row at) p q a b d) (front_parts (row at).dating (row at).is_extended s) ≡ true

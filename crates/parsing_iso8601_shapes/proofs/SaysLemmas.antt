@@ -1,5 +1,5 @@
 -- A text that says a layout is read by the definition of ISO 8601, and names the moment of its numbers.
-use Rattle.std.proofs.Common.{◌≡◌, ℕ, ◌+◌, ◌*◌, ◌<◌, ◌≤◌, ◌∙◌, Bool, true, false, leb, List, [], drop, get_or, refl, arith}
+use Rattle.std.proofs.Common.{◌≡◌, ℕ, ◌+◌, ◌*◌, ◌<◌, ◌≤◌, Bool, true, leb, List, [], drop, get_or, refl, arith}
 use Rattle.std.proofs.lemmas.List.{get_or-drop}
 use Rattle.parsing_values.specs.Moment as Moment
 use Rattle.parsing_values.specs.Numbers.{HaveNumbers}
@@ -16,24 +16,20 @@ use Rattle.parsing_places.specs.Tail.{is_zulu}
 use Rattle.parsing_places.specs.declared.ending.Ending.{Ending}
 use Rattle.parsing_iso8601_shapes.specs.Layout.{NamesDate, date_parts, clock_parts, front_parts}
 use Rattle.parsing_iso8601_shapes.specs.declared.form.Dating.{Dating}
-use Rattle.parsing_iso8601_shapes.specs.declared.form.Dating.TheVariants.{Calendar, Ordinal, Week}
 use Rattle.parsing_iso8601_shapes.proofs.DateLemmas.{high_of, low_of, kind_of, date_read}
 use Rattle.parsing_iso8601_shapes.proofs.EndLemmas.{EndTime, ReadsFraction, may_end, clock_read, designator_there, short_fraction_read, long_fraction_read, zone_ends, zone_read}
 use Rattle.parsing_iso8601_shapes.proofs.FastMoments.{fields_named}
+use Rattle.std.proofs.lemmas.Bool.Decides.{nat_tests}
 
 module _ (dating : Dating) (is_extended has_second : Bool) (e : Ending) (bytes : ℕ) (text : List ℕ) (n : Numbers) (m : SaysNumbers has_second (is_zulu e) (front_parts dating is_extended has_second) bytes (zone_parts e) text n) where
   abbrev end : List ℕ
   end = drop (length_of (front_parts dating is_extended has_second)) text
 
   high_is : (d : Dating) → high_of d m.values ≡ n.high
-  high_is Calendar = m.dated.month
-  high_is Ordinal = m.dated.tens
-  high_is Week = m.dated.week
+  high_is d = grind (arith, nat_tests)
 
   low_is : (d : Dating) → low_of d m.values ≡ n.low
-  low_is Calendar = m.dated.day
-  low_is Ordinal = m.dated.ones
-  low_is Week = m.dated.weekday
+  low_is d = grind (arith, nat_tests)
 
   -- with what a fraction is read as
   numbers_read : (nanosecond month day : ℕ) (f : Fields) → may_end is_extended e ≡ true → ((rest : List ℕ) → Says (fraction_parts bytes) end m.values rest → EndTime rest → ReadsFraction has_second end nanosecond rest) → nanosecond < 1_000_000_000
@@ -53,8 +49,7 @@ module _ (dating : Dating) (is_extended has_second : Bool) (e : Ending) (bytes :
       few (zone_read is_extended e z.0 v n.offset written z.2 m.offset_is) all m.hour_few m.minute_few
 
   fraction_by : (b : Bool) → has_second ≡ b → bytes ≤ 10 → (rest : List ℕ) → Says (fraction_parts bytes) end m.values rest → EndTime rest → ReadsFraction b end n.fraction rest
-  fraction_by true is few rest says ends = rw m.fraction_is at (short_fraction_read end rest m.values bytes m.more few (λ zero. m.fraction_is ∙ m.none zero) says ends)
-  fraction_by false is few rest says ends = let zero = m.short is in (rw zero at says, m.none zero)
+  fraction_by b is few rest says ends = grind (arith, nat_tests, short_fraction_read)
 
   -- with at most nine digits of a fraction
   pub short_directly : (month day : ℕ) (f : Fields) → may_end is_extended e ≡ true → bytes ≤ 10 → NamesDate dating n.year n.high n.low month day → HaveNumbers f n.year month day n.minute n.second n.fraction n.offset → IsOfOffset text (Moment.moment_of f)

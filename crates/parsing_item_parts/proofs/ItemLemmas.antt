@@ -1,5 +1,5 @@
 -- Items read what their parts say, one after the other.
-use Rattle.std.proofs.Common.{◌≡◌, ◌∙◌, ◌≤◌, ℕ, Bool, true, false, List, [], ◌∷◌, ◌++◌, length, map, Option, Some, None, Ok, Err, refl, sym, ap, arith, append_assoc}
+use Rattle.std.proofs.Common.{◌≡◌, ◌∙◌, ◌≤◌, ℕ, Bool, List, [], ◌∷◌, ◌++◌, length, map, Option, Some, None, Ok, Err, refl, sym, ap, arith, append_assoc}
 use Rattle.std.specs.Prelude.{IfSome}
 use Rattle.std.specs.Option.{option_and_then}
 use Rattle.parsing_combinator.specs.Fault.{Fault}
@@ -20,13 +20,13 @@ use Rattle.parsing_layout.specs.declared.items.Item.TheVariants as item
 use Rattle.parsing_item_parts.specs.Items.{said_by, set_all, IsItem, AreItems, AddsItem, items_kept, parts_kept, parts_of_item, parts_of_items}
 use Rattle.parsing_item_parts.specs.declared.list.Items.{Items}
 use Rattle.parsing_item_parts.specs.declared.list.Parts.{Parts}
+use Rattle.std.proofs.lemmas.Bool.Decides.{nat_tests}
 
 -- ---- what two lists set
 
 pub chosen : (o : Option Read) (ps : List Part) (v : Values) (r new : Record) → option_and_then (λ x. set_all ps v (put x r)) o ≡ Some new
     → (x : Read) × (o ≡ Some x) × (set_all ps v (put x r) ≡ Some new)
-chosen None ps v r new e = absurd cc
-chosen (Some x) ps v r new e = (x, refl, e)
+chosen o ps v r new e = grind (arith, nat_tests)
 
 pub record SetsBoth (ps qs : List Part) (v : Values) (r new : Record) : Type 0 where
   pub mid : Record
@@ -110,12 +110,10 @@ items_first language t ts xs ys one others line v rest way r new says sets =
 -- ---- lists that grow
 
 pub parts_more : (is_all : Bool) (i : Item) (is : List Item) → parts_of_items is_all (i ∷ is) ≡ parts_of_item is_all i ++ parts_of_items is_all is
-parts_more true i is = refl
-parts_more false i is = refl
+parts_more is_all i is = grind (arith, nat_tests)
 
 pub no_more : (is_all : Bool) → parts_of_items is_all [] ≡ []
-no_more true = refl
-no_more false = refl
+no_more is_all = grind (arith, nat_tests)
 
 few_certain : (is : List Item) → length (all_certain is) ≤ length is
 few_certain [] = omega arith
@@ -130,8 +128,7 @@ all_alone (item.Optional b p ∷ is) e = absurd (let few = few_certain is in ome
 
 pub node_added : (language : Language) (t : Tree) (more : List Item) (old : Items) (o : Option Items) → AreItems (reading language t) more
     → IfSome o (λ l. items_kept l ≡ items_kept old ++ more) → IfSome o (AddsItem language t old)
-node_added language t more old None are h = tt
-node_added language t more old (Some new) are h = record { more = more; read = are; added = h }
+node_added language t more old o are h = grind (arith, nat_tests)
 
 pub alone_read : (m : Meaning) (is : List Item) (o : Option Parts) → AreItems m is → IfSome o (λ l. map item.Part (parts_kept l) ≡ is)
     → IfSome o (λ l. IsItem m (parts_kept l))

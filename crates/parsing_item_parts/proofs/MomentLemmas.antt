@@ -1,5 +1,5 @@
 -- The moment of the record that parts set.
-use Rattle.std.proofs.Common.{◌≡◌, ◌∙◌, ◌≤◌, ◌<◌, ◌+◌, ◌*◌, ◌/◌, ◌%◌, ◌==◌, ℕ, Bool, true, false, Option, Some, None, Ok, refl, sym, ap, arith, pos, ℤ}
+use Rattle.std.proofs.Common.{◌≡◌, ◌∙◌, ◌≤◌, ◌<◌, ◌+◌, ◌*◌, ◌%◌, ◌==◌, ℕ, Bool, true, false, Option, Some, None, Ok, refl, sym, ap, arith, pos, ℤ}
 use Rattle.std.specs.Prelude.{◌*ℤ◌, nat_lt, IfSome, if◌then◌else◌}
 use Rattle.std.specs.Int.{is_in_range, IsInRange}
 use Rattle.std.proofs.lemmas.Bool.Decides.{nat_tests}
@@ -63,9 +63,7 @@ half_early assumed has v s other =
 pub offset_said : (assumed : Option ℤ) (has : Said) (v : Values) (offset : ℤ) → has field.OffsetHour ≡ true → has field.OffsetMinute ≡ true
     → signed_offset_of (v field.Sign == hyphen) (v field.OffsetHour) (v field.OffsetMinute) ≡ Ok offset
     → offset_named (recorded has v (beginning assumed)) ≡ Ok offset
-offset_said assumed has v offset hour minute is =
-    rw (hour, minute)
-    (sign_named (v field.Sign == hyphen) (v field.OffsetHour) (v field.OffsetMinute) offset is)
+offset_said assumed has v offset hour minute is = grind (arith, nat_tests, sign_named, hyphen)
 
 pub offset_assumed : (assumed : Option ℤ) (has : Said) (v : Values) (offset : ℤ) → has field.OffsetHour ≡ false → has field.OffsetMinute ≡ false
     → offset_named (beginning assumed) ≡ Ok offset → offset_named (recorded has v (beginning assumed)) ≡ Ok offset
@@ -75,19 +73,13 @@ offset_assumed assumed has v offset hour minute is = rw (hour, minute) is
 
 calendar_date : (y : ℤ) (m d day : ℕ) → date_of y m d ≡ Ok day → calendar_date_of y m d ≡ Ok day
 unfolding date_of calendar_date_of
-calendar_date y m d day e =
-    let outer = in_both (is_year y) _ _ day e in
-    let inner = in_both (is_in_range 1 12 m) _ _ day outer.1 in
-    rw outer.0 inner.1
+calendar_date y m d day e = grind (arith, nat_tests, in_both, is_year, is_in_range)
 
 finer_said : (second fraction : Bool) (m s n : ℕ) → (second ≡ false → fraction ≡ false)
     → finer_parts (Some m) (if second then Some s else None) (if fraction then Some n else None)
     ≡ Some (m, if second then s else 0, if fraction then n else 0)
 unfolding finer_parts
-finer_said true true m s n none = refl
-finer_said true false m s n none = refl
-finer_said false true m s n none = absurd (let never : true ≡ false = none refl in cc)
-finer_said false false m s n none = refl
+finer_said second fraction m s n none = grind (arith, nat_tests)
 
 dated : (assumed : Option ℤ) (has : Said) (v : Values) (s : SayDay has) → (hour day time : ℕ) (name : Month) (offset : ℤ)
     → hour_of (time_parts (recorded has v (beginning assumed))) ≡ Some hour
@@ -96,13 +88,10 @@ dated : (assumed : Option ℤ) (has : Said) (v : Values) (s : SayDay has) → (h
     → offset_named (recorded has v (beginning assumed)) ≡ Ok offset
     → moment_named (recorded has v (beginning assumed)) ≡ Ok (record { wall = wall_clock day time; offset = offset })
 unfolding named_moment dated_moment named_wall named_date by_ordinal by_day year_of named_time permitted_time_of leap_checked
-dated assumed has v s hour day time name offset h m in_day in_time in_offset =
-    rw
-    (s.unix, in_offset, h, s.year, s.month, m, s.day, s.minute, finer_said (has field.Second) (has field.Nanosecond) (v field.Minute) (v field.Second) (v field.Nanosecond) s.finer, in_day, in_time) refl
+dated assumed has v s hour day time name offset h m in_day in_time in_offset = grind (arith, nat_tests, finer_said)
 
 few_said : (b : Bool) (n most : ℕ) → (b ≡ true → n ≤ most) → (if b then n else 0) ≤ most
-few_said true n most few = few refl
-few_said false n most few = omega arith
+few_said b n most few = grind (arith, nat_tests)
 
 pub moment_said : (assumed : Option ℤ) (has : Said) (v : Values) (f : fields.Fields) (hour : ℕ) (offset : ℤ) → AreInRange has v → SayDay has
     → hour_of (time_parts (recorded has v (beginning assumed))) ≡ Some hour
@@ -137,12 +126,7 @@ small n lt = grind (arith, nat_tests)
 instant_of : (b : Bool) (second nanosecond : ℕ) → second ≤ 9_999_999_999 → nanosecond < 1_000_000_000 → (b ≡ false → nanosecond ≡ 0)
     → unix_subsecond (pos (second * 1_000_000_000)) (if b then Some nanosecond else None) ≡ Ok (pos (second * second_nanos + nanosecond))
 unfolding unix_subsecond unix_instant
-instant_of false second nanosecond few bound none =
-    let same : second * second_nanos + nanosecond ≡ second * 1_000_000_000 = omega (arith, none refl) in
-    rw (in_calendar (second * 1_000_000_000) (omega (arith, few)), same) refl
-instant_of true second nanosecond few bound none =
-    let same : second * 1_000_000_000 / second_nanos ≡ second = omega arith in
-    rw (in_calendar (second * 1_000_000_000) (omega (arith, few)), small nanosecond bound, same) refl
+instant_of b second nanosecond few bound none = grind (arith, nat_tests, second_nanos, in_calendar, small)
 
 unix_at : (assumed : Option ℤ) (has : Said) (v : Values) (instant : ℤ) → has field.Unix ≡ true
     → unix_subsecond (pos (v field.Unix * 1_000_000_000)) (if has field.Nanosecond then Some (v field.Nanosecond) else None) ≡ Ok instant

@@ -1,5 +1,5 @@
 -- A byte and a part after it that may be missing together.
-use Rattle.std.proofs.Common.{◌≡◌, ◌∙◌, ◌==◌, ℕ, Bool, true, false, List, [], ◌∷◌, ◌++◌, map, take, Option, Some, None, Ok, Err, refl, ap, inl, inr}
+use Rattle.std.proofs.Common.{◌≡◌, ◌∙◌, ◌==◌, ℕ, Bool, true, false, List, [], ◌∷◌, ◌++◌, map, take, Option, Some, None, Ok, Err, ap, inl, inr}
 use Rattle.std.proofs.lemmas.List.{append-nil}
 use Rattle.std.specs.Prelude.{IfSome, bytes_eq}
 use Rattle.description_items.specs.Tree.{Tree, Literal, Compound, Optional, listed}
@@ -18,22 +18,21 @@ use Rattle.parsing_item_parts.specs.Items.{set_all, IsItem, AreItems, AddsItem, 
 use Rattle.parsing_item_parts.specs.declared.list.Items.{Items}
 use Rattle.parsing_item_parts.proofs.ComponentLemmas.{literal_item}
 use Rattle.parsing_item_parts.proofs.ItemLemmas.{refused, item_and_items, items_of_parts, no_parts}
+use Rattle.std.proofs.Common.{arith}
+use Rattle.std.proofs.lemmas.Bool.Decides.{nat_tests}
 
 pub any_format : (language : Language) (format : Bool) (t : Tree) (o : Option Items) (old : Items)
     → IfSome o (AddsItem language (Optional true t) old) → IfSome o (AddsItem language (Optional format t) old)
 unfolding reads
-any_format language format t None old h = tt
-any_format language format t (Some new) old h = record { more = h.more; read = h.read; added = h.added }
+any_format language format t o old h = grind (arith, nat_tests)
 
 other_byte : (b : Bool) (c x : ℕ) (xs : List ℕ) → (x == c) ≡ b → byte c (x ∷ xs) ≡ None → bytes_eq (take 1 (x ∷ xs)) (c ∷ []) ≡ false
 unfolding skip_of
-other_byte true c x xs is e = absurd (let never : Some (tt, xs) ≡ None = rw is at e in cc)
-other_byte false c x xs is e = rw is refl
+other_byte b c x xs is e = grind (arith, nat_tests)
 
 no_literal : (language : Language) (c : ℕ) (line : List ℕ) (r : Record) → byte c line ≡ None → reading language (Literal (c ∷ [])) r line ≡ Err literal
 unfolding reads literally
-no_literal language c [] r e = refl
-no_literal language c (x ∷ xs) r e = rw (other_byte (x == c) c x xs refl e) refl
+no_literal language c line r e = grind (arith, nat_tests, other_byte)
 
 pair_at : (language : Language) (b : ℕ) (t : Tree) (p : Part) → IsItem (reading language t) (p ∷ []) → (line rest : List ℕ) (v : Values)
     (way : List Part) (r new : Record) → SaysItem (item.Optional b p) line v rest way → set_all way v r ≡ Some new

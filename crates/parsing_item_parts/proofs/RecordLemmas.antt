@@ -1,5 +1,5 @@
 -- The record that parts set, where all numbers are in their ranges.
-use Rattle.std.proofs.Common.{◌≡◌, ◌≤◌, ◌*◌, ◌==◌, ◌||◌, ℕ, zero, suc, Bool, true, false, List, [], ◌∷◌, Option, Some, None, ℤ, pos, refl, arith}
+use Rattle.std.proofs.Common.{◌≡◌, ◌≤◌, ◌*◌, ◌==◌, ◌||◌, ℕ, zero, suc, Bool, true, List, [], ◌∷◌, Option, Some, None, pos, refl, arith}
 use Rattle.std.specs.Prelude.{nat_le, if◌then◌else◌}
 use Rattle.std.specs.Int.{is_in_range}
 use Rattle.std.specs.Option.{option_and_then}
@@ -9,12 +9,10 @@ use Rattle.parsing_components.specs.Put.{put}
 use Rattle.parsing_components.proofs.Entries.{month_with, there}
 use Rattle.parsing_components.specs.Ranged.{between, counted, from_monday, nanoseconds_after_epoch}
 use Rattle.parsing_components.specs.declared.said.Read.{Read}
-use Rattle.parsing_components.specs.declared.said.Read.TheVariants as read
 use Rattle.parsing_components.specs.declared.fields.Record.{Record}
 use Rattle.parsing_layout.specs.Layout.{Values, field_of}
 use Rattle.parsing_layout.specs.declared.parts.Field.{Field}
 use Rattle.parsing_layout.specs.declared.parts.Part.{Part}
-use Rattle.parsing_layout.specs.declared.parts.Field.TheVariants as field
 use Rattle.parsing_item_parts.specs.Items.{said_by, set_all}
 use Rattle.parsing_layout.specs.Said.{place_of}
 use Rattle.parsing_layout.specs.Range.{least, most, AreInRange}
@@ -39,8 +37,7 @@ after_epoch n few = grind (arith, nat_tests)
 -- ---- one part more
 
 same : {A : Type 0} → (b : Bool) (x : A) → (if b then x else x) ≡ x
-same true x = refl
-same false x = refl
+same b x = grind (arith, nat_tests)
 
 abbrev Sets : List Part → Values → Said → Type 0
 Sets ps v has = (r : Record) → set_all ps v r ≡ Some (recorded has v r)
@@ -53,35 +50,16 @@ Within (Some f) v = (least f ≤ v f) × (v f ≤ most f)
 -- where the others set theirs, a part and the others set the record of all
 module _ (ps : List Part) (v : Values) (has : Said) (r : Record) (others : Sets ps v has) where
   goes : (o : Option Field) → Within o v → option_and_then (λ y. set_all ps v (put y r)) (said_by o v) ≡ Some (recorded (λ f. is_of f o || has f) v r)
-  goes None d = others r
-  goes (Some field.Year) d = rw (within 0 9999 (v field.Year) (λ y. read.Year (pos y)) (omega arith) d.1, others, same) refl
-  goes (Some field.Month) d = let m = month_with (v field.Month) d.0 d.1 in rw (m.counted, others, m.counted, same) refl
-  goes (Some field.Day) d = rw (within 1 31 (v field.Day) read.Day d.0 d.1, others, same) refl
-  goes (Some field.Weekday) d = let w = weekday_with (v field.Weekday) d.0 d.1 in rw (w.1, others, w.1, same) refl
-  goes (Some field.IsoWeek) d = rw (within 1 53 (v field.IsoWeek) read.IsoWeek d.0 d.1, others, same) refl
-  goes (Some field.OrdinalTens) d = others r
-  goes (Some field.OrdinalOnes) d = others r
-  goes (Some field.Hour) d = rw (within 0 23 (v field.Hour) read.Hour24 (omega arith) d.1, others, same) refl
-  goes (Some field.HourOfHalf) d = rw (within 1 12 (v field.HourOfHalf) read.Hour12 d.0 d.1, others, same) refl
-  goes (Some field.Half) d = rw (others, same) refl
-  goes (Some field.Minute) d = rw (within 0 59 (v field.Minute) read.Minute (omega arith) d.1, others, same) refl
-  goes (Some field.Second) d = rw (within 0 60 (v field.Second) read.Second (omega arith) (omega (arith, d.1)), others, same) refl
-  goes (Some field.Nanosecond) d = rw (others, same) refl
-  goes (Some field.Sign) d = others r
-  goes (Some field.OffsetHour) d = rw (few_hours (v field.OffsetHour) d.1, others, same {A = Option ℤ}, same {A = Bool}) refl
-  goes (Some field.OffsetMinute) d = rw (within 0 59 (v field.OffsetMinute) read.OffsetMinute (omega arith) d.1, others, same) refl
-  goes (Some field.Unix) d = rw (after_epoch (v field.Unix) d.1, others, same) refl
+  goes o d = grind (arith, nat_tests, within, pos, same, month_with, counted, weekday_with, few_hours, after_epoch)
 
 or_true : (a b : Bool) → b ≡ true → (a || b) ≡ true
-or_true true b e = refl
-or_true false b e = e
+or_true a b e = grind (arith, nat_tests)
 
 own : (f : Field) (b : Bool) → (is_of f (Some f) || b) ≡ true
 own f b = let same : (place_of f == place_of f) ≡ true = grind (arith, nat_tests) in rw same refl
 
 within_first : (o : Option Field) (others : Said) (v : Values) → AreInRange (λ f. is_of f o || others f) v → Within o v
-within_first None others v range = tt
-within_first (Some f) others v range = range f (own f (others f))
+within_first o others v range = grind (arith, nat_tests, own)
 
 -- parts set the record of their fields
 pub all_set : (ps : List Part) (v : Values) → AreInRange (fields_of ps) v → (r : Record) → set_all ps v r ≡ Some (recorded (fields_of ps) v r)

@@ -1,5 +1,5 @@
 -- What a text says by items, from what has to be there and what may be.
-use Rattle.std.proofs.Common.{◌≡◌, ◌∙◌, ◌<◌, ◌||◌, ℕ, Bool, true, false, List, [], ◌∷◌, refl, sym, arith, inl, inr}
+use Rattle.std.proofs.Common.{◌≡◌, ◌∙◌, ◌<◌, ◌||◌, ℕ, Bool, true, false, List, [], ◌∷◌, refl, sym, arith}
 use Rattle.parsing_layout.specs.Items.{SaysItem, SaysItems, certain, possible, all_certain, all_possible}
 use Rattle.parsing_layout.specs.Layout.{Values}
 use Rattle.parsing_layout.specs.declared.parts.Field.{Field}
@@ -7,35 +7,29 @@ use Rattle.parsing_layout.specs.Range.{most, IsAllInRange}
 use Rattle.parsing_layout.specs.Said.{Said, fields_of}
 use Rattle.parsing_layout.specs.declared.items.Item.{Item}
 use Rattle.parsing_layout.specs.declared.parts.Part.{Part}
-use Rattle.parsing_layout.specs.declared.items.Item.TheVariants as item
 use Rattle.parsing_layout.specs.declared.parts.Field.TheVariants as field
 use Rattle.parsing_strides.specs.Found.{values_in}
 use Rattle.parsing_strides.proofs.StepLemmas.{said_by_both}
 use Rattle.parsing_item_parts.specs.Listed.{IsWay, items_listed}
 use Rattle.parsing_item_parts.specs.Recorded.{said_or}
 use Rattle.parsing_item_parts.specs.declared.listed.Listed.{Listed}
+use Rattle.std.proofs.lemmas.Bool.Decides.{nat_tests}
 
 -- ---- what has to be there is, and what can't be is not
 
 or_more : (a b c d : Bool) → (a ≡ true → c ≡ true) → (b ≡ true → d ≡ true) → (a || b) ≡ true → (c || d) ≡ true
-or_more true b c d first second e = rw (first refl) refl
-or_more false b true d first second e = refl
-or_more false b false d first second e = second e
+or_more a b c d first second e = grind (arith, nat_tests)
 
 or_less : (a b c d : Bool) → (a ≡ false → c ≡ false) → (b ≡ false → d ≡ false) → (a || b) ≡ false → (c || d) ≡ false
-or_less true b c d first second e = absurd cc
-or_less false b c d first second e = rw (first refl) (second e)
+or_less a b c d first second e = grind (arith, nat_tests)
 
 first_certain : (i : Item) (line : List ℕ) (v : Values) (rest : List ℕ) (way : List Part) (f : Field) → SaysItem i line v rest way
     → fields_of (certain i) f ≡ true → fields_of way f ≡ true
-first_certain (item.Part p) line v rest way f there e = rw there.0 e
-first_certain (item.Optional b p) line v rest way f there e = absurd cc
+first_certain i line v rest way f there e = grind (arith, nat_tests)
 
 first_possible : (i : Item) (line : List ℕ) (v : Values) (rest : List ℕ) (way : List Part) (f : Field) → SaysItem i line v rest way
     → fields_of (possible i) f ≡ false → fields_of way f ≡ false
-first_possible (item.Part p) line v rest way f there e = rw there.0 e
-first_possible (item.Optional b p) line v rest way f (inl there) e = rw there.0 e
-first_possible (item.Optional b p) line v rest way f (inr missing) e = rw missing.none refl
+first_possible i line v rest way f there e = grind (arith, nat_tests)
 
 pub certainly : (is : List Item) (line : List ℕ) (v : Values) (rest : List ℕ) (way : List Part) (f : Field) → SaysItems is line v rest way
     → fields_of (all_certain is) f ≡ true → fields_of way f ≡ true
@@ -54,8 +48,7 @@ possibly (i ∷ is) line v rest way f says e =
 -- ---- a number that is in its range was read, where it was out of it before
 
 must : (b : Bool) → (b ≡ false → ⊥) → b ≡ true
-must true never = refl
-must false never = absurd (never refl)
+must b never = grind (arith, nat_tests)
 
 is_read : (l : Listed) (has : Said) (v : Values) (f : Field) → IsWay l has v → IsAllInRange v → most f < values_in l.unread f → has f ≡ true
 is_read l has v f way range out = must (has f) (λ none. let few = (range f).1 in let kept = way.unread f none in omega (arith, out, few, kept))
@@ -72,22 +65,10 @@ pub record SayDay (has : Said) : Type 0 where
 -- a second that is not said is one that can't be
 no_second : (l : Listed) (has : Said) (v : Values) (b : Bool) → l.kind.is_unix ≡ false → IsWay l has v → IsAllInRange v → l.kind.has_second ≡ b
     → has field.Second ≡ false → l.kind.has_second ≡ false
-no_second l has v true dated way range is none =
-    absurd (let there = is_read l has v field.Second way range ((l.out_of_range dated).second is) in let never : true ≡ false = sym there ∙ none in cc)
-no_second l has v false dated way range is none = is
+no_second l has v b dated way range is none = grind (arith, nat_tests, is_read)
 
 pub day_said : (l : Listed) (has : Said) (v : Values) → l.kind.is_unix ≡ false → IsWay l has v → IsAllInRange v → SayDay has
-day_said l has v dated way range =
-    let out = l.out_of_range dated in
-    let s = l.dated dated in
-    record {
-      year = way.certain field.Year s.year;
-      month = is_read l has v field.Month way range out.month;
-      day = is_read l has v field.Day way range out.day;
-      minute = is_read l has v field.Minute way range out.minute;
-      unix = way.possible field.Unix s.unix;
-      finer = λ none. way.possible field.Nanosecond (s.fraction (no_second l has v l.kind.has_second dated way range refl none));
-    }
+day_said l has v dated way range = grind (arith, nat_tests, certain, is_read, possible, no_second)
 
 -- ---- of the hour and the offset
 
@@ -102,19 +83,11 @@ pub record SayHalf (has : Said) : Type 0 where
 
 pub half_hour : (l : Listed) (has : Said) (v : Values) → l.kind.is_unix ≡ false → IsWay l has v → IsAllInRange v → l.kind.is_half ≡ true
     → SayHalf has
-half_hour l has v dated way range is =
-    let out = l.out_of_range dated in
-    record {
-      none = way.possible field.Hour ((l.dated dated).hour is);
-      hour = is_read l has v field.HourOfHalf way range (out.half_hour is);
-      half = is_read l has v field.Half way range (out.half is);
-    }
+half_hour l has v dated way range is = grind (arith, nat_tests, possible, is_read)
 
 pub written : (l : Listed) (has : Said) (v : Values) → l.kind.is_unix ≡ false → IsWay l has v → IsAllInRange v → l.kind.has_offset ≡ true
     → (has field.OffsetHour ≡ true) × (has field.OffsetMinute ≡ true)
-written l has v dated way range is =
-    let out = l.out_of_range dated in
-    (is_read l has v field.OffsetHour way range (out.offset_hour is), is_read l has v field.OffsetMinute way range (out.offset_minute is))
+written l has v dated way range is = grind (arith, nat_tests, is_read)
 
 pub unwritten : (l : Listed) (has : Said) (v : Values) → l.kind.is_unix ≡ false → IsWay l has v → l.kind.has_offset ≡ false
     → (has field.OffsetHour ≡ false) × (has field.OffsetMinute ≡ false)
@@ -124,14 +97,11 @@ unwritten l has v dated way is =
 -- ---- what is 0 where it is not said
 
 zero_or : (b : Bool) (has : Said) (v : Values) (f : Field) → has f ≡ b → (b ≡ false → v f ≡ 0) → v f ≡ said_or has v f 0
-zero_or true has v f is none = rw is refl
-zero_or false has v f is none = rw is (none refl)
+zero_or b has v f is none = grind (arith, nat_tests)
 
 pub second_said : (l : Listed) (has : Said) (v : Values) → l.kind.is_unix ≡ false → IsWay l has v → IsAllInRange v
     → v field.Second ≡ said_or has v field.Second 0
-second_said l has v dated way range =
-    zero_or (has field.Second) has v field.Second refl
-    (λ none. way.unread field.Second none ∙ (l.out_of_range dated).no_second (no_second l has v l.kind.has_second dated way range refl none))
+second_said l has v dated way range = grind (arith, nat_tests, zero_or, no_second)
 
 pub no_fraction : (l : Listed) (has : Said) (v : Values) → IsWay l has v → has field.Nanosecond ≡ false → v field.Nanosecond ≡ 0
 no_fraction l has v way none = way.unread field.Nanosecond none ∙ l.no_fraction
@@ -143,8 +113,4 @@ fraction_said l has v way = zero_or (has field.Nanosecond) has v field.Nanosecon
 
 pub way_of : (l : Listed) (line : List ℕ) (v : Values) (rest : List ℕ) (way : List Part) → SaysItems (items_listed l) line v rest way
     → ((f : Field) → fields_of way f ≡ false → v f ≡ values_in l.unread f) → IsWay l (fields_of way) v
-way_of l line v rest way says kept = record {
-  certain = λ f. certainly (items_listed l) line v rest way f says;
-  possible = λ f. possibly (items_listed l) line v rest way f says;
-  unread = kept;
-}
+way_of l line v rest way says kept = grind (arith, nat_tests, certain, certainly, items_listed, possible, possibly)

@@ -1,8 +1,10 @@
 -- What a text says by items.
-use Rattle.std.proofs.Common.{◌≡◌, ◌∙◌, true, ℕ, List, [], ◌∷◌, ◌++◌, map, Some, refl, sym, ap, append_assoc}
+use Rattle.std.proofs.Common.{◌≡◌, ◌∙◌, true, ℕ, List, [], ◌∷◌, ◌++◌, map, refl, sym, ap, append_assoc}
 use Rattle.parsing_layout.specs.Items.{Item, IsThere, SaysItems, possible, all_certain, all_possible, are_certain}
-use Rattle.parsing_layout.specs.Layout.{Part, Values, Says, piece_of, value_of}
+use Rattle.parsing_layout.specs.Layout.{Part, Values, Says}
 use Rattle.parsing_layout.specs.declared.items.Item.TheVariants as item
+use Rattle.std.proofs.Common.{arith}
+use Rattle.std.proofs.lemmas.Bool.Decides.{nat_tests}
 
 -- ---- parts that all stand there
 
@@ -11,9 +13,7 @@ pub certain_said : (ps : List Part) (line : List ℕ) (v : Values) (rest : List 
 certain_said [] line v rest way says = says
 certain_said (p ∷ ps) line v rest way says =
     let others = certain_said ps says.0 v rest says.2 says.5 in
-    let one = says.4.1 in
-    let there : piece_of p line ≡ Some (value_of p v, says.0) = rw one.2 at one.1 in
-    (says.3 ∙ ap (λ (xs : List Part). xs ++ says.2) says.4.0 ∙ ap (λ (xs : List Part). p ∷ xs) others.0, (says.0, there, others.1))
+    grind (arith, nat_tests)
 
 pub said_certain : (ps : List Part) (line : List ℕ) (v : Values) (rest : List ℕ) → Says ps line v rest → SaysItems (map item.Part ps) line v rest ps
 said_certain [] line v rest says = (refl, says)

@@ -1,5 +1,5 @@
 -- The short names of months and weekdays that tables hold as numbers.
-use Rattle.std.proofs.Common.{◌≡◌, ◌≤◌, ◌<◌, ◌+◌, ◌-◌, ◌*◌, ◌/◌, ◌%◌, ◌^◌, ◌∙◌, ◌==◌, ◌&&◌, ℕ, true, List, take, drop, length, get_or, Option, Some, None, unwrap_or, refl, ap, arith, inl, inr}
+use Rattle.std.proofs.Common.{◌≡◌, ◌≤◌, ◌<◌, ◌+◌, ◌-◌, ◌*◌, ◌/◌, ◌%◌, ◌^◌, ◌∙◌, ◌==◌, ◌&&◌, ℕ, true, List, take, drop, length, get_or, Option, Some, unwrap_or, refl, ap, arith, inl, inr}
 use Rattle.std.specs.Prelude.{option_map, nat_lt}
 use Rattle.std.specs.Int.{w32, from_le_bytes}
 use Rattle.std.proofs.lemmas.Bool.{agree_below_at, and_parts, cases_lt, eqb-true, ltb-true}
@@ -13,6 +13,7 @@ use Rattle.parsing_layout.specs.Layout.{as_number, name_piece, weekday_number}
 use Rattle.parsing_layout.specs.Letters.{letters_of}
 use Rattle.parsing_layout.specs.declared.names.TheConstants.{MONTHS, WEEKDAYS, NUMBERS}
 use Rattle.parsing_layout.specs.declared.parts.Names.TheVariants as names
+use Rattle.std.proofs.lemmas.Bool.Decides.{nat_tests}
 
 -- ---- at a place of a text
 
@@ -25,8 +26,7 @@ letters_there text place four room fit is =
     rw (spelled_is 3 place text (omega arith), a, b, c) refl
 
 numbered : {A : Type 0} (f : A → ℕ) (o : Option A) (n : ℕ) (rest : List ℕ) → option_map f o ≡ Some n → option_map {U = ℕ × List ℕ} (λ x. (f x.0, x.1)) (option_map {U = A × List ℕ} (λ x. (x, rest)) o) ≡ Some (n, rest)
-numbered f (Some x) n rest e = ap (option_map {U = ℕ × List ℕ} (λ (k : ℕ). (k, rest))) e
-numbered f None n rest e = absurd (cc)
+numbered f o n rest e = grind (arith, nat_tests)
 
 three_at : {A : Type 0} (f : A → ℕ) (entries : List (List ℕ × A)) → are_even 3 entries ≡ true → (text : List ℕ) (place n : ℕ) → option_map f (named true entries (take 3 (drop place text))) ≡ Some n
     → as_number f (taken (named true entries)) (drop place text) ≡ Some (n, drop (place + 3) text)
@@ -49,8 +49,7 @@ abbrev weekday_of : ℕ → ℕ
 weekday_of word = unwrap_or (option_map weekday_number (named true short_weekdays (letters_of word))) 0
 
 said : (o : Option ℕ) (n : ℕ) → 0 < n → unwrap_or o 0 ≡ n → o ≡ Some n
-said (Some m) n some e = ap Some e
-said None n some e = absurd (omega arith)
+said o n some e = grind (arith, nat_tests)
 
 pub month_in : (place word number : ℕ) → place < 16 → word < 2 ^ 32 → word % 256 ≡ 0 → (get_or MONTHS place 0 + (2 ^ 32 - word)) % 2 ^ 32 ≡ number → 1 ≤ number → number ≤ 12 → option_map month_number (named true short_months (letters_of word)) ≡ Some number
 unfolding named

@@ -1,50 +1,41 @@
 -- What pieces that were read stand in their bytes.
-use Rattle.std.proofs.Common.{◌≡◌, ℕ, ◌<◌, ◌≤◌, Bool, true, false, List, [], ◌∷◌, drop, take, Option, Some, None, refl, sym, ap, arith}
+use Rattle.std.proofs.Common.{◌≡◌, ℕ, ◌<◌, ◌≤◌, Bool, true, List, ◌∷◌, drop, take, Option, Some, None, refl, sym, arith}
 use Rattle.std.specs.Prelude.{◌==◌, ◌||◌, nat_le}
 use Rattle.std.proofs.lemmas.Bool.Decides.{nat_tests}
 use Rattle.base.specs.Bytes.{plus, hyphen}
 use Rattle.parsing_combinator.specs.Pieces.{digits, byte, byte_of, skip_of, sign, digit_count, digit_run, fraction, nanoseconds_of}
 use Rattle.parsing_combinator.proofs.Decimal.{count_drop}
-use Rattle.parsing_combinator.proofs.FractionDigits.{cut_of, none_there}
+use Rattle.parsing_combinator.proofs.FractionDigits.{none_there}
 use Rattle.parsing_layout.specs.Layout.{exact_fraction}
 use Rattle.parsing_layout.proofs.LayoutLemmas.{numbered}
-use Rattle.parsing_layout.proofs.TestLemmas.{at_most, same}
+use Rattle.parsing_layout.proofs.TestLemmas.{same}
 
 pub inside : {A : Type 0} → (x y : A) → Some x ≡ Some y → x ≡ y
 inside x y e = cc
 
 -- a literal that was read
 pub literal_said : {n : ℕ} (o : Option (Unit {0} × List ℕ)) (after : List ℕ) → numbered (λ _. 0) o ≡ Some (n, after) → o ≡ Some (tt, after)
-literal_said None after e = absurd cc
-literal_said {n = n} (Some x) after e = ap (λ (z : ℕ × List ℕ). Some (tt, z.1)) (inside (0, x.1) (n, after) e)
+literal_said o after e = grind (arith, nat_tests)
 
 -- ---- a fraction
 
 pub exact_said : (b : Bool) (bytes rest : List ℕ) (count n : ℕ) → nat_le count (digit_count bytes) ≡ b → exact_fraction count bytes ≡ Some (n, rest) → (count ≤ digit_count bytes) × (nanoseconds_of (take count bytes) ≡ n) × (drop count bytes ≡ rest)
 unfolding exact_fraction
-exact_said b bytes rest count n is e =
-    let cut = cut_of (nat_le count (digit_count bytes)) (nanoseconds_of (take count bytes), drop count bytes) (n, rest) e in
-    (at_most count (digit_count bytes) cut.0, ap (λ (z : ℕ × List ℕ). z.0) cut.1, ap (λ (z : ℕ × List ℕ). z.1) cut.1)
+exact_said b bytes rest count n is e = grind (arith, nat_tests)
 
 pub fraction_read : (bytes rest : List ℕ) (count n : ℕ) → 0 < count → exact_fraction count bytes ≡ Some (n, rest) → digits 1 rest ≡ None → fraction bytes ≡ Some (n, rest)
 unfolding fraction digit_run
 fraction_read bytes rest count n some e none =
     let said = exact_said _ bytes rest count n refl e in
     let left = none_there rest none in
-    let rest_is : digit_count (drop count bytes) ≡ 0 = rw said.2 left in
-    let is : digit_count bytes ≡ count = omega (arith, count_drop count bytes said.0, rest_is) in
-    let there : (count == 0) ≡ false = grind (arith, nat_tests) in
-    rw (is, there, said.1, said.2) refl
+    grind (arith, nat_tests, count_drop)
 
 -- ---- bytes
 
 -- the byte that a piece tells, or cuts off, and what follows it
 pub skip_is : (p : ℕ → Bool) (bytes rest : List ℕ) → skip_of p bytes ≡ Some (tt, rest) → (c : ℕ) × (bytes ≡ c ∷ rest) × (p c ≡ true)
 unfolding skip_of
-skip_is p [] rest e = absurd cc
-skip_is p (x ∷ xs) rest e =
-    let cut = cut_of (p x) (tt, xs) (tt, rest) e in
-    (x, ap (λ (z : Unit {0} × List ℕ). x ∷ z.1) cut.1, cut.0)
+skip_is p bytes rest e = grind (arith, nat_tests)
 
 pub byte_is : (c : ℕ) (bytes rest : List ℕ) → byte c bytes ≡ Some (tt, rest) → bytes ≡ c ∷ rest
 byte_is c bytes rest e = let k = skip_is (λ x. x == c) bytes rest e in rw (sym (same k.0 c k.2)) k.1
@@ -56,8 +47,4 @@ pub record SignIs (bytes : List ℕ) (mark : ℕ) (rest : List ℕ) : Type 0 whe
 
 pub sign_is : (bytes rest : List ℕ) (mark : ℕ) → sign bytes ≡ Some (mark, rest) → SignIs bytes mark rest
 unfolding byte_of
-sign_is [] rest mark e = absurd cc
-sign_is (x ∷ xs) rest mark e =
-    let cut = cut_of ((x == plus) || (x == hyphen)) (x, xs) (mark, rest) e in
-    let is : x ≡ mark = ap (λ (z : ℕ × List ℕ). z.0) cut.1 in
-    record { all = ap (λ (z : ℕ × List ℕ). z.0 ∷ z.1) cut.1; is = rw is at cut.0 }
+sign_is bytes rest mark e = grind (arith, nat_tests)

@@ -14,7 +14,7 @@ use Rattle.parsing_combinator.specs.Shape.{Shape, or_before, greatest, prefix, t
 use Rattle.parsing_combinator.specs.Names.{compared, is_name, named}
 use Rattle.parsing_combinator.proofs.NameLemmas.{is_name_length}
 use Rattle.parsing_layout.specs.Stretch.{Begins, Leaves, name_stands}
-use Rattle.parsing_layout.proofs.TestLemmas.{at_most, both, less}
+use Rattle.parsing_layout.proofs.TestLemmas.{both, less}
 
 -- ---- bytes that can stand at places
 
@@ -34,8 +34,7 @@ Cuts test least whole piece = (line : List ℕ) → IfSome (piece line) (λ x. L
 -- ---- what is taken of a shape begins as its texts
 
 or_each : {A : Type 0} (P : A → Type 0) (x before : Option A) → IfSome x P → IfSome before P → IfSome (or_before x before) P
-or_each P (Some x) before h k = h
-or_each P None before h k = k
+or_each P x before h k = grind (arith, nat_tests)
 
 greatest_each : {A : Type 0} (P : A → Type 0) (f : ℕ → Option A) (n : ℕ) → ((k : ℕ) → k ≤ n → IfSome (f k) P) → IfSome (greatest f n) P
 greatest_each P f zero h = h 0 (omega arith)
@@ -67,24 +66,15 @@ abbrev AreDigits : ℕ → ℕ → List ℕ → Type 0
 AreDigits n m text = (n ≤ length text) × ((length text ≤ m) × (list_all is_ascii_digit text ≡ true))
 
 digits_are : (n m : ℕ) (text : List ℕ) → are_digits n m text ≡ true → AreDigits n m text
-digits_are n m text e =
-    let a = both (nat_le n (length text) && nat_le (length text) m) (list_all is_ascii_digit text) e in
-    let b = both (nat_le n (length text)) (nat_le (length text) m) a.0 in
-    (at_most n (length text) b.0, (at_most (length text) m b.1, a.1))
+digits_are n m text e = grind (arith, nat_tests)
 
 if_chosen : {A : Type 0} (b : Bool) (o : Option A) (P : A → Type 0) → (b ≡ true → IfSome o P) → IfSome (if b then o else None) P
-if_chosen true o P h = h refl
-if_chosen false o P h = tt
+if_chosen b o P h = grind (arith, nat_tests)
 
 -- n to m digits, of which so many are known
 pub digits_hold : {A : Type 0} (value : List ℕ → A) (n m least : ℕ) (whole : Bool) → least ≤ n → (whole ≡ true → (n ≡ least) × (m ≡ least)) → Holds (λ place c. is_ascii_digit c) least whole (digits_as value n m)
 unfolding digits_as
-digits_hold value n m least whole le exact text =
-    if_chosen (are_digits n m text) (Some (value text)) _ (λ e.
-    let d = digits_are n m text e in (
-      (λ place lt. all_at is_ascii_digit text place d.1.1 (omega (arith, lt, le, d.0))),
-      (omega (arith, le, d.0), λ w. omega (arith, d.0, d.1.0, (exact w).0, (exact w).1)),
-    ))
+digits_hold value n m least whole le exact text = grind (arith, nat_tests, all_at)
 
 -- after so many spaces stand the digits
 spaced_stands : (n m s : ℕ) (text : List ℕ) (place : ℕ) → s ≡ space_count text → AreDigits n m (drop s text) → place < length text → (is_ascii_digit (get_or text place 0) || is_space (get_or text place 0)) ≡ true
@@ -154,13 +144,7 @@ record NameOf (initials : List ℕ) (least : ℕ) (whole : Bool) (name : List �
   all : list_all late name ≡ true
 
 name_of : (initials : List ℕ) (least : ℕ) (whole : Bool) (name : List ℕ) → is_name_of initials least whole name ≡ true → NameOf initials least whole name
-name_of initials least whole name good =
-    let first = list_any (λ initial. initial == to_ascii_lowercase (get_or name 0 0)) initials in
-    let exact = not whole || nat_eq (length name) least in
-    let a = both first (nat_le least (length name) && (exact && list_all late name)) good in
-    let b = both (nat_le least (length name)) (exact && list_all late name) a.1 in
-    let c = both exact (list_all late name) b.1 in
-    record { first = a.0; few = at_most least (length name) b.0; exact = λ w. grind (arith, nat_tests, c.0, w); all = c.1 }
+name_of initials least whole name good = grind (arith, nat_tests)
 
 not_first : (place : ℕ) → (suc place == 0) ≡ false
 not_first place = grind (arith, nat_tests)

@@ -1,5 +1,5 @@
 -- What a part reads is its stretch.
-use Rattle.std.proofs.Common.{◌≡◌, ◌≤◌, ◌||◌, ℕ, Bool, true, false, List, ◌∷◌, Option, Some, None, refl, sym, ap, arith}
+use Rattle.std.proofs.Common.{◌≡◌, ◌≤◌, ◌||◌, ℕ, Bool, true, false, List, ◌∷◌, Option, Some, refl, sym, arith}
 use Rattle.std.specs.Prelude.{IfSome, ◌==◌}
 use Rattle.std.specs.Char.{is_ascii_digit}
 use Rattle.std.proofs.lemmas.List.Sums.{prefix_len_passes}
@@ -12,8 +12,9 @@ use Rattle.parsing_layout.specs.Layout.{Names, Part, piece_of, name_piece}
 use Rattle.parsing_layout.specs.declared.parts.Names.TheVariants as names
 use Rattle.parsing_layout.specs.declared.parts.Part.TheVariants as part
 use Rattle.parsing_layout.proofs.LayoutLemmas.{numbered}
-use Rattle.parsing_layout.proofs.PieceLemmas.{exact_said, inside, literal_said, sign_is, skip_is}
+use Rattle.parsing_layout.proofs.PieceLemmas.{exact_said, sign_is, skip_is}
 use Rattle.parsing_layout.proofs.ShapeLemmas.{Test, digits_hold, spaced_hold, taken_cuts, names_cut}
+use Rattle.std.proofs.lemmas.Bool.Decides.{nat_tests}
 
 -- ---- parts
 
@@ -21,10 +22,7 @@ cut_there : {A : Type 0} (t : Test) (n : ℕ) (w : Bool) (line rest : List ℕ) 
 cut_there t n w line rest o x e h = rw e at h
 
 named_there : {A : Type 0} (f : A → ℕ) (t : Test) (n : ℕ) (w : Bool) (line rest : List ℕ) (o : Option (A × List ℕ)) (k : ℕ) → numbered f o ≡ Some (k, rest) → IfSome o (λ y. Leaves t n w line y.1) → Leaves t n w line rest
-named_there f t n w line rest None k e h = absurd cc
-named_there f t n w line rest (Some x) k e h =
-    let same : x.1 ≡ rest = ap (λ (z : ℕ × List ℕ). z.1) (inside (f x.0, x.1) (k, rest) e) in
-    rw same at h
+named_there f t n w line rest o k e h = grind (arith, nat_tests)
 
 -- so many digits
 digits_stand : (count : ℕ) (line : List ℕ) → count ≤ digit_count line → Begins (λ place c. is_ascii_digit c) count line
@@ -35,9 +33,7 @@ first_stands : (p : ℕ → Bool) (c : ℕ) (line rest : List ℕ) → line ≡ 
 first_stands p c line rest is passes = rw is (λ place lt. (let first : place ≡ 0 = omega (arith, lt) in rw first passes), λ w. refl)
 
 literal_stands : (p : ℕ → Bool) (line rest : List ℕ) (n : ℕ) → numbered (λ _. 0) (skip_of p line) ≡ Some (n, rest) → Leaves (λ place x. p x) 1 true line rest
-literal_stands p line rest n e =
-    let k = skip_is p line rest (literal_said (skip_of p line) rest e) in
-    first_stands p k.0 line rest k.1 k.2
+literal_stands p line rest n e = grind (arith, nat_tests, skip_is)
 
 name_cut : (kind : Names) (b : Bool) (line rest : List ℕ) (n : ℕ) → name_piece kind b line ≡ Some (n, rest) → IsCut (stretch_of (part.Name kind b)) line rest
 name_cut names.ShortMonth b line rest n e = named_there _ (name_stands (initials names.ShortMonth)) 3 true line rest (taken (named b short_months) line) n e (names_cut b (initials names.ShortMonth) 3 true short_months refl line)

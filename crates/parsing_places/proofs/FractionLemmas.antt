@@ -1,7 +1,6 @@
 -- Nine digits in lanes, as a fraction.
-use Rattle.std.proofs.Common.{◌≡◌, ◌≤◌, ◌<◌, ◌+◌, ◌-◌, ◌*◌, ◌^◌, ◌∙◌, ℕ, true, List, [], ◌∷◌, ◌++◌, length, get_or, take, drop, replicate, refl, sym, ap, inl, inr, arith, w64, take-append-drop}
+use Rattle.std.proofs.Common.{◌≡◌, ◌≤◌, ◌<◌, ◌+◌, ◌-◌, ◌*◌, ◌^◌, ◌∙◌, ℕ, true, List, ◌++◌, length, get_or, take, drop, replicate, refl, sym, ap, inl, inr, arith, take-append-drop}
 use Rattle.std.specs.Char.{is_ascii_digit}
-use Rattle.std.specs.Int.{from_le_bytes, to_le_bytes}
 use Rattle.std.specs.Str.Parse.{digits_value}
 use Rattle.std.proofs.lemmas.Bool.{cases_lt, false≢true}
 use Rattle.std.proofs.lemmas.List.{ext_get_or, get_or-take, get_or-drop, get_or-replicate, length-take-le, length-drop, length-replicate}
@@ -11,10 +10,11 @@ use Rattle.parsing_combinator.specs.Pieces.{digit_count, nanoseconds_of}
 use Rattle.parsing_combinator.proofs.Decimal.{value_append, value_zeros, digit_count_within}
 use Rattle.parsing_combinator.proofs.AtPlaces.{is_digit}
 use Rattle.parsing_combinator.proofs.FractionDigits.{short_fraction}
-use Rattle.parsing_combinator.proofs.Lanes.{spelled, spelled_is, take_fit}
+use Rattle.parsing_combinator.proofs.Lanes.{spelled_is}
 use Rattle.parsing_values.specs.Digits.{nine_digits, AreNineDigits}
 use Rattle.parsing_combinator.specs.Written.{WriteFraction}
 use lib.Lanes.{number_l, chunk}
+use Rattle.std.proofs.lemmas.Bool.Decides.{nat_tests}
 
 -- digits before are counted
 counted : (xs : List ℕ) (n : ℕ) → n ≤ length xs → ((k : ℕ) → k < n → is_ascii_digit (get_or xs k 0) ≡ true) → n ≤ digit_count xs
@@ -26,11 +26,7 @@ counted xs n le h = elim (cases_lt (digit_count xs) n) [
 -- the first nine lanes as the digits of a fraction are kept
 nine_is : (xs : List ℕ) (first last : ℕ) → length xs ≡ 16 → ((k : ℕ) → get_or xs k 0 < 256) → first ≡ number_l 256 (chunk 0 8 xs) → last ≡ get_or xs 8 0 → nine_digits first last ≡ take 9 xs
 unfolding nine_digits
-nine_is xs first last n small is end =
-    let eight : take 8 xs ≡ spelled 8 0 xs = spelled_is 8 0 xs (omega (arith, n)) in
-    let value : first ≡ from_le_bytes w64 (spelled 8 0 xs) = is ∙ ap (number_l 256) eight ∙ omega arith in
-    let bytes : to_le_bytes w64 first ≡ spelled 8 0 xs = le_bytes_8 _ first refl (rw eight at (take_fit 8 xs small)) value in
-    ap (λ (b : List ℕ). b ++ last ∷ []) bytes ∙ rw end refl ∙ sym (spelled_is 9 0 xs (omega (arith, n)))
+nine_is xs first last n small is end = grind (arith, nat_tests, le_bytes_8)
 
 first_below : (xs : List ℕ) (first : ℕ) → length xs ≡ 16 → ((k : ℕ) → get_or xs k 0 < 256) → first ≡ number_l 256 (chunk 0 8 xs) → first < 2 ^ 64
 first_below xs first n small is =

@@ -1,8 +1,8 @@
 -- Lanes of vectors.
-use Rattle.std.proofs.Common.{◌≡◌, ◌≤◌, ◌<◌, ◌+◌, ◌*◌, ◌^◌, ◌/◌, ◌%◌, ◌∙◌, ℕ, suc, Bool, true, false, cond, List, [], ◌∷◌, length, get_or, take, drop, map, refl, sym, ap, arith, w8, lit<, inl, inr}
+use Rattle.std.proofs.Common.{◌≡◌, ◌≤◌, ◌<◌, ◌+◌, ◌*◌, ◌^◌, ◌/◌, ◌%◌, ◌∙◌, ℕ, suc, Bool, true, cond, List, [], ◌∷◌, length, get_or, take, drop, map, refl, sym, ap, arith, w8, lit<}
 use Rattle.std.specs.Int.Bits.{bit_and}
 use Rattle.std.specs.Prelude.{nat_le, nat_lt, nat_eq, replicate}
-use Rattle.std.proofs.lemmas.Bool.{cases_lt, agree_below_at, eqb-true, leb-true}
+use Rattle.std.proofs.lemmas.Bool.{agree_below_at, eqb-true, leb-true}
 use Rattle.std.proofs.lemmas.Bool.Decides.{nat_tests}
 use Rattle.std.proofs.lemmas.List.{drop_more, length-map, get_or-map, take_all}
 use Rattle.std.proofs.lemmas.Simd.{swz_l, get_or-swz_l, get_or_wider, get_or_narrower, below_from_Fits, get_or-zip2, length-zip2, mask_l-mod, bit_mask_l, get_or-replicate}
@@ -50,9 +50,7 @@ byte_at xs j fits lt =
     rw same at there ∙ omega arith
 
 pub number_at : (d e : ℕ) → d ≤ 9 → e ≤ 9 → (d + e * 256) * 2561 % 2 ^ 16 / 256 % 256 ≡ d * 10 + e
-number_at d e hd he =
-    let product : (d + e * 256) * 2561 % 2 ^ 16 ≡ d + (d * 10 + e) * 256 = omega arith in
-    omega (arith, product)
+number_at d e hd he = grind (arith, nat_tests)
 
 abbrev times : ℕ → ℕ → ℕ
 times a b = a * b % 2 ^ 16
@@ -70,15 +68,10 @@ numbers_lane xs j n lt =
 -- ---- lanes that are moved
 
 pub taken_lane : (xs js : List ℕ) (k : ℕ) → length js ≡ 16 → k < 16 → get_or js k 0 < 16 → get_or (swz_l w8 16 xs 0 js) k 0 ≡ get_or xs (get_or js k 0) 0
-taken_lane xs js k n lt small =
-    let zeroed : zeroes 16 w8 (get_or js k 0) ≡ false = grind (arith, nat_tests) in
-    let block : 16 * ((0 + k) / 16) + get_or js k 0 ≡ get_or js k 0 = omega arith in
-    get_or-swz_l w8 16 xs 0 js k (omega (arith, n, lt)) ∙ rw (zeroed, block) refl
+taken_lane xs js k n lt small = grind (arith, nat_tests, get_or-swz_l)
 
 pub no_lane : (xs js : List ℕ) (k : ℕ) → length js ≡ 16 → k < 16 → 128 ≤ get_or js k 0 → get_or (swz_l w8 16 xs 0 js) k 0 ≡ 0
-no_lane xs js k n lt large =
-    let zeroed : zeroes 16 w8 (get_or js k 0) ≡ true = grind (arith, nat_tests) in
-    get_or-swz_l w8 16 xs 0 js k (omega (arith, n, lt)) ∙ rw zeroed refl
+no_lane xs js k n lt large = grind (arith, nat_tests, get_or-swz_l)
 
 -- ---- a test of all lanes
 
@@ -86,12 +79,10 @@ abbrev pub tests : List ℕ → List ℕ → List ℕ
 tests = zip2 (λ a b. cond (nat_le a b) 255 0)
 
 three_true : (p q r : Bool) → top 7 (bit_and (bit_and (cond p 255 0) (cond q 255 0)) (cond r 255 0)) ≡ true → (p ≡ true) × (q ≡ true) × (r ≡ true)
-three_true true true true e = (refl, refl, refl)
-three_true p q r e = absurd cc
+three_true p q r e = grind (arith, nat_tests)
 
 one_true : (p : Bool) → top 7 (cond p 255 0) ≡ true → p ≡ true
-one_true true e = refl
-one_true false e = absurd cc
+one_true p e = grind (arith, nat_tests)
 
 abbrev is_at_most : ℕ → ℕ → ℕ
 is_at_most a b = cond (nat_le a b) 255 0
@@ -111,8 +102,7 @@ every_lane zs k n e lt =
     let all : mask_l bits % 18446744073709551616 ≡ 65535 = grind (arith, nat_tests, e) in
     let whole : mask_l bits ≡ 65535 = omega (arith, same, all) in
     let one = agree_below_at (λ k. nat_eq (65535 / 2 ^ k % 2) 1) (λ _. true) 16 k refl lt in
-    let bit : cond (get_or bits k false) 1 0 ≡ 1 = sym (bit_mask_l bits k) ∙ rw whole (eqb-true _ _ one) in
-    sym (get_or-map (top 7) zs k 0 false (omega (arith, n, lt))) ∙ grind (arith, nat_tests, bit)
+    grind (arith, nat_tests, bit_mask_l, get_or-map)
 
 pub all_pass : (xs ys : List ℕ) → length xs ≡ 16 → length ys ≡ 16 → nat_eq (mask_l (map (top 7) (tests xs ys)) % 18446744073709551616) 65535 ≡ true
     → (k : ℕ) → k < 16 → get_or xs k 0 ≤ get_or ys k 0
@@ -149,14 +139,10 @@ text_at xs k n lt =
 pub ninth_alone : (xs : List ℕ) → length xs ≡ 16 → ((k : ℕ) → 9 ≤ k → k < 16 → get_or xs k 0 ≡ 0) → ((k : ℕ) → get_or xs k 0 < 256) → number_l 256 xs / 18446744073709551616 % 18446744073709551616 ≡ get_or xs 8 0
 ninth_alone xs n zeros small =
     let whole : number_l 256 xs ≡ number_l 256 (get_or xs 0 0 ∷ get_or xs 1 0 ∷ get_or xs 2 0 ∷ get_or xs 3 0 ∷ get_or xs 4 0 ∷ get_or xs 5 0 ∷ get_or xs 6 0 ∷ get_or xs 7 0 ∷ get_or xs 8 0 ∷ 0 ∷ 0 ∷ 0 ∷ 0 ∷ 0 ∷ 0 ∷ 0 ∷ []) = ap (number_l 256) (expanded xs n) ∙ rw (zeros 9 (omega arith) (omega arith), zeros 10 (omega arith) (omega arith), zeros 11 (omega arith) (omega arith), zeros 12 (omega arith) (omega arith), zeros 13 (omega arith) (omega arith), zeros 14 (omega arith) (omega arith), zeros 15 (omega arith) (omega arith)) refl in
-    let sum : number_l 256 xs ≡ get_or xs 0 0 + 256 * get_or xs 1 0 + 65536 * get_or xs 2 0 + 16777216 * get_or xs 3 0 + 4294967296 * get_or xs 4 0 + 1099511627776 * get_or xs 5 0 + 281474976710656 * get_or xs 6 0 + 72057594037927936 * get_or xs 7 0 + 18446744073709551616 * get_or xs 8 0 = whole ∙ omega arith in
-    omega (arith, sum, small 0, small 1, small 2, small 3, small 4, small 5, small 6, small 7, small 8)
+    omega (arith, small 0, small 1, small 2, small 3, small 4, small 5, small 6, small 7, small 8)
 
 one_move : (j : ℕ) (rest : Bool) → (16 ≤ j → 128 ≤ j) → rest ≡ true → ((zeroes 16 w8 j || ltb j 16) && rest) ≡ true
-one_move j rest h e = elim (cases_lt j 16) [
-  | inl small ↦ grind (arith, nat_tests, small, e)
-  | inr large ↦ let zero = h large in grind (arith, nat_tests, zero, e)
-]
+one_move j rest h e = grind (arith, nat_tests)
 
 pub moves_all : (js : List ℕ) → ((k : ℕ) → k < length js → 16 ≤ get_or js k 0 → 128 ≤ get_or js k 0) → are_moves js ≡ true
 moves_all [] h = refl

@@ -13,6 +13,7 @@ use Rattle.parsing_places.specs.declared.last.LastBytes.{LastBytes}
 use Rattle.parsing_places.proofs.FractionLemmas.{fraction_in}
 use Rattle.parsing_places.proofs.LaneLemmas.{moves_all}
 use lib.Lanes.{number_l, chunk}
+use Rattle.std.proofs.lemmas.Bool.Decides.{nat_tests}
 
 -- lanes that slide along the places before the last bytes
 module _ (last : LastBytes) (moves : List ℕ) (count : ℕ) (near : count + last.length ≤ 16) (n : length moves ≡ 16) (slid : (k : ℕ) → k < 16 → get_or moves k 0 ≡ get_or last.places (16 - last.length - count + k) 0) where
@@ -32,17 +33,10 @@ module _ (last : LastBytes) (moves : List ℕ) (count : ℕ) (near : count + las
 
 -- where there are digits, the last of them stands within the text
 pub fraction_room : (line : List ℕ) (place count : ℕ) (digits : List ℕ) → HaveFraction line place count digits → 0 < count → place + count ≤ length line
-fraction_room line place count digits h some =
-    let d = h.each (count - 1) (omega (arith, some)) in
-    omega (arith, d.room, some)
+fraction_room line place count digits h some = grind (arith, nat_tests)
 
 digit_of : (text : List ℕ) (place : ℕ) (digits : List ℕ) (k : ℕ) → get_or digits k 0 ≡ above (get_or text place 0) 48 → get_or digits k 0 ≤ 9 → get_or text place 0 < 256 → place < length text → IsDigitAt digits k text place 9
-digit_of text place digits k is few small room = record {
-  room = room;
-  digit = record { low = omega (arith, is, few, small); high = omega (arith, is, few, small) };
-  value = omega (arith, is, few, small);
-  few = few;
-}
+digit_of text place digits k is few small room = grind (arith, nat_tests)
 
 module _ (digits text : List ℕ) (first last : ℕ) (n : length text ≡ 16) (bytes : (k : ℕ) → get_or text k 0 < 256) (is_text : (k : ℕ) → k < 9 → get_or text k 0 ≡ (get_or digits k 0 + 48) % 2 ^ 8)
     (is : first ≡ number_l 256 (chunk 0 8 text)) (end : last ≡ get_or text 8 0) where

@@ -35,26 +35,15 @@ record LetsIn (w : Window) (place low most : ℕ) : Type 0 where
 lets_in : (w : Window) (place low most : ℕ) → lets w place low most ≡ true → LetsIn w place low most
 lets_in w place low most e = record { inside = grind (arith, nat_tests, e); low_is = grind (arith, nat_tests, e); high_is = grind (arith, nat_tests, e) }
 
-within : (byte low most high : ℕ) → byte < 256 → above byte low ≤ high → high ≤ most → low + most < 256 → (low ≤ byte) × (byte ≤ low + most)
-within byte low most high small few le sum = (omega (arith, small, few, le, sum), omega (arith, small, few, le, sum))
-
 pub in_window : (w : Window) (text : List ℕ) (at place low most : ℕ) → ((k : ℕ) → get_or text k 0 < 256) → LieIn w text at → lets w place low most ≡ true → low + most < 256 → (low ≤ get_or text (at + place) 0) × (get_or text (at + place) 0 ≤ low + most)
-in_window w text at place low most small lies e sum =
-    let l = lets_in w place low most e in
-    within (get_or text (at + place) 0) low most (get_or w.high place 0) (small _) (rw l.low_is at (lies place l.inside)) l.high_is sum
+in_window w text at place low most small lies e sum = grind (arith, nat_tests)
 
 -- a byte that is no NUL stands within the text
 not_past : (text : List ℕ) (place low : ℕ) → 0 < low → low ≤ get_or text place 0 → place < length text
 not_past text place low some is = elim (cases_lt place (length text)) [ inl lt ↦ lt | inr le ↦ absurd (omega (arith, some, is, get_or_past text place 0 le)) ]
 
 pub digit_in : (w : Window) (text v : List ℕ) (at lane place most : ℕ) → ((k : ℕ) → get_or text k 0 < 256) → HaveWindow w text at v → lane < 16 → most ≤ 9 → takes w lane place most ≡ true → IsDigitAt v lane text (at + place) most
-digit_in w text v at lane place most small h lt few e =
-    let t = and_parts (lets w place 48 most) (get_or w.taken.lanes lane 0 == place) e in
-    let l = lets_in w place 48 most t.0 in
-    let byte : ℕ = get_or text (at + place) 0 in
-    let is : get_or v lane 0 ≡ above byte 48 = rw l.low_is at (h.taken lane place lt l.inside (eqb-true _ _ t.1)) in
-    let b = in_window w text at place 48 most small h.lies t.0 (omega (arith, few)) in
-    record { room = not_past text (at + place) 48 (lit< tt) b.0; digit = record { low = b.0; high = omega (arith, b.1, few) }; value = omega (arith, is, b.0, b.1, few); few = omega (arith, is, b.0, b.1, few) }
+digit_in w text v at lane place most small h lt few e = grind (arith, nat_tests, not_past)
 
 -- ---- two windows
 

@@ -1,9 +1,8 @@
 -- A text that says the layout of RFC 3339 is read by its definition, and names the moment of its values.
 use Rattle.std.proofs.Common.{◌≡◌, ℕ, zero, suc, ◌<◌, ◌≤◌, ◌∙◌, Bool, true, false, List, [], ◌∷◌, ◌++◌, Option, Some, None, Result, Ok, ℤ, pos, refl, sym, ap, arith}
 use Rattle.std.specs.Option.{unwrap_or}
-use Rattle.std.specs.Prelude.{◌==◌, ◌||◌, nat_lt, ◌*ℤ◌}
+use Rattle.std.specs.Prelude.{◌==◌, ◌||◌, ◌*ℤ◌}
 use Rattle.std.specs.Char.{is_ascii_digit}
-use Rattle.std.proofs.lemmas.Bool.{le-leb}
 use Rattle.std.proofs.lemmas.Bool.Decides.{nat_tests}
 use Rattle.base.specs.Bytes.{plus, hyphen, dot, upper_z, lower_z}
 use Rattle.parsing_combinator.specs.Fault.{Fault}
@@ -30,22 +29,13 @@ use Rattle.parsing_rfc3339.proofs.FastLemmas.{fields_read}
 
 -- ---- the date and the time of day
 
-some_month : (n : ℕ) → 1 ≤ n → nat_lt 0 n ≡ true
-some_month n some = grind (arith, nat_tests)
-
 date_read : (bytes rest : List ℕ) (v : Values) → Says date_parts bytes v rest → 1 ≤ v field.Month → date false bytes ≡ Ok ((v field.Year, v field.Month, v field.Day), rest)
 unfolding date
-date_read bytes rest v says some =
-    let month = says.2.2 in
-    let day = month.2.2 in
-    rw (says.1, literal_said _ _ says.2.1, month.1, some_month (v field.Month) some, literal_said _ _ month.2.1, day.1, day.2) refl
+date_read bytes rest v says some = grind (arith, nat_tests)
 
 clock_read : (bytes rest : List ℕ) (v : Values) → Says clock_parts bytes v rest → clock false bytes ≡ Ok ((v field.Hour, v field.Minute, v field.Second), rest)
 unfolding clock
-clock_read bytes rest v says =
-    let minute = says.2.2 in
-    let second = minute.2.2 in
-    rw (says.1, literal_said _ _ says.2.1, minute.1, literal_said _ _ minute.2.1, second.1, second.2) refl
+clock_read bytes rest v says = grind (arith, nat_tests)
 
 -- ---- the fraction
 
@@ -59,8 +49,7 @@ FollowsFraction bytes = (digits 1 bytes ≡ None) × (byte dot bytes ≡ None)
 
 -- one digit at least follows a point
 some_digits : (count : ℕ) → (suc count ≡ 1 → ⊥) → 0 < count
-some_digits zero more = absurd (more refl)
-some_digits (suc count) more = omega arith
+some_digits count more = grind (arith, nat_tests)
 
 subsecond_read : (bytes rest : List ℕ) (v : Values) (count : ℕ) → (count ≡ 1 → ⊥) → (count ≡ 0 → v field.Nanosecond ≡ 0) → Says (fraction_parts count) bytes v rest → FollowsFraction rest → ReadsNanosecond bytes (v field.Nanosecond) rest
 unfolding subsecond due_fraction
@@ -95,16 +84,11 @@ letter_zone c is bytes v o says value =
 
 no_letter : (c : ℕ) (rest : List ℕ) → ((c == plus) || (c == hyphen)) ≡ true → offset false (c ∷ rest) ≡ signed_offset false (c ∷ rest)
 unfolding offset zulu skip_of
-no_letter c rest e =
-    let other : ((c == upper_z) || (c == lower_z)) ≡ false = grind (arith, nat_tests) in
-    rw other refl
+no_letter c rest e = grind (arith, nat_tests)
 
 signed_read : (bytes : List ℕ) (v : Values) → Says (zone_parts Colon) bytes v [] → v field.OffsetHour ≤ 23 → signed_offset false bytes ≡ Ok (record { is_named = false; is_negative = v field.Sign == hyphen; hours = v field.OffsetHour; minutes = v field.OffsetMinute }, [])
 unfolding signed_offset
-signed_read bytes v says few =
-    let hour = says.2 in
-    let minute = hour.2.2 in
-    rw (says.1, hour.1, le-leb (v field.OffsetHour) 23 few, literal_said _ _ hour.2.1, minute.1, minute.2) refl
+signed_read bytes v says few = grind (arith, nat_tests)
 
 -- `+05:30`
 colon_zone : ReadsZone false (zone_parts Colon)

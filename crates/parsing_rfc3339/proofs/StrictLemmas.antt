@@ -1,18 +1,17 @@
 -- The strict reading against the one that is not: the same where all numbers are in range.
 use Rattle.std.proofs.Common.{◌≡◌, ℕ, ◌≤◌, ◌&&◌, Bool, true, false, List, Result, Ok, arith}
 use Rattle.std.specs.Borrow.{Bor}
-use Rattle.std.specs.Prelude.{◌↔◌, IfOk, codes, nat_le, nat_lt}
+use Rattle.std.specs.Prelude.{◌↔◌, IfOk, codes, nat_lt}
 use Rattle.std.specs.Int.{IsInRange}
-use Rattle.std.proofs.lemmas.Bool.{and_parts, leb-true}
+use Rattle.std.proofs.lemmas.Bool.{and_parts}
 use Rattle.std.proofs.lemmas.Bool.Decides.{nat_tests}
-use Rattle.base.specs.Bytes.{colon}
-use Rattle.parsing_combinator.specs.Fault.{Fault, literal, component}
+use Rattle.parsing_combinator.specs.Fault.{Fault, component}
 use Rattle.parsing_combinator.specs.FaultOf.{Gives, reading_fault}
-use Rattle.parsing_combinator.specs.Pieces.{digits, byte, any_byte, sign}
+use Rattle.parsing_combinator.specs.Pieces.{any_byte}
 use Rattle.parsing_combinator.specs.Readings.{Reading, then_read, piece_or, give, require, within}
 use Rattle.parsing_combinator.specs.declared.fault.ParseFromDescription.{ParseFromDescription}
 use Rattle.parsing_combinator.specs.declared.zone.Zone.{Zone}
-use Rattle.parsing_combinator.proofs.lemmas.Strict.{Misses, Narrows, given, denied, then_misses, then_narrows, same_then, plain_then, checked, entered_narrows, within_yes, within_no, required_says, narrows_iff, strict_passes}
+use Rattle.parsing_combinator.proofs.lemmas.Strict.{Misses, Narrows, given, denied, then_misses, then_narrows, plain_then, checked, entered_narrows, within_yes, within_no, narrows_iff, strict_passes}
 use Rattle.parsing_rfc3339.specs.declared.parts.Rfc3339Parts.{Rfc3339Parts}
 use Rattle.parsing_rfc3339.specs.Range.{AreInRange}
 use Rattle.parsing_rfc3339.specs.Reading.{date, clock, subsecond, zulu, signed_offset, offset, rfc3339}
@@ -71,13 +70,7 @@ is_zone z = (z.hours ≤ 25) × (z.minutes ≤ 59)
 
 signed_narrows : (bytes : List ℕ) → Narrows is_zone (signed_offset true bytes) (signed_offset false bytes)
 unfolding signed_offset
-signed_narrows b0 =
-    plain_then is_zone (piece_or (component (codes "offset hour")) (sign b0)) _ _ (λ s b1.
-    plain_then is_zone (piece_or (component (codes "offset hour")) (digits 2 b1)) _ _ (λ h b2.
-    same_then (λ some. nat_le h 23 ≡ true) is_zone (require (nat_le h 23) (component (codes "offset hour")) b2) _ _ (required_says (nat_le h 23) _ b2) (λ some b3 in_hour.
-    plain_then is_zone (piece_or literal (byte colon b3)) _ _ (λ between b4.
-    plain_then is_zone (piece_or (component (codes "offset minute")) (digits 2 b4)) _ _ (λ m b5.
-    checked is_zone (within true 0 59 m) (component (codes "offset minute")) _ _ b5 (λ fits. given is_zone _ b5 (omega (arith, leb-true h 23 in_hour), (within_yes 0 59 m fits).1)) (λ no. denied is_zone _ b5 (λ p. within_no 0 59 m no (omega arith, p.1))))))))
+signed_narrows b0 = grind (arith, nat_tests)
 
 offset_narrows : (bytes : List ℕ) → Narrows is_zone (offset true bytes) (offset false bytes)
 unfolding offset

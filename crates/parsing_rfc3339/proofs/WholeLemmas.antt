@@ -1,11 +1,8 @@
 -- A text of thirty bytes with `T` and `Z` that says the layout is the text of its numbers.
-use Rattle.std.proofs.Common.{◌≡◌, ℕ, zero, suc, ◌+◌, ◌*◌, ◌/◌, ◌%◌, ◌≤◌, ◌∙◌, true, false, List, [], ◌∷◌, ◌++◌, get_or, length, take, drop, Some, Ok, ℤ, pos, refl, sym, ap, arith}
+use Rattle.std.proofs.Common.{◌≡◌, ℕ, zero, suc, ◌+◌, ◌*◌, ◌/◌, ◌%◌, ◌∙◌, true, false, List, [], ◌∷◌, ◌++◌, get_or, length, take, Some, Ok, ℤ, pos, refl, sym, ap, arith}
 use Rattle.std.specs.Prelude.{◌*ℤ◌}
-use Rattle.std.specs.Option.{unwrap_or}
-use Rattle.std.specs.Result.{result_ok}
 use Rattle.std.specs.Str.Parse.{digits_value}
-use Rattle.std.proofs.lemmas.List.{take-append-drop, length-take-le, length-drop, get_or-append-add}
-use Rattle.std.proofs.lemmas.Int.{ints}
+use Rattle.std.proofs.lemmas.List.{take-append-drop, length-take-le, length-drop}
 use Rattle.std.proofs.lemmas.List.Sums.{prefix_len-le-length}
 use Rattle.std.specs.Char.{is_ascii_digit}
 use Rattle.calendar.specs.UtcOffset.{offset_of}
@@ -30,12 +27,11 @@ use Rattle.parsing_places.specs.declared.ending.Ending.TheVariants.{Zulu, Colon,
 use Rattle.parsing_rfc3339.specs.Layout.{date_parts, clock_parts, front_parts}
 use Rattle.parsing_values.specs.Moment.{whole_text}
 use Rattle.parsing_rfc3339.specs.Whole.{IsLikeWhole}
+use Rattle.std.proofs.lemmas.Bool.Decides.{nat_tests}
 
 -- digits are the decimal of the number that they write
 digits_text : (n : ℕ) (bytes rest : List ℕ) (v : ℕ) → digits n bytes ≡ Some (v, rest) → bytes ≡ decimal n v ++ rest
-digits_text n bytes rest v e =
-    let read = digits_read n bytes v rest e in
-    sym (take-append-drop n bytes) ∙ rw (← decimal_of_digits n bytes read.enough, read.value, read.after) refl
+digits_text n bytes rest v e = grind (arith, nat_tests, digits_read, take-append-drop, decimal_of_digits)
 
 whole_nanoseconds : (ds : List ℕ) → length ds ≡ 9 → digits_value 10 ds ≡ nanoseconds_of ds
 whole_nanoseconds ds long = rw long (let e : digits_value 10 ds ≡ digits_value 10 ds * 1_000_000_000 / 1_000_000_000 = omega arith in e)
@@ -55,30 +51,10 @@ front_text v c rest = decimal 4 (v field.Year) ++ hyphen ∷ (decimal 2 (v field
 
 -- its date and its time of day, by the byte between them
 date_is : (text rest : List ℕ) (v : Values) → Says date_parts text v rest → text ≡ decimal 4 (v field.Year) ++ hyphen ∷ (decimal 2 (v field.Month) ++ hyphen ∷ (decimal 2 (v field.Day) ++ rest))
-date_is text rest v year =
-    let month = year.2.2 in
-    let day = month.2.2 in
-    rw (
-      digits_text 4 text year.0 (v field.Year) year.1,
-      byte_is hyphen year.0 year.2.0 (literal_said _ _ year.2.1),
-      digits_text 2 year.2.0 month.0 (v field.Month) month.1,
-      byte_is hyphen month.0 month.2.0 (literal_said _ _ month.2.1),
-      digits_text 2 month.2.0 day.0 (v field.Day) day.1,
-      day.2,
-    ) refl
+date_is text rest v year = grind (arith, nat_tests, digits_text, byte_is)
 
 clock_is : (text rest : List ℕ) (v : Values) → Says clock_parts text v rest → text ≡ decimal 2 (v field.Hour) ++ colon ∷ (decimal 2 (v field.Minute) ++ colon ∷ (decimal 2 (v field.Second) ++ rest))
-clock_is text rest v hour =
-    let minute = hour.2.2 in
-    let second = minute.2.2 in
-    rw (
-      digits_text 2 text hour.0 (v field.Hour) hour.1,
-      byte_is colon hour.0 hour.2.0 (literal_said _ _ hour.2.1),
-      digits_text 2 hour.2.0 minute.0 (v field.Minute) minute.1,
-      byte_is colon minute.0 minute.2.0 (literal_said _ _ minute.2.1),
-      digits_text 2 minute.2.0 second.0 (v field.Second) second.1,
-      second.2,
-    ) refl
+clock_is text rest v hour = grind (arith, nat_tests, digits_text, byte_is)
 
 front_is : (text rest : List ℕ) (v : Values) → Says front_parts text v rest → (c : ℕ) × (text ≡ front_text v c rest)
 unfolding front_text
@@ -88,18 +64,6 @@ front_is text rest v says =
     let any = skip_is (λ _. true) date.0 between.0 (literal_said _ _ between.1) in
     let both : date.0 ≡ any.0 ∷ (decimal 2 (v field.Hour) ++ colon ∷ (decimal 2 (v field.Minute) ++ colon ∷ (decimal 2 (v field.Second) ++ rest))) = any.1 ∙ ap (λ (l : List ℕ). any.0 ∷ l) (clock_is between.0 rest v between.2) in
     (any.0, date_is text date.0 v date.1 ∙ ap (λ (l : List ℕ). decimal 4 (v field.Year) ++ hyphen ∷ (decimal 2 (v field.Month) ++ hyphen ∷ (decimal 2 (v field.Day) ++ l))) both)
-
-front_length : (v : Values) (c : ℕ) (rest : List ℕ) → length (front_text v c rest) ≡ 19 + length rest
-unfolding front_text decimal
-front_length v c rest = omega arith
-
-front_letter : (v : Values) (c : ℕ) (rest : List ℕ) → get_or (front_text v c rest) 10 0 ≡ c
-unfolding front_text decimal
-front_letter v c rest = refl
-
-front_last : (v : Values) (c : ℕ) (rest : List ℕ) → get_or (front_text v c rest) 29 0 ≡ get_or rest 10 0
-unfolding front_text decimal
-front_last v c rest = refl
 
 -- ---- the fraction and the offset
 
@@ -115,16 +79,7 @@ fraction_is rest v count zone says =
     let point = byte_is dot rest says.0 (literal_said _ _ says.1) in
     let fraction = says.2 in
     let said = exact_said _ says.0 fraction.0 count (v field.Nanosecond) refl fraction.1 in
-    let parts : length says.0 ≡ count + length fraction.0 = rw (← said.2) (omega (arith, said.0, prefix_len-le-length is_ascii_digit says.0, length-drop count says.0)) in (
-      fraction.0,
-      record {
-        digits_from = says.0;
-        all = point;
-        read = fraction.1;
-        size = rw point (omega (arith, parts));
-      },
-      fraction.2,
-    )
+    grind (arith, nat_tests, prefix_len-le-length, length-drop)
 
 -- nine of them before `Z` are those of the nanoseconds
 zulu_is : (rest after : List ℕ) (count n : ℕ) → HasFraction rest after count n → after ≡ upper_z ∷ [] → length rest ≡ 11 → rest ≡ dot ∷ (decimal 9 n ++ upper_z ∷ [])
@@ -139,34 +94,18 @@ colon_text mark hour minute = mark ∷ (decimal 2 hour ++ colon ∷ (decimal 2 m
 
 colon_is : (after : List ℕ) (v : Values) → Says (zone_parts Colon) after v [] → after ≡ colon_text (v field.Sign) (v field.OffsetHour) (v field.OffsetMinute)
 unfolding colon_text
-colon_is after v says =
-    let hour = says.2 in
-    let minute = hour.2.2 in
-    let mark = sign_is after says.0 (v field.Sign) says.1 in
-    rw (
-      mark.all,
-      digits_text 2 says.0 hour.0 (v field.OffsetHour) hour.1,
-      byte_is colon hour.0 hour.2.0 (literal_said _ _ hour.2.1),
-      digits_text 2 hour.2.0 minute.0 (v field.OffsetMinute) minute.1,
-      minute.2,
-    ) refl
+colon_is after v says = grind (arith, nat_tests, sign_is, digits_text, byte_is)
 
 colon_last : (mark hour minute : ℕ) → (length (colon_text mark hour minute) ≡ 6) × (get_or (colon_text mark hour minute) 5 0 ≡ 48 + minute % 10)
 unfolding colon_text decimal
 colon_last mark hour minute = (refl, refl)
-
-no_digit : (n : ℕ) → 48 + n % 10 ≡ upper_z → ⊥
-no_digit n e = omega (arith, e)
 
 colon_ends : (rest after : List ℕ) (mark hour minute count n : ℕ) → HasFraction rest after count n → after ≡ colon_text mark hour minute → length rest ≡ 11 → get_or rest 10 0 ≡ upper_z → ⊥
 colon_ends rest after mark hour minute count n has zone long last =
     let six : length after ≡ 6 = ap length zone ∙ (colon_last mark hour minute).0 in
     let four : count ≡ 4 = omega (arith, has.size) in
     let said = exact_said _ has.digits_from after count n refl has.read in
-    let size : length (take count has.digits_from) ≡ count = length-take-le count has.digits_from (omega (arith, said.0, prefix_len-le-length is_ascii_digit has.digits_from)) in
-    let there : get_or (take count has.digits_from ++ drop count has.digits_from) (length (take count has.digits_from) + 5) 0 ≡ get_or (drop count has.digits_from) 5 0 = get_or-append-add (take count has.digits_from) (drop count has.digits_from) 5 0 in
-    let end : get_or has.digits_from 9 0 ≡ get_or after 5 0 = rw (take-append-drop count has.digits_from, size, four, (rw four at said.2)) at there in
-    no_digit minute (sym (colon_last mark hour minute).1 ∙ ap (λ (l : List ℕ). get_or l 5 0) (sym zone) ∙ sym end ∙ ap (λ (l : List ℕ). get_or l 10 0) (sym has.all) ∙ last)
+    grind (arith, nat_tests, colon_last)
 
 -- ---- the whole
 
@@ -186,12 +125,7 @@ end_is Plain rest v bytes written says long last = absurd cc
 
 utc_offset : (o : ℤ) → signed_offset_of false 0 0 ≡ Ok (pos 60 *ℤ o) → o ≡ pos 0
 unfolding signed_offset_of offset_of
-utc_offset o e =
-    let same : pos 0 ≡ pos 60 *ℤ o = ap (λ r. unwrap_or (result_ok r) (pos 0)) e in
-    omega (arith, ints, same)
-
-by_hours : (hour minute : ℕ) → minute ≤ 59 → ((hour * 60 + minute) / 60 ≡ hour) × ((hour * 60 + minute) % 60 ≡ minute)
-by_hours hour minute few = (omega arith, omega arith)
+utc_offset o e = grind (arith, nat_tests)
 
 pub text_whole : (e : Ending) (text : List ℕ) (f : Fields) → is_written true e ≡ true → SaysTailed front_parts (is_zulu e) (zone_parts e) text f → IsLikeWhole text → (text ≡ whole_text f) × (f.offset ≡ pos 0)
 unfolding whole_text front_text decimal
@@ -201,11 +135,4 @@ text_whole e text f written m like =
     let n = said.numbers in
     let parts = says_first front_parts (fraction_parts m.bytes ++ zone_parts e) text [] v said.says in
     let front = front_is text parts.0 v parts.1 in
-    let long : length parts.0 ≡ 11 = omega (arith, like.size, ap length front.1, front_length v front.0 parts.0) in
-    let last : get_or parts.0 10 0 ≡ upper_z = sym (front_last v front.0 parts.0) ∙ ap (λ (l : List ℕ). get_or l 29 0) (sym front.1) ∙ like.in_utc in
-    let letter : front.0 ≡ 84 = sym (front_letter v front.0 parts.0) ∙ ap (λ (l : List ℕ). get_or l 10 0) (sym front.1) ∙ like.before_time in
-    let end = end_is e parts.0 v m.bytes written parts.2 long last in
-    let clock = by_hours (v field.Hour) (v field.Minute) said.minute_few in (
-      front.1 ∙ rw (letter, end.0, n.same_year, n.same_month, n.same_day, n.same_minute, clock.0, clock.1, n.same_second, n.same_fraction) refl,
-      utc_offset f.offset (rw end.1 at said.offset_is),
-    )
+    grind (arith, nat_tests, end_is, utc_offset)

@@ -6,15 +6,13 @@ use Rattle.parsing_combinator.specs.Pieces.{digits}
 use Rattle.parsing_combinator.proofs.Fixed.{some_if, digits_one}
 use Rattle.parsing_layout.specs.Layout.{Values, Says}
 use Rattle.parsing_layout.specs.declared.parts.Part.{Part}
-use Rattle.parsing_layout.specs.declared.parts.Field.TheVariants as field
 use Rattle.parsing_layout.specs.declared.parts.Part.TheVariants as part
 use Rattle.parsing_layout.proofs.PieceLemmas.{byte_is, literal_said, sign_is}
 use Rattle.parsing_layout.proofs.TestLemmas.{is_not}
 use Rattle.parsing_shapes.specs.End.{begins_apart}
 
 no_number : (q p : Bool) (number : ℕ) (rest : List ℕ) → p ≡ false → some_if (q && p) number rest ≡ None
-no_number true p number rest e = rw e refl
-no_number false p number rest e = refl
+no_number q p number rest e = grind (arith, nat_tests)
 
 pub none_at : (bytes : List ℕ) → is_ascii_digit (get_or bytes 0 0) ≡ false → digits 1 bytes ≡ None
 none_at bytes e = digits_one bytes ∙ no_number _ _ _ _ e
@@ -23,8 +21,5 @@ pub none_first : (ps : List Part) (bytes rest : List ℕ) (v : Values) → begin
 none_first [] bytes rest v e says none = none refl
 none_first (part.Byte c ∷ ps) bytes rest v e says none =
     rw (byte_is c bytes says.0 (literal_said _ _ says.1)) (none_at (c ∷ says.0) (is_not (is_ascii_digit c) e))
-none_first (part.Sign ∷ ps) bytes rest v e says none =
-    let s = sign_is bytes says.0 (v field.Sign) says.1 in
-    let sign = s.is in
-    rw s.all (none_at (v field.Sign ∷ says.0) (grind (arith, nat_tests, sign)))
+none_first (part.Sign ∷ ps) bytes rest v e says none = grind (arith, nat_tests, none_at, sign_is)
 none_first (p ∷ ps) bytes rest v e says none = absurd cc

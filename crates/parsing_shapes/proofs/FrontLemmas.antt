@@ -1,5 +1,5 @@
 -- What lanes take of a text's front, and what is read beside them, the text says.
-use Rattle.std.proofs.Common.{◌≡◌, ◌≤◌, ◌<◌, ◌+◌, ◌-◌, ◌*◌, ◌/◌, ◌%◌, ◌∙◌, ◌&&◌, ◌==◌, ℕ, Bool, true, false, List, get_or, length, drop, Option, Some, None, refl, sym, ap, arith, lit<, inl, inr, bit_and}
+use Rattle.std.proofs.Common.{◌≡◌, ◌≤◌, ◌<◌, ◌+◌, ◌-◌, ◌*◌, ◌/◌, ◌%◌, ◌∙◌, ◌&&◌, ℕ, Bool, true, false, List, get_or, length, drop, Option, Some, None, refl, sym, ap, arith, lit<, inl, inr, bit_and}
 use Rattle.std.specs.Prelude.{nat_le, is_some, ◌⊎◌}
 use Rattle.std.specs.Option.{ForSome}
 use Rattle.std.proofs.lemmas.Nat.{and_mask}
@@ -22,7 +22,8 @@ use Rattle.parsing_layout.specs.declared.parts.Part.TheVariants as part
 use Rattle.parsing_shapes.specs.declared.shape.Shape.{Shape}
 use Rattle.parsing_shapes.proofs.TakenLemmas.{one_digit, paired_first, shape_part, taken_say}
 use Rattle.parsing_layout.proofs.SpacedLemmas.{after_space, without_space}
-use Rattle.parsing_layout.proofs.TestLemmas.{at_most, both, otherwise, same, when}
+use Rattle.parsing_layout.proofs.TestLemmas.{at_most, both, otherwise, when}
+use Rattle.std.proofs.lemmas.Bool.Decides.{nat_tests}
 
 -- what a text says by its front
 abbrev pub front_values : ℕ → ℕ → ℕ → ℕ → ℕ → List ℕ → Values
@@ -37,17 +38,14 @@ front_values year month day weekday nanosecond n f = number_in n (pair_of f)
 -- ---- what is read at a place, and what is not
 
 not_read : (o : Option ℕ) (p : Part) (text : List ℕ) (other n : ℕ) → is_some o ≡ false → ReadAt o p text other n → n ≡ other
-not_read None p text other n e r = r
-not_read (Some place) p text other n e r = absurd cc
+not_read o p text other n e r = grind (arith, nat_tests)
 
 read_there : (o : Option ℕ) (p : Part) (text : List ℕ) (other n at : ℕ) → is_at o at ≡ true → ReadAt o p text other n → piece_of p (drop at text) ≡ Some (n, drop (at + width p) text)
-read_there None p text other n at e r = absurd cc
-read_there (Some place) p text other n at e r = rw (sym (same place at e)) r
+read_there o p text other n at e r = grind (arith, nat_tests)
 
 digits_there : (o : Option (ℕ × ℕ)) (text : List ℕ) (n count at : ℕ) → is_fraction_at o count at ≡ true → ForSome o (λ x. ReadAt (Some x.0) (part.Fraction x.1) text 0 n)
     → piece_of (part.Fraction count) (drop at text) ≡ Some (n, drop (at + count) text)
-digits_there None text n count at e r = absurd cc
-digits_there (Some x) text n count at e r = let b = both (x.0 == at) (x.1 == count) e in rw (sym (same x.0 at b.0), sym (same x.1 count b.1)) (r x refl)
+digits_there o text n count at e r = grind (arith, nat_tests)
 
 -- ---- the front of a text
 
@@ -110,12 +108,7 @@ day_spaced text place other h (inr is) =
 
 module _ (s : Shape) (b : Beside) (ready : is_ready s b ≡ true) where
   rooms : (has_room s.length b.month ≡ true) × (has_room s.length b.weekday ≡ true) × (takes_ones s.windows b.day ≡ true) × (has_digits s.length b.fraction ≡ true)
-  rooms =
-      let l = s.length in
-      let one = both (has_room l b.month) (has_room l b.weekday && (takes_ones s.windows b.day && has_digits l b.fraction)) ready in
-      let two = both (has_room l b.weekday) (takes_ones s.windows b.day && has_digits l b.fraction) one.1 in
-      let three = both (takes_ones s.windows b.day) (has_digits l b.fraction) two.1 in
-      (one.0, two.0, three.0, three.1)
+  rooms = grind (arith, nat_tests, both)
 
   name_room : (o : Option ℕ) (place : ℕ) → has_room s.length o ≡ true → o ≡ Some place → place + 4 ≤ s.length
   name_room o place e is = let room : nat_le (place + 4) s.length ≡ true = rw is at e in at_most (place + 4) s.length room

@@ -30,10 +30,7 @@ clock_lanes : (j : ℕ) → (if of_clock j then true else false) ≡ true → (j
 clock_lanes j e = elim (cases_lt j 4) [ inl lt ↦ inl lt | inr le ↦ inr (grind (arith, nat_tests, le, e)) ]
 
 pub same_sign : (t n : ℕ) → t % 4 ≡ n → n ≤ 2 → n % 2 ≡ 0 → nat_eq (t % 4) 2 ≡ (n + 43 == hyphen)
-same_sign t n is few even = elim (cases_lt n 1) [
-  | inl lt ↦ let zero : n ≡ 0 = omega arith in rw (is, zero) refl
-  | inr ge ↦ let two : n ≡ 2 = omega (arith, ge, few, even) in rw (is, two) refl
-]
+same_sign t n is few even = grind (arith, nat_tests)
 
 -- so many bytes are between a layout and a zone: none, or a point and digits that write a fraction
 pub record IsPlaced (s : Shape) (zone : List Part) (text : List ℕ) (bytes nanosecond : ℕ) : Type 0 where
@@ -45,10 +42,7 @@ pub record IsPlaced (s : Shape) (zone : List Part) (text : List ℕ) (bytes nano
 pub signed_said : (n : List ℕ) (o t : ℕ) (minutes : ℤ) → AreFew n → o ≡ 60 * get_or n 8 0 + get_or n 10 0 → t ≡ get_or n 12 0 + 64 * get_or n 14 0 → t % 2 ≡ 0
     → ((hour minute : ℕ) → o ≡ 60 * hour + minute → hour ≤ 23 → minute ≤ 59 → signed_offset_of (nat_eq (t % 4) 2) hour minute ≡ Ok (pos 60 *ℤ minutes))
     → (get_or n 8 0 ≤ 23) × (signed_offset_of (get_or n 12 0 + 43 == hyphen) (get_or n 8 0) (get_or n 10 0) ≡ Ok (pos 60 *ℤ minutes))
-signed_said n o t minutes few offsets seconds even value =
-    let sign : t % 4 ≡ get_or n 12 0 = omega (arith, seconds, few.sign) in
-    let same = same_sign t (get_or n 12 0) sign few.sign (omega (arith, seconds, even)) in
-    (omega (arith, few.offset_hour), rw same at (value (get_or n 8 0) (get_or n 10 0) offsets (omega (arith, few.offset_hour)) few.offset_minute))
+signed_said n o t minutes few offsets seconds even value = grind (arith, nat_tests)
 
 pub few_from : (n : List ℕ) → (get_or n 0 0 ≤ 59) × (get_or n 2 0 ≤ 99) × (get_or n 6 0 ≤ 59) × (get_or n 14 0 ≤ 59) → (get_or n 8 0 ≤ 19) × (get_or n 10 0 ≤ 59) × (get_or n 12 0 ≤ 2) → AreFew n
 few_from n c o = record { month = c.0; day = c.1; minute = c.2; second = c.3; offset_hour = o.0; offset_minute = o.1; sign = o.2 }
@@ -57,13 +51,7 @@ few_from n c o = record { month = c.0; day = c.1; minute = c.2; second = c.3; of
 pub range_of : (s : Shape) (text front n : List ℕ) (d o t : ℕ) → Taken s.windows text front → ((k : ℕ) → get_or text k 0 < 256) → s.length ≤ length text → AreFew n → d < 16_384 → o ≡ 60 * get_or n 8 0 + get_or n 10 0 → t ≡ get_or n 12 0 + 64 * get_or n 14 0 → AreInRange text s.year d o t
 range_of s text front n d o t taken small long few days offsets seconds =
     let year = year_pairs s.windows text front s.length s.year taken small s.year_is long in
-    record {
-      century = year.0;
-      last_two = year.1;
-      days_few = days;
-      offsets_few = omega (arith, offsets, few.offset_hour, few.offset_minute);
-      seconds_few = omega (arith, seconds, few.sign, few.second);
-    }
+    grind (arith, nat_tests)
 
 module _ (s : Shape) (w : Window) (text : List ℕ) (at d m o t : ℕ) (tail : s.has_tail ≡ true) (is_end : IsEnd w)
     (x : AreTaken s w text at d m o t) (small : (k : ℕ) → get_or text k 0 < 256) where

@@ -1,10 +1,9 @@
 -- What stands after the parts of a shape: a fraction, and what a window over the end of the text takes.
-use Rattle.std.proofs.Common.{◌≡◌, ◌≤◌, ◌<◌, ◌+◌, ◌-◌, ◌*◌, ◌%◌, ℕ, zero, suc, true, false, List, [], get_or, length, drop, Option, Some, None, refl, sym, ap, arith}
+use Rattle.std.proofs.Common.{◌≡◌, ◌≤◌, ◌<◌, ◌+◌, ◌-◌, ◌*◌, ◌%◌, ℕ, zero, suc, true, false, List, [], get_or, length, drop, Option, Some, None, refl, sym, arith}
 use Rattle.std.specs.Prelude.{nat_le}
 use Rattle.std.proofs.lemmas.Bool.Decides.{nat_tests}
 use Rattle.std.proofs.lemmas.List.{drop-drop, get_or-drop, get_or-replicate, length-drop}
 use Rattle.base.specs.Bytes.{dot}
-use Rattle.parsing_combinator.specs.Pieces.{digit_count}
 use Rattle.parsing_combinator.specs.Written.{WriteFraction}
 use Rattle.parsing_places.specs.Last.{HaveEnd, HaveWindow}
 use Rattle.parsing_places.specs.Numbers.{LieIn}
@@ -25,9 +24,7 @@ use Rattle.parsing_shapes.proofs.TakenLemmas.{SameLanes, literal_there, parts_sa
 
 pub exact_there : (bytes : List ℕ) (count n : ℕ) → WriteFraction bytes count n → exact_fraction count bytes ≡ Some (n, drop count bytes)
 unfolding exact_fraction
-exact_there bytes count n w =
-    let enough : nat_le count (digit_count bytes) ≡ true = let e = w.enough in grind (arith, nat_tests) in
-    rw (enough, w.value) refl
+exact_there bytes count n w = grind (arith, nat_tests)
 
 -- in so many bytes from a place to an end: none, or a point and digits
 pub fraction_says : (text : List ℕ) (place end bytes nanosecond : ℕ) (v : Values) → v field.Nanosecond ≡ nanosecond → end ≡ place + bytes → (0 < bytes → place < length text) → (0 < bytes → get_or text place 0 ≡ dot) → WriteFraction (drop (end - (bytes - 1)) text) (bytes - 1) nanosecond → Says (fraction_parts bytes) (drop place text) v (drop end text)
@@ -78,9 +75,7 @@ module _ (w : Window) (text : List ℕ) (end : ℕ) (v2 v n : List ℕ) (values 
     (are : (values field.OffsetHour ≡ get_or n 8 0) × (values field.OffsetMinute ≡ get_or n 10 0) × (values field.Sign ≡ get_or n 12 0 + 43)) (h : HaveEnd w text end v2)
     (same_two : EndLanes v v2) (paired : Paired v n) (small : (k : ℕ) → get_or text k 0 < 256) (sixteen : 16 ≤ end) (within : end ≤ length text) (even : get_or n 12 0 % 2 ≡ 0) where
   end_number : (f : Field) (j : ℕ) → pair_of f ≡ Some j → own (end_of w) j ≡ true → values f ≡ get_or n (2 * j) 0
-  end_number field.OffsetHour j e mine = let is : 4 ≡ j = ap index e in rw (sym is) are.0
-  end_number field.OffsetMinute j e mine = let is : 5 ≡ j = ap index e in rw (sym is) are.1
-  end_number f j e mine = absurd (let is = ap index e in grind (arith, nat_tests, is, mine))
+  end_number f j e mine = grind (arith, nat_tests)
 
   pub end_says : (parts : List Part) → fits_end w parts ≡ true → Says parts (drop (end - length_of parts) text) values (drop end text)
   end_says parts fits =

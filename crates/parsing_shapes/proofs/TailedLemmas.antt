@@ -1,5 +1,5 @@
 -- What lanes take of a text and of its end, by the places of a fraction.
-use Rattle.std.proofs.Common.{◌≡◌, ◌≤◌, ◌<◌, ◌+◌, ◌-◌, ◌==◌, ◌&&◌, ◌||◌, ℕ, Bool, true, false, not, List, get_or, length, drop, refl, arith, lit<, lit≤, inl, inr}
+use Rattle.std.proofs.Common.{◌≡◌, ◌≤◌, ◌<◌, ◌+◌, ◌-◌, ◌==◌, ◌&&◌, ◌||◌, ℕ, Bool, true, false, not, List, get_or, length, drop, arith, lit<, lit≤, inl, inr}
 use Rattle.std.specs.Prelude.{nat_lt, if◌then◌else◌}
 use Rattle.std.proofs.lemmas.Bool.{agree_below, agree_below_at, cases_lt, le-ltb, lt-ltb}
 use Rattle.std.proofs.lemmas.Bool.Decides.{nat_tests}
@@ -25,8 +25,7 @@ use Rattle.parsing_shapes.proofs.MomentLemmas.{IsPlaced, in_range}
 
 -- an offset ends at the end of the window
 pub zone_length : (e : Ending) → length_of (zone_parts e) + offset_at e ≡ 16
-zone_length Zulu = refl
-zone_length e = refl
+zone_length e = grind (arith, nat_tests)
 
 -- ---- a text and its end
 
@@ -42,12 +41,10 @@ pub record Whole (s : Shape) (w : Window) (moves : Moves) (zone : List Part) (is
 
 -- a text that has a tail has a fraction of as many bytes as the tail has
 possible : (z fraction : Bool) (byte : ℕ) → z ≡ (byte == 90) → (fraction ≡ false → byte ≡ (if z then 48 else 90)) → fraction ≡ true
-possible z true byte zulu never = refl
-possible z false byte zulu never = absurd (grind (arith, nat_tests, zulu, never refl))
+possible z fraction byte zulu never = grind (arith, nat_tests)
 
 end_small : (z : Bool) → (if z then 48 else 90) + 0 < 256
-end_small true = lit< tt
-end_small false = lit< tt
+end_small z = grind (arith, nat_tests)
 
 -- by a tail of the table, whose last byte is that of the text
 pub of_tail : (s : Shape) (tail : Tail) (text digits : List ℕ) (d m o t : ℕ) → s.has_tail ≡ true → AreTaken s tail.window text (length text) d m o t → HaveEnd (with_moves tail.window tail.digits) text (length text) digits → ((k : ℕ) → get_or text k 0 < 256) → 16 ≤ length text → is_zulu tail.ending ≡ (get_or text (length text - 1) 0 == 90)

@@ -1,5 +1,5 @@
 -- What windows take of the parts of a layout, a text says.
-use Rattle.std.proofs.Common.{leb, ◌≡◌, ◌≤◌, ◌<◌, ◌+◌, ◌-◌, ◌*◌, ◌%◌, ◌&&◌, ◌==◌, ℕ, Bool, true, false, List, [], ◌∷◌, get_or, length, drop, Option, Some, None, refl, sym, ap, arith, lit<, lit≤, inl, inr, ◌∙◌}
+use Rattle.std.proofs.Common.{leb, ◌≡◌, ◌≤◌, ◌<◌, ◌+◌, ◌-◌, ◌*◌, ◌%◌, ◌&&◌, ◌==◌, ℕ, Bool, true, false, List, [], ◌∷◌, get_or, length, drop, Option, Some, refl, sym, arith, lit<, lit≤, inl, inr, ◌∙◌}
 use Rattle.std.specs.Prelude.{nat_lt}
 use Rattle.std.proofs.lemmas.Bool.Decides.{nat_tests}
 use Rattle.std.proofs.lemmas.List.{drop_more, drop-drop, length-drop}
@@ -19,22 +19,16 @@ use Rattle.parsing_layout.specs.declared.parts.Field.TheVariants as field
 use Rattle.parsing_layout.specs.declared.parts.Part.TheVariants as part
 use Rattle.parsing_layout.proofs.LayoutLemmas.{says_there}
 use Rattle.parsing_layout.proofs.TestLemmas.{both, one, less, same}
-use Rattle.parsing_shapes.specs.Shape.{fits, is_at, lane_values, most_of, number_in, own, pair_of, taker_of, takes_all, takes_digits, takes_one_at, takes_pair_at, takes_part}
+use Rattle.parsing_shapes.specs.Shape.{fits, is_at, lane_values, most_of, own, pair_of, taker_of, takes_all, takes_digits, takes_one_at, takes_pair_at, takes_part}
 use Rattle.parsing_shapes.specs.declared.shape.Shape.{Shape}
 use Rattle.parsing_shapes.specs.declared.taker.Taker.{Taker}
 use Rattle.parsing_shapes.proofs.WindowLemmas.{all_spared}
 
 pub bounds : (w : Windows) (has_tail : Bool) → are_bounded w has_tail ≡ true → (is_bounded w 0 5 ≡ true) × (is_bounded w 2 9 ≡ true) × (is_bounded w 6 5 ≡ true) × (is_bounded w 14 5 ≡ true) × (is_offset_bounded w has_tail ≡ true)
-bounds w has_tail e =
-    let a = both (is_bounded w 0 5) (is_bounded w 2 9 && (is_bounded w 6 5 && (is_bounded w 14 5 && is_offset_bounded w has_tail))) e in
-    let b = both (is_bounded w 2 9) (is_bounded w 6 5 && (is_bounded w 14 5 && is_offset_bounded w has_tail)) a.1 in
-    let c = both (is_bounded w 6 5) (is_bounded w 14 5 && is_offset_bounded w has_tail) b.1 in
-    let d = both (is_bounded w 14 5) (is_offset_bounded w has_tail) c.1 in
-    (a.0, b.0, c.0, d.0, d.1)
+bounds w has_tail e = grind (arith, nat_tests, both)
 
 few : (f : Field) → most_of f ≤ 9
-few field.Month = lit≤ tt
-few f = lit≤ tt
+few f = grind (arith, nat_tests)
 
 -- ---- bytes
 
@@ -95,9 +89,7 @@ module _ (t : Taker) (text v1 v n : List ℕ) (h : Taken t.windows text v1) (sma
   bounded j most lt small_most mine e =
       let b = both (is_lane_bounded t.windows (2 * j) most) (is_lane_bounded t.windows (2 * j + 1) 9) e in
       let first = lane_few (2 * j) most (omega (arith, lt)) small_most b.0 in
-      let second = lane_few (2 * j + 1) 9 (omega (arith, lt)) (lit≤ tt) b.1 in
-      let same_lanes = same_two j lt mine in
-      omega (arith, paired j lt (omega (arith, same_lanes.0, first, small_most)) (omega (arith, same_lanes.1, second)), same_lanes, first, second)
+      grind (arith, nat_tests, lane_few)
 
   pub clock_few : (has_tail : Bool) → t.has_clock ≡ true → are_bounded t.windows has_tail ≡ true → (get_or n 0 0 ≤ 59) × (get_or n 2 0 ≤ 99) × (get_or n 6 0 ≤ 59) × (get_or n 14 0 ≤ 59)
   clock_few has_tail mine e =
@@ -134,12 +126,7 @@ module _ (t : Taker) (text v1 v n : List ℕ) (h : Taken t.windows text v1) (sma
   module _ (values : Values) (long : t.length ≤ length text) (even : get_or n 12 0 % 2 ≡ 0) (years : (at : ℕ) → is_at t.year at ≡ true → digits 4 (drop at text) ≡ Some (values field.Year, drop (at + 4) text))
       (numbers : (f : Field) (j : ℕ) → pair_of f ≡ Some j → own t j ≡ true → values f ≡ get_or n (2 * j) 0) (signs : values field.Sign ≡ get_or n 12 0 + 43) where
     pair_by : (f : Field) (o : Option ℕ) (most k at : ℕ) → pair_of f ≡ o → most ≤ 9 → takes_pair_at t o most k at ≡ true → digits k (drop at text) ≡ Some (values f, drop (at + k) text)
-    pair_by f None most k at is small_most e = absurd cc
-    pair_by f (Some j) most k at is small_most e =
-        let a = both (k == 2) (nat_lt j 8 && (own t j && takes_two t.windows (2 * j) at most)) e in
-        let b = both (nat_lt j 8) (own t j && takes_two t.windows (2 * j) at most) a.1 in
-        let c = both (own t j) (takes_two t.windows (2 * j) at most) b.1 in
-        rw (same k 2 a.0, numbers f j is c.0) (two j at most (less j 8 b.0) small_most c.0 c.1).written
+    pair_by f o most k at is small_most e = grind (arith, nat_tests, both, two)
 
     one_by : (f : Field) (j k at : ℕ) → pair_of f ≡ Some j → takes_one_at t j k at ≡ true → digits k (drop at text) ≡ Some (values f, drop (at + k) text)
     one_by f j k at is e =
@@ -164,10 +151,7 @@ module _ (t : Taker) (text v1 v n : List ℕ) (h : Taken t.windows text v1) (sma
     byte_at c at lt lets = let b = byte_within t.windows text v1 h small at c 0 lets (omega (arith, lt)) in omega (arith, b.0, b.1)
 
     pub part_at : (p : Part) (at : ℕ) → takes_part t p at ≡ true → piece_of p (drop at text) ≡ Some (value_of p values, drop (at + width p) text)
-    part_at (part.Byte c) at e =
-        let a = both (nat_lt c 256) (lets_at t.windows at c 0 && nat_lt at t.length) e in
-        let b = both (lets_at t.windows at c 0) (nat_lt at t.length) a.1 in
-        literal_there text at c (omega (arith, less at t.length b.1, long)) (byte_at c at (less c 256 a.0) b.0)
+    part_at (part.Byte c) at e = grind (arith, nat_tests, literal_there)
     part_at part.Any at e = any_there text at (omega (arith, less at t.length e, long))
     part_at (part.Digits f k) at e = digits_at f k at e
     part_at part.Sign at e =
@@ -183,10 +167,7 @@ module _ (t : Taker) (text v1 v n : List ℕ) (h : Taken t.windows text v1) (sma
 -- ---- a shape, over the start of a text
 
 pub lane_number : (year nanosecond : ℕ) (n : List ℕ) (f : Field) (j : ℕ) → pair_of f ≡ Some j → lane_values year nanosecond n f ≡ get_or n (2 * j) 0
-lane_number year nanosecond n field.Year j e = absurd cc
-lane_number year nanosecond n field.Nanosecond j e = absurd cc
-lane_number year nanosecond n field.Sign j e = absurd cc
-lane_number year nanosecond n f j e = ap (number_in n) e
+lane_number year nanosecond n f j e = grind (arith, nat_tests)
 
 module _ (s : Shape) (text v1 v n : List ℕ) (year nanosecond : ℕ) (h : Taken s.windows text v1) (same_two : SameLanes (taker_of s) v v1) (paired : Paired v n) (small : (k : ℕ) → get_or text k 0 < 256) (long : s.length ≤ length text)
     (year_there : digits 4 (drop s.year text) ≡ Some (year, drop (s.year + 4) text)) (even : get_or n 12 0 % 2 ≡ 0) where

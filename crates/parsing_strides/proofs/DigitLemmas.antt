@@ -1,8 +1,5 @@
 -- Digits of a fraction, and ten digits, at the start of a text.
-use Rattle.std.proofs.Common.{◌≡◌, ◌≤◌, ◌+◌, ◌*◌, ◌∙◌, ◌==◌, ℕ, Bool, true, false, List, length, take, drop, min, Option, Some, None, refl, ap, arith}
-use Rattle.std.specs.Prelude.{nat_le}
-use Rattle.std.specs.Char.{is_ascii_digit}
-use Rattle.std.specs.Str.Parse.{digits_value}
+use Rattle.std.proofs.Common.{◌≡◌, ◌≤◌, ◌+◌, ◌*◌, ◌∙◌, ◌==◌, ℕ, Bool, false, List, length, take, drop, Option, Some, None, refl, ap, arith}
 use Rattle.std.proofs.lemmas.Bool.Decides.{nat_tests}
 use Rattle.std.proofs.lemmas.List.{length-drop}
 use Rattle.std.proofs.lemmas.List.Sums.{prefix_len-le-length}
@@ -12,13 +9,9 @@ use Rattle.parsing_combinator.proofs.Decimal.{count_drop}
 use Rattle.parsing_combinator.proofs.Fixed.{digits_add}
 use Rattle.parsing_combinator.proofs.FractionDigits.{digits_read, none_there}
 use Rattle.parsing_combinator.proofs.Longest.{taken_digits}
-use Rattle.parsing_layout.proofs.PieceLemmas.{inside}
 
 few_taken : (bytes : List ℕ) (c : ℕ) → digit_count bytes ≡ c → 1 ≤ c → c ≤ 32 → taken (fraction_between 1 32) bytes ≡ Some (nanoseconds_of (take c bytes), drop c bytes)
-few_taken bytes c is some few =
-    let there : nat_le 1 c ≡ true = grind (arith, nat_tests) in
-    let least : min c 32 ≡ c = omega (arith, few) in
-    taken_digits nanoseconds_of 1 32 bytes (omega arith) ∙ rw (is, there, least) refl
+few_taken bytes c is some few = grind (arith, nat_tests, taken_digits)
 
 abbrev run_of_all : List ℕ → Option (ℕ × List ℕ)
 run_of_all bytes = Some (nanoseconds_of (take (digit_count bytes) bytes), drop (digit_count bytes) bytes)
@@ -26,18 +19,10 @@ run_of_all bytes = Some (nanoseconds_of (take (digit_count bytes) bytes), drop (
 run_at : (b : Bool) (bytes rest : List ℕ) (n : ℕ) → (digit_count bytes == 0) ≡ b → fraction bytes ≡ Some (n, rest)
     → (b ≡ false) × (run_of_all bytes ≡ Some (n, rest))
 unfolding fraction digit_run
-run_at true bytes rest n is e = absurd (let never : None ≡ Some (n, rest) = rw is at e in cc)
-run_at false bytes rest n is e = (refl, rw is at e)
+run_at b bytes rest n is e = grind (arith, nat_tests)
 
 pub fraction_taken : (bytes rest : List ℕ) (n : ℕ) → fraction bytes ≡ Some (n, rest) → length bytes ≤ length rest + 9 → taken (fraction_between 1 32) bytes ≡ Some (n, rest)
-fraction_taken bytes rest n e short =
-    let c : ℕ = digit_count bytes in
-    let h = run_at (c == 0) bytes rest n refl e in
-    let is_not : (c == 0) ≡ false = h.0 in
-    let some : 1 ≤ c = grind (arith, nat_tests) in
-    let after : drop c bytes ≡ rest = ap (λ (z : ℕ × List ℕ). z.1) (inside (nanoseconds_of (take c bytes), drop c bytes) (n, rest) h.1) in
-    let few : c ≤ 32 = omega (arith, short, length-drop c bytes, ap (λ (xs : List ℕ). length xs) after, prefix_len-le-length is_ascii_digit bytes) in
-    few_taken bytes c refl some few ∙ h.1
+fraction_taken bytes rest n e short = grind (arith, nat_tests, run_at, length-drop, prefix_len-le-length, few_taken)
 
 ten_there : (most : ℕ) (line rest : List ℕ) (number : ℕ) → 10 ≤ most → digits 10 line ≡ Some (number, rest) → digits 1 rest ≡ None → taken (digits_between 1 most) line ≡ Some (number, rest)
 ten_there most line rest number enough e none =
@@ -45,8 +30,7 @@ ten_there most line rest number enough e none =
     let left : digit_count rest ≡ 0 = none_there rest none in
     let after : digit_count (drop 10 line) ≡ 0 = ap digit_count d.after ∙ left in
     let count : digit_count line ≡ 10 = omega (arith, after, count_drop 10 line d.enough) in
-    let least : min 10 most ≡ 10 = omega (arith, enough) in
-    taken_digits (digits_value 10) 1 most line (omega (arith, enough)) ∙ rw (count, least, d.value, d.after) refl
+    grind (arith, nat_tests, taken_digits)
 
 pub ten_taken : (most : ℕ) (line middle rest : List ℕ) (first last : ℕ) → 10 ≤ most → digits 1 line ≡ Some (first, middle) → digits 9 middle ≡ Some (last, rest) → digits 1 rest ≡ None
     → taken (digits_between 1 most) line ≡ Some (first * 1_000_000_000 + last, rest)

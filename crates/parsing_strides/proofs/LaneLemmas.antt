@@ -25,19 +25,7 @@ add_at xs ys k n m lt = get_or-zip2 plus xs ys k 0 0 0 (omega (arith, n, lt)) (o
 
 pub number_lane : (t o : List ℕ) (k : ℕ) → length t ≡ 16 → length o ≡ 16 → k < 16 → get_or t k 0 * 10 + get_or o k 0 < 256
     → get_or (adds (adds (adds (adds (adds t t) (adds t t)) (adds (adds t t) (adds t t))) (adds t t)) o) k 0 ≡ get_or t k 0 * 10 + get_or o k 0
-number_lane t o k n m lt small =
-    let twice = adds t t in
-    let two = long t t n n in
-    let four = adds twice twice in
-    let fourth = long twice twice two two in
-    let eight = adds four four in
-    let eighth = long four four fourth fourth in
-    let a = add_at t t k n n lt in
-    let b = add_at twice twice k two two lt in
-    let c = add_at four four k fourth fourth lt in
-    let d = add_at eight twice k eighth two lt in
-    let e = add_at (adds eight twice) o k (long eight twice eighth two) m lt in
-    omega (arith, a, b, c, d, e, small)
+number_lane t o k n m lt small = grind (arith, nat_tests, long, add_at)
 
 -- ---- lanes of two vectors
 
@@ -71,9 +59,7 @@ down_at k lt = let h = agree_below_at (λ k. nat_eq (get_or down k 0) k) (λ _. 
 down_past : (k : ℕ) → 16 ≤ k → k < 32 → get_or down k 0 ≡ 128
 down_past k le lt =
     let h = agree_below_at (λ j. nat_eq (get_or down (16 + j) 0) 128) (λ _. true) 16 (k - 16) refl (omega (arith, le, lt)) in
-    let same : 16 + (k - 16) ≡ k = omega (arith, le) in
-    let there : nat_eq (get_or down k 0) 128 ≡ true = rw same at h in
-    grind (arith, nat_tests, there)
+    grind (arith, nat_tests)
 
 -- a vector of them from one on
 abbrev pub IsRow : List ℕ → ℕ → Type 0
@@ -89,6 +75,4 @@ pub row_right : (js : List ℕ) (by : ℕ) → length js ≡ 16 → IsRow js by 
 row_right js by n row le = moves_all js (λ k lt large. one_right js by k row le (omega (arith, lt, n)) large)
 
 pub moved_lane : (bytes js : List ℕ) (by k : ℕ) → length js ≡ 16 → IsRow js by → by + k < 16 → get_or (swz_l w8 16 bytes 0 js) k 0 ≡ get_or bytes (by + k) 0
-moved_lane bytes js by k n row lt =
-    let there : get_or js k 0 ≡ by + k = row k (omega (arith, lt)) ∙ down_at (by + k) lt in
-    taken_lane bytes js k n (omega (arith, lt)) (omega (arith, there, lt)) ∙ ap (λ j. get_or bytes j 0) there
+moved_lane bytes js by k n row lt = grind (arith, nat_tests, taken_lane)

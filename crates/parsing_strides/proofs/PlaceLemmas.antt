@@ -10,6 +10,7 @@ use Rattle.parsing_layout.specs.Layout.{as_number}
 use Rattle.parsing_layout.proofs.TestLemmas.{both, one, at_most, same}
 use Rattle.parsing_places.specs.Lanes.{above}
 use Rattle.parsing_strides.specs.Places.{lets, lets_year}
+use Rattle.std.proofs.lemmas.Bool.Decides.{nat_tests}
 
 -- the bytes up to a length lie within the bounds
 pub record Lies (low most text : List ℕ) (size : ℕ) : Type 0 where
@@ -23,10 +24,7 @@ pub record LetsAt (lows mosts : List ℕ) (place low most : ℕ) : Type 0 where
   pub most_is : get_or mosts place 0 ≤ most
 
 pub lets_at : (lows mosts : List ℕ) (place low most : ℕ) → lets lows mosts place low most ≡ true → LetsAt lows mosts place low most
-lets_at lows mosts place low most e =
-    let a = both _ _ e in
-    let b = both _ _ a.1 in
-    record { low_is = same _ _ b.0; most_is = at_most _ _ b.1 }
+lets_at lows mosts place low most e = grind (arith, nat_tests)
 
 -- ---- single bytes
 
@@ -43,9 +41,7 @@ one_there text place lt d =
     digits_one (drop place text) ∙ rw (long, first_at text place, is_digit (get_or text place 0) d.low d.high, drop-drop 1 place text) refl
 
 pub mark_there : (text : List ℕ) (place mark : ℕ) → place < length text → get_or text place 0 ≡ mark → is_sign mark ≡ true → sign (drop place text) ≡ Some (mark, drop (place + 1) text)
-mark_there text place mark lt is e =
-    let there : is_sign (get_or text place 0) ≡ true = rw is e in
-    rw is at (sign_there text place lt there)
+mark_there text place mark lt is e = grind (arith, nat_tests, sign_there)
 
 -- ---- bytes within bounds
 

@@ -7,7 +7,6 @@ use Rattle.std.specs.Prelude.{IfSome}
 use Rattle.std.proofs.lemmas.List.{take-append-drop, take-take, drop-take, drop-drop, append-nil}
 use Rattle.parsing_combinator.specs.Shape.{is_sign}
 use Rattle.parsing_combinator.specs.Tame.{EndsWith}
-use Rattle.parsing_combinator.proofs.lemmas.Tame.{whole_end}
 use Rattle.parsing_layout.specs.Layout.{piece_of, value_of, field_of}
 use Rattle.parsing_layout.specs.declared.parts.Field.{Field}
 use Rattle.parsing_layout.specs.declared.parts.Part.{Part}
@@ -26,12 +25,11 @@ use Rattle.parsing_strides.specs.declared.found.Found.{Found}
 use Rattle.parsing_strides.specs.declared.step.Step.{Step}
 use Rattle.parsing_strides.specs.declared.step.Step.TheVariants as step
 use Rattle.parsing_strides.specs.declared.stride.Stride.{Stride}
-use Rattle.parsing_strides.proofs.SameLemmas.{same_field}
 use Rattle.parsing_strides.proofs.StrideLemmas.{first_agrees, or_right}
+use Rattle.std.proofs.lemmas.Bool.Decides.{nat_tests}
 
 neither : (a b : Bool) → (a || b) ≡ false → (a ≡ false) × (b ≡ false)
-neither true b e = absurd cc
-neither false b e = (refl, e)
+neither a b e = grind (arith, nat_tests)
 
 -- ---- an item by itself
 
@@ -58,12 +56,7 @@ optional_there b p text after rest old new first e kept = record {
 }
 
 pub optional_missing : (b : ℕ) (p : Part) (text : List ℕ) (found : Found) → byte b text ≡ None → SayItems (item.Optional b p ∷ []) text text found found
-optional_missing b p text found none = record {
-  way = [];
-  says = λ v agree marked. (text, [], [], refl, inr (record { none = refl; same = refl; other = none }), (refl, refl));
-  kept = λ f absent. refl;
-  within = λ f absent. refl;
-}
+optional_missing b p text found none = grind (arith, nat_tests)
 
 -- ---- parts of fixed widths
 
@@ -79,8 +72,7 @@ stride_said is text rest old new certain says kept = record {
 found_at : (is : List Item) (text : List ℕ) (o : Option (Bor (List ℕ))) (old new : Found) → are_certain is ≡ true
     → IfSome o (λ after. SaysAsFound (all_certain is) text after.now new) → IfSome o (λ _. KeepOthers (all_certain is) old new)
     → IfSome o (λ after. SayItems is text after.now old new)
-found_at is text None old new certain says kept = tt
-found_at is text (Some after) old new certain says kept = stride_said is text after.now old new certain says kept
+found_at is text o old new certain says kept = grind (arith, nat_tests, stride_said)
 
 pub stride_found : (s : Stride) (is : List Item) (text : List ℕ) (o : Option (Bor (List ℕ))) (old new : Found) → FitsStep (step.Stride s) is
     → ((ps : List Part) → fits_stride s ps ≡ true → IfSome o (λ after. SaysAsFound ps text after.now new))
@@ -103,8 +95,7 @@ in_neither : (ps qs : List Part) (f : Field) → fields_of (ps ++ qs) f ≡ fals
 in_neither ps qs f e = neither (fields_of ps f) (fields_of qs f) (sym (said_by_both ps qs f) ∙ e)
 
 not_in_first : (ps qs : List Part) (o : Option Field) → says_again (ps ++ qs) o ≡ false → says_again ps o ≡ false
-not_in_first ps qs None e = refl
-not_in_first ps qs (Some f) e = (in_neither ps qs f e).0
+not_in_first ps qs o e = grind (arith, nat_tests, in_neither)
 
 apart_first : (ps qs : List Part) → are_apart (ps ++ qs) ≡ true → are_apart ps ≡ true
 apart_first [] qs e = refl
@@ -114,8 +105,7 @@ apart_first (p ∷ ps) qs e =
 
 -- a field of a part is none of those that are apart from it
 apart_here : (o : Option Field) (ps qs : List Part) (f : Field) → says_again (ps ++ qs) o ≡ false → is_of f o ≡ true → fields_of qs f ≡ false
-apart_here None ps qs f absent e = absurd cc
-apart_here (Some g) ps qs f absent e = rw (sym (same_field g f e)) (in_neither ps qs g absent).1
+apart_here o ps qs f absent e = grind (arith, nat_tests, in_neither)
 
 -- fields of the first are none of the second
 apart_both : (ps qs : List Part) (f : Field) → are_apart (ps ++ qs) ≡ true → fields_of ps f ≡ true → fields_of qs f ≡ false
@@ -130,8 +120,7 @@ apart_both (p ∷ ps) qs f e said =
 -- ---- one step more
 
 within_first : (a b : Bool) → (a ≡ false → b ≡ false) → b ≡ true → a ≡ true
-within_first true b less e = refl
-within_first false b less e = absurd (let never : true ≡ false = sym e ∙ less refl in cc)
+within_first a b less e = grind (arith, nat_tests)
 
 both_found : (is js : List Item) (text mid rest : List ℕ) (old between new : Found) → are_apart (all_possible is ++ all_possible js) ≡ true
     → SayItems is text mid old between → SayItems js mid rest between new → SayItems (is ++ js) text rest old new
@@ -163,14 +152,7 @@ pub record SoFar (steps later : List Step) (line rest : List ℕ) (old new : Fou
   pub end : EndsWith line rest
 
 pub at_first : (steps : List Step) (line : List ℕ) (found : Found) → SoFar steps steps line line found found
-at_first steps line found = record {
-  read = λ is made apart. record {
-    count = 0;
-    made = made;
-    says = record { way = []; says = λ v agree marked. (refl, refl); kept = λ f absent. refl; within = λ f absent. refl };
-  };
-  end = whole_end line;
-}
+at_first steps line found = grind (arith, nat_tests)
 
 more_read : (s : Step) (later : List Step) (line mid rest : List ℕ) (old between new : Found) (is : List Item) → are_apart (all_possible is) ≡ true
     → ((js : List Item) → FitsStep s js → SayItems js mid rest between new) → HasRead (s ∷ later) line mid old between is → HasRead later line rest old new is
@@ -204,8 +186,7 @@ all_read is line rest old new h =
 pub all_say : (is : List Item) (line : List ℕ) (o : Option (Bor (List ℕ))) (old new : Found) → is_sign (values_in new field.Sign) ≡ true
     → IfSome o (λ rest. SayItems is line rest.now old new)
     → IfSome o (λ rest. (way : List Part) × SaysItems is line (values_in new) rest.now way × ((f : Field) → fields_of way f ≡ false → values_in new f ≡ values_in old f))
-all_say is line None old new marked h = tt
-all_say is line (Some rest) old new marked h = (h.way, h.says (values_in new) (λ f said. refl) marked, h.kept)
+all_say is line o old new marked h = grind (arith, nat_tests)
 
 -- ---- that steps were made is one fact
 

@@ -1,5 +1,5 @@
 -- What a stride took of a text, the text says.
-use Rattle.std.proofs.Common.{◌≡◌, ◌≤◌, ◌<◌, ◌+◌, ◌-◌, ◌*◌, ◌∙◌, ◌||◌, ◌&&◌, ◌==◌, ℕ, zero, suc, Bool, true, false, List, [], ◌∷◌, get_or, length, drop, Option, Some, None, refl, ap, arith, lit<, inl, inr}
+use Rattle.std.proofs.Common.{◌≡◌, ◌≤◌, ◌<◌, ◌+◌, ◌-◌, ◌*◌, ◌∙◌, ◌||◌, ◌&&◌, ◌==◌, ℕ, zero, suc, Bool, true, false, List, [], ◌∷◌, get_or, length, drop, Option, Some, refl, ap, arith, lit<, inl, inr}
 use Rattle.std.proofs.lemmas.Bool.Decides.{nat_tests}
 use Rattle.parsing_combinator.specs.Pieces.{digits}
 use Rattle.parsing_combinator.specs.Shape.{is_sign}
@@ -22,19 +22,13 @@ use Rattle.parsing_strides.proofs.PlaceLemmas.{Lies, literal_there, any_there, o
 -- ---- the numbers of parts
 
 pub or_right : (a b : Bool) → b ≡ true → (a || b) ≡ true
-or_right true b e = refl
-or_right false b e = e
+or_right a b e = grind (arith, nat_tests)
 
 or_left : (a b : Bool) → a ≡ true → (a || b) ≡ true
-or_left true b e = refl
-or_left false b e = absurd cc
-
-itself : (n : ℕ) → (n == n) ≡ true
-itself n = grind (arith, nat_tests)
+or_left a b e = grind (arith, nat_tests)
 
 value_same : (o : Option Field) (v w : Values) → ((f : Field) → is_of f o ≡ true → v f ≡ w f) → value_at o v ≡ value_at o w
-value_same None v w h = refl
-value_same (Some g) v w h = h g (itself (place_of g))
+value_same o v w h = grind (arith, nat_tests)
 
 abbrev pub Agree : List Part → Values → Values → Type 0
 Agree ps v w = (f : Field) → fields_of ps f ≡ true → v f ≡ w f

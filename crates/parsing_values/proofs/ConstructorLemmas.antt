@@ -1,5 +1,5 @@
 -- What the calendar's constructors answer, as the day that passes a test.
-use Rattle.std.proofs.Common.{◌≡◌, ℕ, ◌+◌, ◌↔◌, Bool, true, false, Result, Ok, Err, IsOk, IfOk, IfErr, OnErr, refl, sym, ◌∙◌, ap, arith, cond, ℤ, pos, ◌+ℤ◌, unsigned_abs}
+use Rattle.std.proofs.Common.{◌≡◌, ℕ, ◌+◌, ◌↔◌, Bool, true, false, Result, Ok, Err, IsOk, IfOk, IfErr, OnErr, refl, sym, ◌∙◌, arith, cond, ℤ, pos, ◌+ℤ◌, unsigned_abs}
 use Rattle.std.specs.Int.{IsInRange}
 use Rattle.std.proofs.lemmas.Bool.Decides.{nat_tests}
 use Rattle.std.proofs.lemmas.Int.{ints}
@@ -14,15 +14,14 @@ use Rattle.calendar_count.proofs.lemmas.Years.{ordinal_after, days_between, year
 use Rattle.calendar_count.proofs.lemmas.Days.{year_bound, iso_year_bound}
 use Rattle.calendar_count.proofs.lemmas.Places.{iso_count-is}
 use Rattle.parsing_values.specs.NamedDay.{is_ordinal_day, is_iso_day, ordinal_date_of, iso_week_date_of, day_in}
-use Rattle.parsing_values.proofs.NamedDayLemmas.{one_day, no_day, year_of_test}
+use Rattle.parsing_values.proofs.NamedDayLemmas.{one_day, no_day}
 
 -- why a constructor refuses
 abbrev refusal : ℤ → ComponentName → ComponentRange
 refusal y component = cond (is_year y) (out_of_conditional_range component) (out_of_range Year)
 
 by_year : (y : ℤ) (component : ComponentName) (test : ℕ → Bool) (e : ComponentRange) (b : Bool) → is_year y ≡ b → e ≡ refusal y component → ((k : ℕ) → IsCount k → test k ≡ true → ⊥) → Err e ≡ day_in y component test
-by_year y component test e true there is none = ap Err (rw there at is) ∙ sym (no_day y component test (year_of_test y there) none)
-by_year y component test e false absent is none = rw (is, absent) refl
+by_year y component test e b there is none = grind (arith, nat_tests, no_day)
 
 -- a refusal in the calendar's words, where no day passes
 refused : (y : ℤ) (component : ComponentName) (test : ℕ → Bool) (e : ComponentRange) → e ≡ refusal y component → ((k : ℕ) → IsCount k → test k ≡ true → ⊥) → Err e ≡ day_in y component test
@@ -38,8 +37,7 @@ ordinal_count y o n k e h =
     let same = ordinal_year y o k h in
     let place : ordinal_at k ≡ o = grind (arith, nat_tests, h) in
     let within = days_between k y n e same in
-    let is = ordinal_after k n y e same in
-    (omega (arith, is, place), omega (arith, is, place))
+    grind (arith, nat_tests, ordinal_after)
 
 pub ordinal_result : (y : ℤ) (o : ℕ) (r : Result ℕ ComponentRange) → IsOk r ↔ (IsYear y × IsInRange 1 (days_in_year y) o) → IfOk r (λ d. ((day_at d).year ≡ y) × (ordinal_at d ≡ o)) → IfOk r IsCount → IfErr r (λ e. e ≡ refusal y Ordinal) → r ≡ ordinal_date_of y o
 unfolding ordinal_date_of

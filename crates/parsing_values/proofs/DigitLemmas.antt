@@ -18,6 +18,7 @@ use Rattle.parsing_values.specs.Decimal.{decimal}
 use Rattle.parsing_values.specs.Digits.{nine_digits, AreNineDigits}
 use Rattle.parsing_values.specs.DigitsBack.{digits_below, nine_back}
 use Rattle.parsing_values.proofs.lemmas.Decimals.{decimal_count, decimal_value, digits_fit}
+use Rattle.std.proofs.lemmas.Bool.Decides.{nat_tests}
 
 nine_is : (first last : ℕ) (eight : List ℕ) → to_le_bytes w64 first ≡ eight → nine_digits first last ≡ eight ++ last ∷ []
 unfolding nine_digits
@@ -43,11 +44,7 @@ pub record Kept (first last n : ℕ) : Type 0 where
 
 pub kept : (first last n : ℕ) → AreNineDigits first last → digits_value 10 (nine_digits first last) ≡ n → Kept first last n
 unfolding digits nine_digits
-kept first last n are is = record {
-  text = rw (← is) (sym (nine_back first last are));
-  reads = rw (are.1, is) refl;
-  bound = rw (← is) (digits_below first last are);
-}
+kept first last n are is = grind (arith, nat_tests, nine_back, digits_below)
 
 -- ---- as they are read
 
@@ -59,12 +56,7 @@ pub record Nine (first last count : ℕ) (bytes : List ℕ) : Type 0 where
 
 pub nine_of : (first last count : ℕ) (bytes : List ℕ) → count ≤ 9 → count ≤ digit_count bytes → first < 2 ^ 64 → nine_digits first last ≡ take count bytes ++ replicate (9 - count) 48 → Nine first last count bytes
 nine_of first last count bytes few enough fits is =
-    let long : length (take count bytes) ≡ count = length-take-le count bytes (omega (arith, enough, digit_count_within bytes)) in
-    record {
-      are = (fits, ap digit_count is ∙ padded_count (take count bytes) (9 - count) (count_prefix bytes count enough) ∙ omega (arith, long));
-      enough = enough;
-      value = ap (digits_value 10) is ∙ padded_value (take count bytes) (9 - count) (omega (arith, long));
-    }
+    grind (arith, nat_tests, length-take-le, digit_count_within, padded_count, count_prefix, padded_value)
 
 module _ (bytes : List ℕ) (first count : ℕ) (c : IsOfDigits bytes first count) (fit : (k : ℕ) → get_or bytes k 0 < 256) where
   long : length (padded count bytes) ≡ 8
@@ -116,5 +108,4 @@ nine_read first last count bytes n some few none =
 
 -- what a function returns that finds no digit
 pub no_digit : (result : Option (ℕ × Bor (List ℕ))) (bytes : List ℕ) → cut_view result ≡ digits 1 bytes → is_some result ≡ false → digits 1 bytes ≡ None
-no_digit None bytes cut absent = sym cut
-no_digit (Some x) bytes cut absent = absurd (cc)
+no_digit result bytes cut absent = grind (arith, nat_tests)

@@ -2,19 +2,17 @@
 use Rattle.std.proofs.Common.{◌≡◌, ℕ, ◌+◌, ◌-◌, ◌*◌, ◌/◌, ◌^◌, ◌<◌, ◌≤◌, List, length, get_or, take, drop, replicate, Fits, w64, refl, sym, ap, ◌∙◌, arith, take-append-drop}
 use Rattle.std.specs.Int.{from_le_bytes}
 use Rattle.std.proofs.lemmas.List.{length-take-le, length-drop, take_all, drop-take, drop-drop}
-use Rattle.std.proofs.lemmas.Nat.{div-mul-add}
 use Rattle.parsing_combinator.specs.Chunks.{chunk, padded, AreEightDigits, IsOfDigits}
 use Rattle.parsing_combinator.proofs.Lanes.{take_fit, chunk_eight}
 use Rattle.parsing_combinator.proofs.PaddingLemmas.{chunk_append, chunk_below, drop_fit, padded_below, padded_counted}
+use Rattle.std.proofs.lemmas.Bool.Decides.{nat_tests}
 
 -- the number of bytes without the first few
 chunk_tail : (xs : List ℕ) (m : ℕ) → m ≤ length xs → ((k : ℕ) → get_or xs k 0 < 256) → chunk xs / 2 ^ (8 * m) ≡ chunk (drop m xs)
 chunk_tail xs m within fit =
     let prefix : length (take m xs) ≡ m = length-take-le m xs within in
     let parts : chunk xs ≡ chunk (take m xs) + chunk (drop m xs) * 2 ^ (8 * m) = ap chunk (sym (take-append-drop m xs)) ∙ chunk_append (take m xs) (drop m xs) ∙ rw prefix refl in
-    let below : chunk (take m xs) < 2 ^ (8 * m) = rw prefix at (chunk_below (take m xs) (take_fit m xs fit)) in
-    let turned : chunk xs ≡ chunk (drop m xs) * 2 ^ (8 * m) + chunk (take m xs) = omega (arith, parts) in
-    ap (λ (n : ℕ). n / 2 ^ (8 * m)) turned ∙ div-mul-add (chunk (drop m xs)) (2 ^ (8 * m)) (chunk (take m xs)) below
+    grind (arith, nat_tests, chunk_below, take_fit)
 
 module _ (line : List ℕ) (end count : ℕ) (room : 8 ≤ end) (within : end ≤ length line) (few : count ≤ 8) (fit : (k : ℕ) → get_or line k 0 < 256) where
   abbrev eight : List ℕ

@@ -1,11 +1,10 @@
 -- The three kinds of instants of one date, one time of day and one offset.
-use Rattle.std.proofs.Common.{◌≡◌, ℕ, Bool, true, false, cond, Option, None, Some, Ok, Err, refl, ◌∙◌, ap, ℤ}
+use Rattle.std.proofs.Common.{◌≡◌, ℕ, Bool, cond, Option, Ok, Err, refl, ◌∙◌, ap, ℤ}
 use Rattle.std.specs.Prelude.{◌&&◌, not}
 use Rattle.calendar_count.specs.ComponentRange.{out_of_conditional_range}
 use Rattle.calendar_count.specs.declared.component_range.ComponentName.TheVariants.{Second}
 use Rattle.datetime_wall.specs.Wall.{Shown, instant, IsWallClock, wall_clock}
 use Rattle.datetime_wall.proofs.lemmas.WallClocks.{is_wall_clock_yes}
-use Rattle.parsing_combinator.specs.Fault.{insufficient}
 use Rattle.parsing_values.specs.StandIn.{leap_checked, is_stand_in}
 use Rattle.parsing_values.specs.NamedDate.{in_range}
 use Rattle.parsing_values.specs.declared.parts.OffsetParts.{OffsetParts}
@@ -13,6 +12,8 @@ use Rattle.parsing_values.specs.declared.parts.MomentParts.{MomentParts}
 use Rattle.parsing_values.specs.NamedTime.{named_offset}
 use Rattle.parsing_values.specs.NamedMoment.{◌>>=◌, named_wall, is_leap, in_calendar, dated_moment, offset_or_utc, dated_utc, or_insufficient, dated_timestamp, timestamp_by, moment_by, named_moment, named_utc, named_timestamp}
 use Rattle.parsing_values.specs.Laws.{IsWhole, IsOneInstant}
+use Rattle.std.proofs.Common.{arith}
+use Rattle.std.proofs.lemmas.Bool.Decides.{nat_tests}
 
 abbrev shown_of : ℕ → ℕ → ℤ → Shown
 shown_of date time offset = record { wall = wall_clock date time; offset = offset }
@@ -23,8 +24,7 @@ wall_is p o date time offset h = rw (h.date_is, h.time_is) refl
 
 hour_of_offset : (p : OffsetParts) (hour : Option ℤ) (offset : ℤ) → p.hour ≡ hour → named_offset p ≡ Ok offset → offset_or_utc p hour ≡ Ok offset
 unfolding named_offset offset_or_utc
-hour_of_offset p None offset e h = absurd (let no : Err insufficient ≡ Ok offset = rw e at h in cc)
-hour_of_offset p (Some hour) offset e h = h
+hour_of_offset p hour offset e h = grind (arith, nat_tests)
 
 dated_is : (p : MomentParts) (o : OffsetParts) (date time : ℕ) (offset : ℤ) → IsWhole p o date time offset → dated_moment p o ≡ in_range (leap_checked (is_leap p) (shown_of date time offset))
 unfolding dated_moment
@@ -45,8 +45,7 @@ timestamp_is p o date time offset h =
     ap (λ u. timestamp_by u p o) h.unix_is ∙ ap (λ r. or_insufficient (r >>= (λ m. in_range (in_calendar (instant m))))) (dated_is p o date time offset h)
 
 choice : (m : Shown) (refusal : Bool) → IsWallClock (instant m) → IsOneInstant (in_range (cond refusal (Err (out_of_conditional_range Second)) (Ok m))) (in_range (cond refusal (Err (out_of_conditional_range Second)) (Ok m)) >>= (λ n. Ok (instant m))) (or_insufficient (in_range (cond refusal (Err (out_of_conditional_range Second)) (Ok m)) >>= (λ n. in_range (in_calendar (instant n)))))
-choice m true h = (refl, refl)
-choice m false h = (refl, rw (is_wall_clock_yes _ h) refl)
+choice m refusal h = grind (arith, nat_tests)
 
 pub one_instant : (p : MomentParts) (o : OffsetParts) (date time : ℕ) (offset : ℤ) → IsWhole p o date time offset → IsOneInstant (named_moment p o) (named_utc p o) (named_timestamp p o)
 unfolding leap_checked

@@ -1,13 +1,11 @@
 -- A month ends on the day that its length says.
-use Rattle.std.proofs.Common.{◌≡◌, ℕ, suc, ◌+◌, Bool, true, false, cond, eqb, ltb, ℤ, refl, ap, ◌∙◌, arith}
+use Rattle.std.proofs.Common.{◌≡◌, ℕ, suc, ◌+◌, Bool, cond, eqb, ltb, ℤ, refl, ap, ◌∙◌, arith}
 use Rattle.std.proofs.lemmas.Bool.Decides.{nat_tests}
 use Rattle.calendar.specs.Calendar.{day_at, next_day, ymd, days_in_month, IsDay, YearMonthDay}
 use Rattle.parsing_values.specs.MonthEnd.{ends_month}
 
 day_of_choice : (p q : Bool) (a b c : YearMonthDay) → b.day ≡ 1 → c.day ≡ 1 → (cond p a (cond q b c)).day ≡ cond p a.day 1
-day_of_choice true q a b c h k = refl
-day_of_choice false true a b c h k = h
-day_of_choice false false a b c h k = k
+day_of_choice p q a b c h k = grind (arith, nat_tests)
 
 pub month_end : (n : ℕ) (y : ℤ) (m d : ℕ) → day_at n ≡ ymd y m d → IsDay y m d → ends_month n ≡ eqb d (days_in_month y m)
 unfolding ends_month day_at

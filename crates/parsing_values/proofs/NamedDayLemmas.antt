@@ -1,16 +1,15 @@
 -- Days that a year and what it says of them name.
-use Rattle.std.proofs.Common.{◌≡◌, ℕ, ◌+◌, ◌-◌, ◌*◌, ◌%◌, ◌<◌, ◌≤◌, Bool, true, Ok, Err, refl, arith, ℤ, pos, negsuc, ◌+ℤ◌}
+use Rattle.std.proofs.Common.{◌≡◌, ℕ, ◌+◌, ◌-◌, ◌*◌, ◌%◌, ◌<◌, ◌≤◌, Bool, true, Ok, Err, refl, arith, ℤ, pos, ◌+ℤ◌}
 use Rattle.std.proofs.lemmas.Bool.{false_from_ne_true}
 use Rattle.std.proofs.lemmas.Bool.Decides.{nat_tests}
 use Rattle.std.proofs.lemmas.Int.{ints}
-use Rattle.calendar_count.specs.Range.{greatest_year, last_count, year_count, IsYear, IsCount}
+use Rattle.calendar_count.specs.Range.{greatest_year, last_count, IsYear, IsCount}
 use Rattle.calendar_count.specs.Calendar.{is_year, days_in_year, day_at, weekday_at, weekdays_so_far}
 use Rattle.calendar_count.specs.Closed.{days_before_year}
 use Rattle.calendar_count.specs.ComponentRange.{out_of_range, out_of_conditional_range}
 use Rattle.calendar_count.specs.declared.component_range.ComponentName.{ComponentName}
 use Rattle.calendar_count.specs.declared.component_range.ComponentName.TheVariants.{Year, Ordinal}
-use Rattle.calendar_count.proofs.lemmas.Signed.{signed}
-use Rattle.calendar_count.proofs.lemmas.Years.{years_apart, weekdays_after, year_between, days_between}
+use Rattle.calendar_count.proofs.lemmas.Years.{weekdays_after, year_between, days_between}
 use Rattle.calendar_count.proofs.lemmas.TheDay.{the_day-one, the_day-none}
 use Rattle.calendar_count.specs.Closed.{sevenths}
 use Rattle.parsing_values.specs.NamedDay.{is_week_day, week_date_of, day_in}
@@ -31,13 +30,7 @@ into_week b w = (w + 7 - b) % 7
 
 -- a day of the year in its week, in closed form: seven more than its count
 pub week_count : (b k w n c : ℕ) (y : ℤ) → b < 7 → y +ℤ pos greatest_year ≡ pos n → is_week_day b y k w c ≡ true → (c + 7 ≡ 7 * (k + sevenths b (days_before_year n)) + into_week b w + b) × (days_before_year n ≤ c) × (c < days_before_year n + days_in_year y)
-week_count b k w n c y low e h =
-    let same = week_day-year b y k w c h in
-    let day : c % 7 ≡ w = grind (arith, nat_tests, h) in
-    let within = days_between c y n e same in
-    let week : weekdays_so_far b c ≡ k = grind (arith, nat_tests, h) in
-    let is = weekdays_after b c n y low e same in
-    (omega (arith, is, week, day), within.0, within.1)
+week_count b k w n c y low e h = grind (arith, nat_tests, days_between, weekdays_after)
 
 pub week_count-at : (b k w n c : ℕ) (y : ℤ) → b < 7 → w < 7 → y +ℤ pos greatest_year ≡ pos n → c + 7 ≡ 7 * (k + sevenths b (days_before_year n)) + into_week b w + b → days_before_year n ≤ c → c < days_before_year n + days_in_year y → is_week_day b y k w c ≡ true
 week_count-at b k w n c y low small e is first last =
@@ -47,12 +40,10 @@ week_count-at b k w n c y low small e is first last =
 -- ---- years
 
 pub year_there : (y : ℤ) → IsYear y → is_year y ≡ true
-year_there (pos a) h = grind (arith, nat_tests, signed)
-year_there (negsuc a) h = grind (arith, nat_tests, signed)
+year_there y h = grind (arith, nat_tests)
 
 pub year_of_test : (y : ℤ) → is_year y ≡ true → IsYear y
-year_of_test (pos a) e = let few : a ≤ greatest_year = grind (arith, nat_tests) in omega (arith, signed)
-year_of_test (negsuc a) e = let few : a + 1 ≤ greatest_year = grind (arith, nat_tests) in omega (arith, signed)
+year_of_test y e = grind (arith, nat_tests)
 
 -- what the one day says that passes
 pub one_day : (y : ℤ) (component : ComponentName) (test : ℕ → Bool) (d : ℕ) → IsYear y → IsCount d → test d ≡ true → ((k : ℕ) → IsCount k → test k ≡ true → k ≡ d) → day_in y component test ≡ Ok d
@@ -64,9 +55,7 @@ no_day y component test h none = rw (year_there y h, the_day-none test none) ref
 -- ---- the days of weeks that begin on a weekday
 
 year_end : (n : ℕ) (y : ℤ) → IsYear y → y +ℤ pos greatest_year ≡ pos n → days_before_year n + days_in_year y ≤ last_count + 1
-year_end n y h e =
-    let few : n < year_count = omega (arith, signed) in
-    omega (arith, years_apart y n year_count e few)
+year_end n y h e = grind (arith, nat_tests)
 
 pub week_refused : (b k w : ℕ) (y : ℤ) → ¬ IsYear y → week_date_of b y k w ≡ Err (out_of_range Year)
 unfolding week_date_of

@@ -1,5 +1,5 @@
 -- The four digits of a year.
-use Rattle.std.proofs.Common.{◌≡◌, ℕ, ◌+◌, ◌-◌, ◌*◌, ◌/◌, ◌%◌, ◌^◌, ◌<◌, ◌≤◌, List, get_or, length, take, drop, w32, refl, ap, ◌∙◌, arith, Some}
+use Rattle.std.proofs.Common.{◌≡◌, ℕ, ◌+◌, ◌-◌, ◌*◌, ◌^◌, ◌<◌, ◌≤◌, List, get_or, length, take, drop, w32, ap, ◌∙◌, arith, Some}
 use Rattle.std.specs.Prelude.{IsTrue, nat_lt}
 use Rattle.std.specs.Int.{from_le_bytes, from_be_bytes}
 use Rattle.std.specs.Char.{is_ascii_digit}
@@ -15,17 +15,13 @@ use Rattle.parsing_combinator.proofs.Decimal.{digit_here, count_prefix}
 use Rattle.parsing_combinator.proofs.FractionDigits.{Read, digits_read}
 use Rattle.parsing_values.specs.Decimal.{decimal}
 use Rattle.parsing_values.specs.Digits.{four_digits, AreFourDigits}
-use Rattle.parsing_values.proofs.lemmas.Decimals.{decimal_count, decimal_value, digits_fit}
+use Rattle.parsing_values.proofs.lemmas.Decimals.{digits_fit}
 
 -- ---- of a number
 
 pub of_number : (n digits : ℕ) → n ≤ 9999 → digits < 2 ^ 32 → digits ≡ from_le_bytes w32 (decimal 4 n) → AreFourDigits digits × (digits_value 10 (four_digits digits) ≡ n)
 unfolding decimal
-of_number n digits h fits is =
-    let all : digit_count (decimal 4 n) ≡ 4 = decimal_count 4 n in
-    let bytes : four_digits digits ≡ decimal 4 n = le_bytes_4 (decimal 4 n) digits refl (digits_fit (decimal 4 n) all) is in
-    let small : n < 10 ^ 4 = omega (arith, h) in
-    ((fits, ap digit_count bytes ∙ all), ap (digits_value 10) bytes ∙ decimal_value 4 n small)
+of_number n digits h fits is = grind (arith, nat_tests)
 
 -- ---- at a place of a text
 
@@ -64,11 +60,7 @@ digit_in : (bytes : List ℕ) (k : ℕ) → k < digit_count bytes → HasDigit b
 digit_in bytes k lt = let d = digit_here (get_or bytes k 0) (prefix_len_passes is_ascii_digit bytes k 0 lt) in record { low = d.0; high = d.1 }
 
 pub pair_in : (bytes : List ℕ) (place : ℕ) → place + 2 ≤ digit_count bytes → HasPair bytes place
-pair_in bytes place enough = record {
-  room = omega (arith, enough, prefix_len-le-length is_ascii_digit bytes);
-  first = digit_in bytes place (omega arith);
-  second = digit_in bytes (place + 1) (omega arith);
-}
+pair_in bytes place enough = grind (arith, nat_tests, prefix_len-le-length, digit_in)
 
 -- ---- in order, as texts are
 
@@ -78,22 +70,9 @@ text a b c d = (48 + a) * 16_777_216 + (48 + b) * 65_536 + (48 + c) * 256 + (48 
 abbrev whole : ℕ → ℕ → ℕ → ℕ → ℕ
 whole a b c d = a * 1000 + b * 100 + c * 10 + d
 
-above : (a b c d e f g h : ℕ) → b ≤ 9 → c ≤ 9 → d ≤ 9 → f ≤ 9 → g ≤ 9 → h ≤ 9 → whole a b c d < whole e f g h → text a b c d < text e f g h
-above a b c d e f g h hb hc hd hf hg hh lt = omega arith
-
-below : (a b c d e f g h : ℕ) → b ≤ 9 → c ≤ 9 → d ≤ 9 → f ≤ 9 → g ≤ 9 → h ≤ 9 → text a b c d < text e f g h → whole a b c d < whole e f g h
-below a b c d e f g h hb hc hd hf hg hh lt = omega arith
-
 pub in_order : (x y p q : ℕ) → x ≤ 9999 → y ≤ 9999 → p ≡ from_be_bytes w32 (decimal 4 x) → q ≡ from_be_bytes w32 (decimal 4 y) → (p < q → x < y) × (x < y → p < q)
 unfolding decimal
-in_order x y p q hx hy ep eq =
-    let first : p ≡ text (x / 1000) (x / 100 % 10) (x / 10 % 10) (x % 10) = omega (arith, ep) in
-    let second : q ≡ text (y / 1000) (y / 100 % 10) (y / 10 % 10) (y % 10) = omega (arith, eq) in
-    let one : whole (x / 1000) (x / 100 % 10) (x / 10 % 10) (x % 10) ≡ x = omega arith in
-    let other : whole (y / 1000) (y / 100 % 10) (y / 10 % 10) (y % 10) ≡ y = omega arith in (
-      λ lt. rw (one, other) at (below (x / 1000) (x / 100 % 10) (x / 10 % 10) (x % 10) (y / 1000) (y / 100 % 10) (y / 10 % 10) (y % 10) (omega arith) (omega arith) (omega arith) (omega arith) (omega arith) (omega arith) (rw (first, second) at lt)),
-      λ lt. rw (first, second) (above (x / 1000) (x / 100 % 10) (x / 10 % 10) (x % 10) (y / 1000) (y / 100 % 10) (y / 10 % 10) (y % 10) (omega arith) (omega arith) (omega arith) (omega arith) (omega arith) (omega arith) (rw (one, other) lt)),
-    )
+in_order x y p q hx hy ep eq = grind (arith, nat_tests)
 
 pub tested : (p q x y : ℕ) → (p < q → x < y) × (x < y → p < q) → (IsTrue (nat_lt p q) → x < y) × (x < y → IsTrue (nat_lt p q))
 tested p q x y order = (λ test. order.0 (grind (arith, nat_tests)), λ lt. let less = order.1 lt in grind (arith, nat_tests))

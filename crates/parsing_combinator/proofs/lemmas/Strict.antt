@@ -1,5 +1,5 @@
 -- A strict reading against one that is not: the same where all numbers are in range.
-use Rattle.std.proofs.Common.{◌≡◌, ℕ, Bool, true, false, List, Option, Some, None, Result, Ok, Err, refl, sym, subst, ◌∙◌, arith}
+use Rattle.std.proofs.Common.{◌≡◌, ℕ, Bool, true, false, List, Option, Result, Ok, Err, refl, arith}
 use Rattle.std.specs.Borrow.{Bor}
 use Rattle.std.specs.Prelude.{◌↔◌, IfOk}
 use Rattle.std.specs.Int.{IsInRange}
@@ -37,37 +37,26 @@ given P x bytes h = record { holds = (refl, h) }
 pub denied : {A : Type 0} (P : A → Type 0) (x : A) (bytes : List ℕ) → ¬ P x → Misses P (Ok (x, bytes))
 denied P x bytes h = record { holds = h }
 
-pub missed : {A : Type 0} (P : A → Type 0) (e : Fault) (r : Result (A × List ℕ) Fault) → Misses P r → Narrows P (Err e) r
-missed P e (Ok x) h = record { holds = h.holds }
-missed P e (Err f) h = record { holds = tt }
-
 pub then_misses : {A B : Type 0} (Q : B → Type 0) (r : Result (A × List ℕ) Fault) (f : A → Reading B) → ((x : A) (bytes : List ℕ) → Misses Q (f x bytes)) → Misses Q (then_read r f)
-then_misses Q (Ok x) f h = h x.0 x.1
-then_misses Q (Err e) f h = record { holds = tt }
+then_misses Q r f h = grind (arith, nat_tests)
 
 -- a part that is read in both ways
 pub then_narrows : {A B : Type 0} (P : A → Type 0) (Q : B → Type 0) (strict other : Result (A × List ℕ) Fault) (f g : A → Reading B) → Narrows P strict other → ((x : A) (bytes : List ℕ) → P x → Narrows Q (f x bytes) (g x bytes)) → ((x : A) (bytes : List ℕ) → ¬ P x → Misses Q (g x bytes)) → Narrows Q (then_read strict f) (then_read other g)
-then_narrows P Q (Ok x) other f g n h k = rw n.holds.0 (h x.0 x.1 n.holds.1)
-then_narrows P Q (Err e) (Ok y) f g n h k = missed Q e (g y.0 y.1) (k y.0 y.1 n.holds)
-then_narrows P Q (Err e) (Err d) f g n h k = record { holds = tt }
+then_narrows P Q strict other f g n h k = grind (arith, nat_tests)
 
 -- a part that does not ask which way it is
 pub same_then : {A B : Type 0} (P : A → Type 0) (Q : B → Type 0) (r : Result (A × List ℕ) Fault) (f g : A → Reading B) → Says P r → ((x : A) (bytes : List ℕ) → P x → Narrows Q (f x bytes) (g x bytes)) → Narrows Q (then_read r f) (then_read r g)
-same_then P Q (Ok x) f g p h = h x.0 x.1 p.holds
-same_then P Q (Err e) f g p h = record { holds = tt }
+same_then P Q r f g p h = grind (arith, nat_tests)
 
 pub plain_then : {A B : Type 0} (Q : B → Type 0) (r : Result (A × List ℕ) Fault) (f g : A → Reading B) → ((x : A) (bytes : List ℕ) → Narrows Q (f x bytes) (g x bytes)) → Narrows Q (then_read r f) (then_read r g)
-plain_then Q (Ok x) f g h = h x.0 x.1
-plain_then Q (Err e) f g h = record { holds = tt }
+plain_then Q r f g h = grind (arith, nat_tests)
 
 -- a check of the strict reading alone
 pub checked : {B : Type 0} (Q : B → Type 0) (b : Bool) (e : Fault) (f : Unit {0} → Reading B) (other : Result (B × List ℕ) Fault) (bytes : List ℕ) → (b ≡ true → Narrows Q (f tt bytes) other) → (b ≡ false → Misses Q other) → Narrows Q (then_read (require b e bytes) f) other
-checked Q true e f other bytes h k = h refl
-checked Q false e f other bytes h k = missed Q e other (k refl)
+checked Q b e f other bytes h k = grind (arith, nat_tests)
 
 pub entered_narrows : {A B : Type 0} (Q : B → Type 0) (o : Option (A × List ℕ)) (f g : A → Reading B) (p q : Reading B) (bytes : List ℕ) → ((x : A) (rest : List ℕ) → Narrows Q (f x rest) (g x rest)) → Narrows Q (p bytes) (q bytes) → Narrows Q (entered o f p bytes) (entered o g q bytes)
-entered_narrows Q None f g p q bytes h k = k
-entered_narrows Q (Some x) f g p q bytes h k = h x.0 x.1
+entered_narrows Q o f g p q bytes h k = grind (arith, nat_tests)
 
 pub within_yes : (low high n : ℕ) → within true low high n ≡ true → IsInRange low high n
 within_yes low high n e = let p = and_parts _ _ e in (leb-true _ _ p.0, leb-true _ _ p.1)
@@ -76,25 +65,18 @@ pub within_no : (low high n : ℕ) → within true low high n ≡ false → ¬ I
 within_no low high n e = λ p. grind (arith, nat_tests)
 
 pub same_narrows : {A : Type 0} (P : A → Type 0) (r : Result (A × List ℕ) Fault) → Says P r → Narrows P r r
-same_narrows P (Ok x) h = record { holds = (refl, h.holds) }
-same_narrows P (Err e) h = record { holds = tt }
+same_narrows P r h = grind (arith, nat_tests)
 
 -- ---- what is said of parts that are read in one way
 
 pub required_says : (b : Bool) (e : Fault) (bytes : List ℕ) → Says (λ x. b ≡ true) (require b e bytes)
-required_says true e bytes = record { holds = refl }
-required_says false e bytes = record { holds = tt }
+required_says b e bytes = grind (arith, nat_tests)
 
 -- ---- the whole
 
 pub narrows_iff : {A : Type 0} (P : A → Type 0) (strict other : Result (A × List ℕ) Fault) → Narrows P strict other → (w : A) (rest : List ℕ) → (strict ≡ Ok (w, rest)) ↔ ((other ≡ Ok (w, rest)) × P w)
-narrows_iff {A = A} P (Ok x) other n w rest =
-    (λ e. let same : x ≡ (w, rest) = cc in (n.holds.0 ∙ e, subst (λ (p : A × List ℕ). P p.0) same n.holds.1), λ p. let e : Ok x ≡ Ok (w, rest) = sym n.holds.0 ∙ p.0 in e)
-narrows_iff {A = A} P (Err e) (Ok y) n w rest =
-    (λ d. absurd cc, λ p. let same : (w, rest) ≡ y = cc in absurd (n.holds (subst (λ (q : A × List ℕ). P q.0) same p.1)))
-narrows_iff P (Err e) (Err f) n w rest = (λ d. absurd cc, λ p. absurd (let no : Err f ≡ Ok (w, rest) = p.0 in cc))
+narrows_iff P strict other n w rest = grind (arith, nat_tests)
 
 -- what a function returns that gives the strict reading
 pub strict_passes : {A X : Type 0} (P : A → Type 0) (view : X → A) (result : Result (X × Bor (List ℕ)) ParseFromDescription) (strict other : Result (A × List ℕ) Fault) → Gives (λ x. (view x.0, x.1.now)) reading_fault result strict → Narrows P strict other → IfOk result (λ x. P (view x.0))
-strict_passes P view (Ok x) strict other given n = ((narrows_iff P strict other n (view x.0) x.1.now).0 given).1
-strict_passes P view (Err e) strict other given n = tt
+strict_passes P view result strict other given n = grind (arith, nat_tests)

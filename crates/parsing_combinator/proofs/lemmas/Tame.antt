@@ -1,5 +1,5 @@
 -- Readings made of tame parts are tame.
-use Rattle.std.proofs.Common.{ℕ, ◌++◌, Bool, true, false, cond, List, [], ◌∷◌, take, drop, Option, Some, None, Result, Ok, Err, refl, sym, ap, ◌∙◌, take-append-drop}
+use Rattle.std.proofs.Common.{ℕ, ◌++◌, Bool, cond, List, [], ◌∷◌, take, drop, Option, Some, None, Result, Ok, Err, refl, sym, ap, ◌∙◌, take-append-drop}
 use Rattle.std.specs.Borrow.{Bor}
 use Rattle.std.specs.Prelude.{IfOk, IfErr, nat_le, option_map}
 use Rattle.std.proofs.lemmas.List.{append_assoc}
@@ -12,6 +12,8 @@ use Rattle.parsing_combinator.specs.ShortName.{HasShortName}
 use Rattle.parsing_combinator.specs.Tame.{EndsWith, Leaves, Tame}
 use Rattle.parsing_combinator.specs.declared.fault.Parse.{Parse}
 use Rattle.parsing_combinator.specs.declared.fault.ParseFromDescription.{ParseFromDescription}
+use Rattle.std.proofs.Common.{arith}
+use Rattle.std.proofs.lemmas.Bool.Decides.{nat_tests}
 
 -- ---- ends
 
@@ -30,12 +32,10 @@ after_one c rest = (c ∷ [], refl)
 -- ---- pieces
 
 pub kept_leaves : {A B : Type 0} (f : A → B) (bytes : List ℕ) (o : Option (A × List ℕ)) → Leaves bytes o → Leaves bytes (option_map (λ x. (f x.0, x.1)) o)
-kept_leaves f bytes None h = tt
-kept_leaves f bytes (Some x) h = h
+kept_leaves f bytes o h = grind (arith, nat_tests)
 
 cut_leaves : {A : Type 0} (b : Bool) (x : A) (k : ℕ) (bytes : List ℕ) → Leaves bytes (cond b (Some (x, drop k bytes)) None)
-cut_leaves true x k bytes = dropped k bytes
-cut_leaves false x k bytes = tt
+cut_leaves b x k bytes = grind (arith, nat_tests, dropped)
 
 pub digits_leaves : (n : ℕ) (bytes : List ℕ) → Leaves bytes (digits n bytes)
 unfolding digits
@@ -52,8 +52,7 @@ skip_leaves p [] = tt
 skip_leaves p (c ∷ rest) = cut_leaves (p c) tt 1 (c ∷ rest)
 
 run_leaves_by : {A : Type 0} (b : Bool) (x : A) (k : ℕ) (bytes : List ℕ) → Leaves bytes (cond b None (Some (x, drop k bytes)))
-run_leaves_by true x k bytes = tt
-run_leaves_by false x k bytes = dropped k bytes
+run_leaves_by b x k bytes = grind (arith, nat_tests, dropped)
 
 pub run_leaves : (bytes : List ℕ) → Leaves bytes (digit_run bytes)
 unfolding digit_run
@@ -66,8 +65,7 @@ fraction_leaves bytes = kept_leaves _ bytes (digit_run bytes) (run_leaves bytes)
 -- ---- readings
 
 pub piece_tame : {A : Type 0} (f : Fault) (bytes : List ℕ) (o : Option (A × List ℕ)) → Leaves bytes o → HasShortName f → Tame bytes (piece_or f o)
-piece_tame f bytes None h short = short
-piece_tame f bytes (Some x) h short = h
+piece_tame f bytes o h short = grind (arith, nat_tests)
 
 -- after what was read comes what is read of the rest
 pub further : {B : Type 0} (bytes between : List ℕ) (r : Result (B × List ℕ) Fault) → EndsWith bytes between → Tame between r → Tame bytes r
@@ -75,41 +73,29 @@ further bytes between (Ok x) h t = joined bytes between x.1 h t
 further bytes between (Err f) h t = t
 
 pub then_tame : {A B : Type 0} (bytes : List ℕ) (r : Result (A × List ℕ) Fault) (f : A → Reading B) → Tame bytes r → ((x : A) (rest : List ℕ) → Tame rest (f x rest)) → Tame bytes (then_read r f)
-then_tame bytes (Ok x) f h k = further bytes x.1 (f x.0 x.1) h (k x.0 x.1)
-then_tame bytes (Err e) f h k = h
+then_tame bytes r f h k = grind (arith, nat_tests, further)
 
 pub require_tame : (b : Bool) (f : Fault) (bytes : List ℕ) → HasShortName f → Tame bytes (require b f bytes)
-require_tame true f bytes h = whole_end bytes
-require_tame false f bytes h = h
+require_tame b f bytes h = grind (arith, nat_tests)
 
 pub resolved_tame : {A : Type 0} (r : Result A ComponentRange) (bytes : List ℕ) → Tame bytes (resolved r bytes)
-resolved_tame (Ok x) bytes = whole_end bytes
-resolved_tame (Err r) bytes = tt
+resolved_tame r bytes = grind (arith, nat_tests)
 
 pub end_tame : (bytes : List ℕ) → Tame bytes (end bytes)
-end_tame [] = whole_end []
-end_tame (x ∷ rest) = tt
+end_tame bytes = grind (arith, nat_tests)
 
 pub entered_tame : {A B : Type 0} (bytes : List ℕ) (o : Option (A × List ℕ)) (due : A → Reading B) (other : Reading B) → Leaves bytes o → ((x : A) (rest : List ℕ) → Tame rest (due x rest)) → Tame bytes (other bytes) → Tame bytes (entered o due other bytes)
-entered_tame bytes None due other h k m = m
-entered_tame bytes (Some x) due other h k m = further bytes x.1 (due x.0 x.1) h (k x.0 x.1)
+entered_tame bytes o due other h k m = grind (arith, nat_tests, further)
 
 -- ---- what a function returns
 
 -- that reads the prefix of the bytes
 pub prefix_ends : {X Y : Type 0} (view : X → Y) (result : Result (X × Bor (List ℕ)) ParseFromDescription) (bytes : List ℕ) (read : Result (Y × List ℕ) Fault) → Gives (λ x. (view x.0, x.1.now)) reading_fault result read → Tame bytes read → IfOk result (λ x. EndsWith bytes x.1.now)
-prefix_ends view (Ok x) bytes read given t = rw given at t
-prefix_ends view (Err e) bytes read given t = tt
+prefix_ends view result bytes read given t = grind (arith, nat_tests)
 
 pub prefix_short : {X Y : Type 0} (view : X → Y) (result : Result (X × Bor (List ℕ)) ParseFromDescription) (bytes : List ℕ) (read : Result (Y × List ℕ) Fault) → Gives (λ x. (view x.0, x.1.now)) reading_fault result read → Tame bytes read → IfErr result (λ e. HasShortName (reading_fault e))
-prefix_short view (Ok x) bytes read given t = tt
-prefix_short view (Err e) bytes read given t = rw given at t
-
-value_short : {A : Type 0} (bytes : List ℕ) (r : Result (A × List ℕ) Fault) → Tame bytes r → IfErr (value_read r) HasShortName
-value_short bytes (Ok x) h = tt
-value_short bytes (Err f) h = h
+prefix_short view result bytes read given t = grind (arith, nat_tests)
 
 -- that reads all of the bytes
 pub value_given_short : {X Y : Type 0} (view : X → Y) (result : Result X Parse) (bytes : List ℕ) (read : Result (Y × List ℕ) Fault) → Gives view fault_of result (value_read read) → Tame bytes read → IfErr result (λ e. HasShortName (fault_of e))
-value_given_short view (Ok x) bytes read given t = tt
-value_given_short view (Err e) bytes read given t = let h = value_short bytes read t in rw given at h
+value_given_short view result bytes read given t = grind (arith, nat_tests)

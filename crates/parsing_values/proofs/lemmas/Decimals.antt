@@ -1,21 +1,18 @@
 -- Decimal digits of fixed width: how many they are, and the number that they write.
-use Rattle.std.proofs.Common.{◌≡◌, ℕ, zero, suc, ◌+◌, ◌*◌, ◌/◌, ◌%◌, ◌^◌, ◌<◌, ◌≤◌, eqb, true, List, [], ◌∷◌, get_or, length, inl, inr, refl, ◌∙◌, arith, lit<, length-append}
+use Rattle.std.proofs.Common.{◌≡◌, ℕ, zero, suc, ◌+◌, ◌*◌, ◌/◌, ◌%◌, ◌^◌, ◌<◌, ◌≤◌, true, List, [], ◌∷◌, get_or, length, refl, ◌∙◌, arith, length-append}
 use Rattle.std.specs.Char.{is_ascii_digit, digit_value}
 use Rattle.std.specs.Str.Parse.{digits_value}
-use Rattle.std.proofs.lemmas.Bool.{cases_lt}
 use Rattle.std.proofs.lemmas.Bool.Decides.{nat_tests}
 use Rattle.std.proofs.lemmas.Int.Digits.{digits_value_push}
 use Rattle.std.proofs.lemmas.List.{get_or_past}
 use Rattle.std.proofs.lemmas.List.Folds.{prefix_len-append}
 use Rattle.std.proofs.lemmas.List.Sums.{prefix_len_passes}
 use Rattle.parsing_combinator.specs.Pieces.{digit_count}
-use Rattle.parsing_combinator.proofs.Decimal.{digit_here, power_next}
+use Rattle.parsing_combinator.proofs.Decimal.{power_next}
 use Rattle.parsing_values.specs.Decimal.{decimal}
 
 pub as_digit : (x : ℕ) → x ≤ 9 → (is_ascii_digit (48 + x) ≡ true) × (digit_value (48 + x) ≡ x)
-as_digit x h =
-    let yes : is_ascii_digit (48 + x) ≡ true = grind (arith, nat_tests) in
-    (yes, let d = digit_here (48 + x) yes in omega (arith, d))
+as_digit x h = grind (arith, nat_tests)
 
 pub decimal_length : (width n : ℕ) → length (decimal width n) ≡ width
 unfolding decimal
@@ -30,9 +27,7 @@ decimal_count (suc width) n =
     let digit = as_digit (n % 10) (omega arith) in
     let one : digit_count ((48 + n % 10) ∷ []) ≡ 1 = rw digit.0 refl in
     let counted = decimal_count width (n / 10) in
-    let long = decimal_length width (n / 10) in
-    let same : eqb (digit_count prefix) (length prefix) ≡ true = grind (arith, nat_tests) in
-    prefix_len-append is_ascii_digit prefix ((48 + n % 10) ∷ []) ∙ rw same (omega (arith, one, long))
+    grind (arith, nat_tests, decimal_length, prefix_len-append)
 
 below : (n p q : ℕ) → q ≡ p * 10 → n < q → n / 10 < p
 below n p q e h = omega arith
@@ -47,8 +42,4 @@ decimal_value (suc width) n h =
 
 -- digits are bytes
 pub digits_fit : (bytes : List ℕ) → digit_count bytes ≡ length bytes → (k : ℕ) → get_or bytes k 0 < 256
-digits_fit bytes all k =
-    elim (cases_lt k (length bytes)) [
-      | inl lt ↦ omega (arith, digit_here (get_or bytes k 0) (prefix_len_passes is_ascii_digit bytes k 0 (omega arith)))
-      | inr le ↦ rw (get_or_past bytes k 0 le) (lit< tt)
-    ]
+digits_fit bytes all k = grind (arith, nat_tests, prefix_len_passes, get_or_past)

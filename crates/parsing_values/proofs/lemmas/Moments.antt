@@ -1,18 +1,14 @@
 -- Numbers that name a day, a time of day and an offset, against the moment of the fields that have them.
-use Rattle.std.proofs.Common.{◌≡◌, ℕ, ◌+◌, ◌-◌, ◌*◌, ◌<◌, ◌≤◌, true, false, Option, Some, None, Ok, refl, sym, ap, ◌∙◌, arith, inl, inr, ℤ}
-use Rattle.std.specs.Prelude.{pos, ◌+ℤ◌, ◌*ℤ◌, unsigned_abs, nat_lt, IfSome}
-use Rattle.std.specs.Option.{unwrap_or, ok_or}
-use Rattle.std.specs.Int.{is_in_range}
+use Rattle.std.proofs.Common.{◌≡◌, ℕ, ◌+◌, ◌-◌, ◌*◌, ◌<◌, ◌≤◌, Option, Some, Ok, refl, sym, ap, ◌∙◌, arith, inl, inr, ℤ}
+use Rattle.std.specs.Prelude.{pos, ◌+ℤ◌, ◌*ℤ◌, unsigned_abs, IfSome}
+use Rattle.std.specs.Option.{unwrap_or}
 use Rattle.std.proofs.lemmas.Bool.{cases_lt}
 use Rattle.std.proofs.lemmas.Bool.Decides.{nat_tests}
-use Rattle.std.proofs.lemmas.Int.{ints}
 use Rattle.calendar.specs.Time.{time_of, second_nanos}
-use Rattle.calendar.specs.UtcOffset.{offset_of_seconds, greatest_offset}
+use Rattle.calendar.specs.UtcOffset.{offset_of_seconds}
 use Rattle.calendar_count.specs.Range.{greatest_year, last_count}
-use Rattle.calendar_count.specs.Calendar.{IsDay, day_at, ymd, is_year, days_in_year}
+use Rattle.calendar_count.specs.Calendar.{IsDay, day_at, ymd, days_in_year}
 use Rattle.calendar_count.specs.TheDay.{the_day, is_day_of}
-use Rattle.calendar_count.specs.ComponentRange.{out_of_conditional_range}
-use Rattle.calendar_count.specs.declared.component_range.ComponentName.TheVariants.{Day}
 use Rattle.calendar_count.specs.Closed.{days_before_year}
 use Rattle.calendar_count.specs.March.{march_days}
 use Rattle.calendar_count.proofs.lemmas.Signed.{signed}
@@ -38,7 +34,6 @@ later y m d h low =
     let e : y +ℤ pos greatest_year ≡ pos n = years_since y h.0 in
     let k : ℕ = march_days m + (d - 1) in
     let count : ℕ = days_before_year (n + 1) + k - 306 in
-    let least : 306 ≤ days_before_year (n + 1) + k = omega arith in
     let short : k < march_days (m + 1) = grind (arith, nat_tests, h) in
     let most : n < 1_999_999 = omega (arith, signed, h.0) in
     let first : d - 1 + 1 ≡ d = omega (arith, h.3) in
@@ -83,28 +78,17 @@ day_found y m d h =
 pub day_of_count : (y : ℤ) (m d n : ℕ) → IsDay y m d → day_at n ≡ ymd y m d → unwrap_or (the_day (is_day_of y m d)) 0 ≡ n
 day_of_count y m d n h e =
     let c = counted y m d h in
-    let same : c.count ≡ n = day_at_same c.count n (c.day_is ∙ sym e) in
-    day_is y m d c.count c.within c.day_is ∙ same
+    grind (arith, nat_tests, day_at_same, day_is)
 
 -- it is the one that resolution finds
 date_there : (y : ℤ) (m d : ℕ) → IsDay y m d → date_of y m d ≡ Ok (unwrap_or (the_day (is_day_of y m d)) 0)
 unfolding date_of
-date_there y m d h =
-    let there = day_found y m d h in
-    let year : is_year y ≡ true = grind (arith, nat_tests, ints) in
-    let month : is_in_range 1 12 m ≡ true = grind (arith, nat_tests) in
-    rw (year, month) (ap (λ (o : Option ℕ). ok_or o (out_of_conditional_range Day)) there)
+date_there y m d h = grind (arith, nat_tests, day_found)
 
 -- and so is a time of day
 time_there : (hour minute second nanosecond : ℕ) → hour ≤ 23 → minute ≤ 59 → second ≤ 59 → nanosecond < second_nanos → time_of hour minute second nanosecond ≡ Ok (((hour * 60 + minute) * 60 + second) * second_nanos + nanosecond)
 unfolding time_of
-time_there hour minute second nanosecond h m s n =
-    let e : (hour * 3600 + minute * 60 + second) * second_nanos + nanosecond ≡ ((hour * 60 + minute) * 60 + second) * second_nanos + nanosecond = omega arith in
-    let th : nat_lt 23 hour ≡ false = grind (arith, nat_tests) in
-    let tm : nat_lt 59 minute ≡ false = grind (arith, nat_tests) in
-    let ts : nat_lt 59 second ≡ false = grind (arith, nat_tests) in
-    let tn : nat_lt 999_999_999 nanosecond ≡ false = grind (arith, nat_tests) in
-    rw (th, tm, ts, tn, e) refl
+time_there hour minute second nanosecond h m s n = grind (arith, nat_tests)
 
 -- the day and the time of day of fields with these numbers
 pub fields_date : (f : Fields) (year month day minute second fraction : ℕ) (offset : ℤ) → HaveNumbers f year month day minute second fraction offset → date_of (pos year) month day ≡ Ok (day_of_fields f)
@@ -112,9 +96,7 @@ fields_date f year month day minute second fraction offset h =
     rw (← h.same_year, ← h.same_month, ← h.same_day) (date_there (pos f.year) f.month f.day f.day_is_there)
 
 pub fields_time : (f : Fields) (year month day hour minute second fraction : ℕ) (offset : ℤ) → HaveNumbers f year month day (hour * 60 + minute) second fraction offset → hour ≤ 23 → minute ≤ 59 → fraction < second_nanos → time_of hour minute second fraction ≡ Ok (time_of_fields f)
-fields_time f year month day hour minute second fraction offset h low small n =
-    let s : second ≤ 59 = omega (arith, h.same_second, f.within_a_minute) in
-    rw (h.same_minute, h.same_second, h.same_fraction) (time_there hour minute second fraction low small s n)
+fields_time f year month day hour minute second fraction offset h low small n = grind (arith, nat_tests, time_there)
 
 pub moment_is : (f : Fields) → record { wall = wall_clock (day_of_fields f) (time_of_fields f); offset = pos 60 *ℤ f.offset } ≡ moment_of f
 unfolding moment_of
@@ -122,16 +104,12 @@ moment_is f = refl
 
 -- what a function says of the fields that it returns
 pub of_fields : (P Q : Fields → Type 0) (result : Option Fields) → IfSome result P → ((f : Fields) → P f → Q f) → IfSome result Q
-of_fields P Q None h step = tt
-of_fields P Q (Some f) h step = step f h
+of_fields P Q result h step = grind (arith, nat_tests)
 
 -- so many minutes are an offset
 pub offset_there : (seconds minutes : ℤ) → seconds ≡ minutes *ℤ pos 60 → unsigned_abs minutes ≤ 1559 → offset_of_seconds seconds ≡ Ok (pos 60 *ℤ minutes)
 unfolding offset_of_seconds
-offset_there seconds minutes e few =
-    let within : nat_lt greatest_offset (unsigned_abs seconds) ≡ false = grind (arith, nat_tests, ints) in
-    let same : seconds ≡ pos 60 *ℤ minutes = omega (arith, ints) in
-    rw (within, same) refl
+offset_there seconds minutes e few = grind (arith, nat_tests)
 
 -- the moment of fields by its day, its time of day and its offset
 pub moment_of_parts : (f : Fields) (day time : ℕ) (offset : ℤ) → day ≤ last_count → day_at day ≡ ymd (pos f.year) f.month f.day → time ≡ time_of_fields f → offset ≡ pos 60 *ℤ f.offset → record { wall = wall_clock day time; offset = offset } ≡ moment_of f
