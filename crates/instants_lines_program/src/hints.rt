@@ -1,7 +1,5 @@
 //! What to do where the words are wrong, as a second sentence after that of the fault.
 
-ghost use Rattle.std.specs.Prelude.{◌≤◌, length};
-
 use instants_formats::formats;
 use instants_lines::{LinesFault, WrongWords};
 use instants_prefixes::Lack;
@@ -110,44 +108,29 @@ fn near(word: &str) -> Option<&'static str> {
             return Some(*name);
         }
     }
-    for name in FORMATS.iter() {
-        if begin_alike(word, name) {
-            return Some(*name);
-        }
-    }
-    for format in formats() {
-        if begin_alike(word, format.name) {
-            return Some(format.name);
-        }
-    }
-    None
-}
-
-// The bytes from the next letter or digit on.
-fn from_letter(text: &[u8]) -> &[u8]
-    ensures { length result.now ≤ length text.now }
-{
-    let mut rest = text;
-    while let [first, others @ ..] = rest {
-        if first.is_ascii_alphanumeric() {
-            break;
-        }
-        rest = others;
-    }
-    rest
+    let names = formats().iter().map(|format| format.name);
+    FORMATS
+        .iter()
+        .copied()
+        .chain(names)
+        .find(|name| begin_alike(word, name))
 }
 
 // Whether one of two words begins as the other one, by three letters or more of either case, whatever marks stand between.
 fn begin_alike(one: &str, other: &str) -> bool {
-    let mut one = from_letter(one.as_bytes());
-    let mut other = from_letter(other.as_bytes());
+    let ones = one
+        .as_bytes()
+        .iter()
+        .filter(|byte| byte.is_ascii_alphanumeric());
+    let others = other
+        .as_bytes()
+        .iter()
+        .filter(|byte| byte.is_ascii_alphanumeric());
     let mut count = 0_usize;
-    while let ([first, ones @ ..], [second, others @ ..]) = (one, other) {
+    for (first, second) in ones.zip(others) {
         if !first.eq_ignore_ascii_case(second) {
             return false;
         }
-        one = from_letter(ones);
-        other = from_letter(others);
         count = count.saturating_add(1);
     }
     count >= 3

@@ -145,17 +145,15 @@ fn folder(rt: &HostRuntime) -> Result<PathBuf, AllocError> {
     }
 }
 
-// The first bytes of a file, as far as there is room.
-fn read_bytes(rt: &HostRuntime, path: &str, room: &mut [u8]) -> Result<usize, Cause>
+/// The first bytes of a file, as far as there is room.
+pub(crate) fn read_bytes(rt: &HostRuntime, path: &str, room: &mut [u8]) -> Result<usize, ErrorKind>
     ensures count { IfOk result (λ count. count ≤ length room.new) }
     ensures len { length room.new ≡ length room.old }
 {
-    let mut file = fs::open(rt, path).map_err(|fault| Cause::Device(fault.kind()))?;
+    let mut file = fs::open(rt, path).map_err(|fault| fault.kind())?;
     let mut count = 0;
     while count < room.len() {
-        let more = file
-            .read(&mut room[count..])
-            .map_err(|fault| Cause::Device(fault.kind()))?;
+        let more = file.read(&mut room[count..]).map_err(|fault| fault.kind())?;
         if more == 0 {
             break;
         }
@@ -167,7 +165,7 @@ fn read_bytes(rt: &HostRuntime, path: &str, room: &mut [u8]) -> Result<usize, Ca
 // The zone in a file, of which so many bytes are read at most, and how many it has.
 fn read_some(rt: &HostRuntime, path: &str, size: usize) -> Result<(Zone, usize), Cause> {
     let mut room = vec![in rt.alloc(); 0; size]?;
-    let count = read_bytes(rt, path, room.as_mut_slice())?;
+    let count = read_bytes(rt, path, room.as_mut_slice()).map_err(Cause::Device)?;
     match read_zone(rt.alloc(), &room.as_slice()[..count]) {
         Ok(zone) => Ok((zone, count)),
         Err(fault) => Err(Cause::Fault(fault)),
