@@ -87,15 +87,9 @@ pub ruleset counts = (count_step, count_none, counted_ok, counted_err, length-ma
 
 -- ---- words say one source at least
 
-some_also : (s : SourceSaid) (others : Result (List SourceSaid) WordsFault) (sources : List SourceSaid) → also s others ≡ Ok sources → 0 < length sources
-some_also s (Ok others) [] e = absurd cc
-some_also s (Ok others) (t ∷ sources) e = omega arith
-some_also s (Err fault) sources e = absurd cc
-
-some_first : (place : ℕ) (first : Option (SourceSaid × List (List ℕ))) (sources : List SourceSaid) → first_or place first ≡ Ok sources → 0 < length sources
-some_first place None sources e = absurd cc
-some_first place (Some said) sources e = some_also said.0 (sources_said (place + 1) said.1) sources e
-
 pub said_some : (place : ℕ) (words : List (List ℕ)) (sources : List SourceSaid) → 0 < length words → sources_said place words ≡ Ok sources → 0 < length sources
-said_some place [] sources some e = absurd (omega arith)
-said_some place (word ∷ words) sources some e = some_first place (source_said (word ∷ words)) sources (sym (sources_step place word words) ∙ e)
+said_some place words sources some e =
+    elim (source_said words) as (λ first. source_said words ≡ first → 0 < length sources) [
+      | Some said ↦ λ f. let (rest, reads, are) = step_ok place words said.1 said.0 sources e f in rw are (omega arith)
+      | None ↦ λ f. let wrong = step_none place words some f in absurd cc
+    ] refl

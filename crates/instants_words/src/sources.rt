@@ -120,14 +120,11 @@ fn source<'a, 'b>(words: &'b [&'a str]) -> Option<(SourceText<'a>, &'b [&'a str]
 pub(crate) fn format<'a>(name: &str) -> Option<SourceText<'a>>
     ensures { option_map said_by result ≡ format_named name.now }
 {
-    if name == "rfc2822" {
-        Some(SourceText::Rfc2822)
-    } else if name == "rfc3339" {
-        Some(SourceText::Rfc3339)
-    } else if name == "iso8601" {
-        Some(SourceText::Iso8601)
-    } else {
-        None
+    match name {
+        "rfc2822" => Some(SourceText::Rfc2822),
+        "rfc3339" => Some(SourceText::Rfc3339),
+        "iso8601" => Some(SourceText::Iso8601),
+        _ => None,
     }
 }
 
@@ -136,15 +133,11 @@ pub(crate) fn described<'a>(name: &str, description: &'a str) -> Option<SourceTe
     ensures { option_map said_by result
         ≡ option_map (λ language. language description.now) (language_named name.now) }
 {
-    if name == "v1" {
-        Some(SourceText::V1(description))
-    } else if name == "v2" {
-        Some(SourceText::V2(description))
-    } else if name == "v3" {
-        Some(SourceText::V3(description))
-    } else if name == "strftime" {
-        Some(SourceText::Strftime(description))
-    } else {
-        None
+    match name {
+        "v1" => Some(SourceText::V1(description)),
+        "v2" => Some(SourceText::V2(description)),
+        "v3" => Some(SourceText::V3(description)),
+        "strftime" => Some(SourceText::Strftime(description)),
+        _ => None,
     }
 }
