@@ -55,10 +55,7 @@ fn hint_on_mode(word: &str) -> Option<Hint> {
     if word == "guess" {
         return Some(Hint::Do("guess has no other arguments: instants-lines guess < FILE"));
     }
-    match near(word) {
-        Some(_) => Some(Hint::Do("a mode stands before the sources: instants-lines key SOURCE..")),
-        None => None,
-    }
+    near(word).map(|_| Hint::Do("a mode stands before the sources: instants-lines key SOURCE.."))
 }
 
 const ORDER: &str =
@@ -103,10 +100,8 @@ static FORMATS: [&str; 3] = ["rfc3339", "rfc2822", "iso8601"];
 
 // The name of a source that is near a word: that of what a program writes, or one that begins as the word does.
 fn near(word: &str) -> Option<&'static str> {
-    for (program, name) in PROGRAMS.iter() {
-        if word == *program {
-            return Some(*name);
-        }
+    if let Some(program) = PROGRAMS.iter().find(|program| program.0 == word) {
+        return Some(program.1);
     }
     let names = formats().iter().map(|format| format.name);
     FORMATS

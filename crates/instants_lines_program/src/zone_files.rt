@@ -1,10 +1,8 @@
 //! Zones by name: the files that hold their clocks, below a folder.
-ghost use Rattle.std.specs.Prelude.{◌≡◌, ◌≤◌, length, IfOk};
-
-use crate::zone_names::{near, read_names, version};
+use crate::zone_names::{near, read_bytes, read_names, version};
 use std::alloc::AllocError;
 use std::fmt::{self, Display, Formatter};
-use std::io::{ErrorKind, Read};
+use std::io::ErrorKind;
 use std::path::PathBuf;
 use std::{env, fs};
 use zones::{FILE_LIMIT, Zone, ZoneFault, is_zone_name, read_zone};
@@ -61,10 +59,11 @@ pub struct NamedZone<'a> {
 impl Display for NamedZone<'_> {
     fn fmt<F: fmt::Write>(&self, f: &mut Formatter<F>) -> fmt::Result {
         let (name, size) = (self.name, self.size);
-        let version = match &self.names {
-            Some(names) => version(names.as_str()).unwrap_or("unknown"),
-            None => "unknown",
-        };
+        let version = self
+            .names
+            .as_ref()
+            .and_then(|names| version(names.as_str()))
+            .unwrap_or("unknown");
         write!(f, "zone {name}, tzdata {version}, {size} bytes")
     }
 }
@@ -143,23 +142,6 @@ fn folder(rt: &HostRuntime) -> Result<PathBuf, AllocError> {
         Ok(folder) if !folder.as_str().is_empty() => PathBuf::from_str(rt.alloc(), folder.as_str()),
         _ => PathBuf::from_str(rt.alloc(), FOLDER),
     }
-}
-
-/// The first bytes of a file, as far as there is room.
-pub(crate) fn read_bytes(rt: &HostRuntime, path: &str, room: &mut [u8]) -> Result<usize, ErrorKind>
-    ensures count { IfOk result (λ count. count ≤ length room.new) }
-    ensures len { length room.new ≡ length room.old }
-{
-    let mut file = fs::open(rt, path).map_err(|fault| fault.kind())?;
-    let mut count = 0;
-    while count < room.len() {
-        let more = file.read(&mut room[count..]).map_err(|fault| fault.kind())?;
-        if more == 0 {
-            break;
-        }
-        count += more;
-    }
-    Ok(count)
 }
 
 // The zone in a file, of which so many bytes are read at most, and how many it has.

@@ -1,6 +1,9 @@
 //! The names of all zones, and the version of their data, in the file `tzdata.zi` below their folder.
-use crate::zone_files::read_bytes;
+ghost use Rattle.std.specs.Prelude.{◌≡◌, ◌≤◌, length, IfOk};
+
 use std::alloc::AllocError;
+use std::fs;
+use std::io::{ErrorKind, Read};
 use std::path::PathBuf;
 
 // The file has some 100 KiB.
@@ -8,6 +11,23 @@ const ROOM: usize = 1_048_576;
 
 // So many letters at the beginning are alike where a name is near.
 const LEAST: usize = 3;
+
+/// The first bytes of a file, as far as there is room.
+pub(crate) fn read_bytes(rt: &HostRuntime, path: &str, room: &mut [u8]) -> Result<usize, ErrorKind>
+    ensures count { IfOk result (λ count. count ≤ length room.new) }
+    ensures len { length room.new ≡ length room.old }
+{
+    let mut file = fs::open(rt, path).map_err(|fault| fault.kind())?;
+    let mut count = 0;
+    while count < room.len() {
+        let more = file.read(&mut room[count..]).map_err(|fault| fault.kind())?;
+        if more == 0 {
+            break;
+        }
+        count += more;
+    }
+    Ok(count)
+}
 
 /// The text of the file below a folder: empty where there is none.
 pub fn read_names(rt: &HostRuntime, folder: &PathBuf) -> Result<String, AllocError> {
