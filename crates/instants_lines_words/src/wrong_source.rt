@@ -26,13 +26,7 @@ pub fn is_language(name: &str) -> bool
 fn is_named(word: &str) -> bool
     ensures { result ≡ is_some (source_named word.now) }
 {
-    if is_format(word) {
-        return true;
-    }
-    match format_named(word) {
-        Some(format) => is_language(format.language),
-        None => false,
-    }
+    is_format(word) || format_named(word).is_some_and(|format| is_language(format.language))
 }
 
 /// What is wrong first with the sources that words say, the first of them in this place; its description stands first where its
