@@ -1,7 +1,5 @@
 //! What to do where the words are wrong, as a second sentence after that of the fault.
 
-ghost use Rattle.std.specs.Prelude.{◌≤◌, length};
-
 use instants_formats::formats;
 use instants_lines::{LinesFault, WrongWords};
 use instants_prefixes::Lack;
@@ -57,10 +55,7 @@ fn hint_on_mode(word: &str) -> Option<Hint> {
     if word == "guess" {
         return Some(Hint::Do("guess has no other arguments: instants-lines guess < FILE"));
     }
-    match near(word) {
-        Some(_) => Some(Hint::Do("a mode stands before the sources: instants-lines key SOURCE..")),
-        None => None,
-    }
+    near(word).map(|_| Hint::Do("a mode stands before the sources: instants-lines key SOURCE.."))
 }
 
 const ORDER: &str =
@@ -105,49 +100,32 @@ static FORMATS: [&str; 3] = ["rfc3339", "rfc2822", "iso8601"];
 
 // The name of a source that is near a word: that of what a program writes, or one that begins as the word does.
 fn near(word: &str) -> Option<&'static str> {
-    for (program, name) in PROGRAMS.iter() {
-        if word == *program {
-            return Some(*name);
-        }
+    if let Some(program) = PROGRAMS.iter().find(|program| program.0 == word) {
+        return Some(program.1);
     }
-    for name in FORMATS.iter() {
-        if begin_alike(word, name) {
-            return Some(*name);
-        }
-    }
-    for format in formats() {
-        if begin_alike(word, format.name) {
-            return Some(format.name);
-        }
-    }
-    None
-}
-
-// The bytes from the next letter or digit on.
-fn from_letter(text: &[u8]) -> &[u8]
-    ensures { length result.now ≤ length text.now }
-{
-    let mut rest = text;
-    while let [first, others @ ..] = rest {
-        if first.is_ascii_alphanumeric() {
-            break;
-        }
-        rest = others;
-    }
-    rest
+    let names = formats().iter().map(|format| format.name);
+    FORMATS
+        .iter()
+        .copied()
+        .chain(names)
+        .find(|name| begin_alike(word, name))
 }
 
 // Whether one of two words begins as the other one, by three letters or more of either case, whatever marks stand between.
 fn begin_alike(one: &str, other: &str) -> bool {
-    let mut one = from_letter(one.as_bytes());
-    let mut other = from_letter(other.as_bytes());
+    let ones = one
+        .as_bytes()
+        .iter()
+        .filter(|byte| byte.is_ascii_alphanumeric());
+    let others = other
+        .as_bytes()
+        .iter()
+        .filter(|byte| byte.is_ascii_alphanumeric());
     let mut count = 0_usize;
-    while let ([first, ones @ ..], [second, others @ ..]) = (one, other) {
+    for (first, second) in ones.zip(others) {
         if !first.eq_ignore_ascii_case(second) {
             return false;
         }
-        one = from_letter(ones);
-        other = from_letter(others);
         count = count.saturating_add(1);
     }
     count >= 3

@@ -174,18 +174,12 @@ fn tell(rt: &HostRuntime, counts: &Counts, zone: &FoundZone<'_>, options: Option
 
 // Whether the words ask for lines after keys.
 fn asks_keys(words: &[&str]) -> bool {
-    match words {
-        [mode, ..] => matches!(*mode, "key" | "carry" | "locate"),
-        [] => false,
-    }
+    matches!(words, [mode, ..] if matches!(*mode, "key" | "carry" | "locate"))
 }
 
 // Whether the words ask which formats date the lines.
 fn asks_guess(words: &[&str]) -> bool {
-    match words {
-        [word] => *word == "guess",
-        _ => false,
-    }
+    matches!(words, [word] if *word == "guess")
 }
 
 // Says what ended the program early, if anything did, and ends it. A pipe whose reader has read enough is no news.

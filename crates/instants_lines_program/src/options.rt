@@ -33,14 +33,10 @@ impl Options {
 
     /// What is to be asked of the keys of the lines that are written, where they have any.
     pub fn asked(&self, have_keys: bool) -> Asked {
-        if !have_keys {
-            Asked::Nothing
-        } else if self.counts {
-            Asked::Counts
-        } else if self.is_quiet {
-            Asked::Nothing
-        } else {
-            Asked::WhetherDated
+        match (have_keys, self.counts, self.is_quiet) {
+            (true, true, _) => Asked::Counts,
+            (true, false, false) => Asked::WhetherDated,
+            _ => Asked::Nothing,
         }
     }
 }

@@ -1,10 +1,8 @@
 //! Zones by name: the files that hold their clocks, below a folder.
-ghost use Rattle.std.specs.Prelude.{◌≡◌, ◌≤◌, length, IfOk};
-
-use crate::zone_names::{near, read_names, version};
+use crate::zone_names::{near, read_bytes, read_names, version};
 use std::alloc::AllocError;
 use std::fmt::{self, Display, Formatter};
-use std::io::{ErrorKind, Read};
+use std::io::ErrorKind;
 use std::path::PathBuf;
 use std::{env, fs};
 use zones::{FILE_LIMIT, Zone, ZoneFault, is_zone_name, read_zone};
@@ -61,10 +59,11 @@ pub struct NamedZone<'a> {
 impl Display for NamedZone<'_> {
     fn fmt<F: fmt::Write>(&self, f: &mut Formatter<F>) -> fmt::Result {
         let (name, size) = (self.name, self.size);
-        let version = match &self.names {
-            Some(names) => version(names.as_str()).unwrap_or("unknown"),
-            None => "unknown",
-        };
+        let version = self
+            .names
+            .as_ref()
+            .and_then(|names| version(names.as_str()))
+            .unwrap_or("unknown");
         write!(f, "zone {name}, tzdata {version}, {size} bytes")
     }
 }
@@ -145,29 +144,10 @@ fn folder(rt: &HostRuntime) -> Result<PathBuf, AllocError> {
     }
 }
 
-// The first bytes of a file, as far as there is room.
-fn read_bytes(rt: &HostRuntime, path: &str, room: &mut [u8]) -> Result<usize, Cause>
-    ensures count { IfOk result (λ count. count ≤ length room.new) }
-    ensures len { length room.new ≡ length room.old }
-{
-    let mut file = fs::open(rt, path).map_err(|fault| Cause::Device(fault.kind()))?;
-    let mut count = 0;
-    while count < room.len() {
-        let more = file
-            .read(&mut room[count..])
-            .map_err(|fault| Cause::Device(fault.kind()))?;
-        if more == 0 {
-            break;
-        }
-        count += more;
-    }
-    Ok(count)
-}
-
 // The zone in a file, of which so many bytes are read at most, and how many it has.
 fn read_some(rt: &HostRuntime, path: &str, size: usize) -> Result<(Zone, usize), Cause> {
     let mut room = vec![in rt.alloc(); 0; size]?;
-    let count = read_bytes(rt, path, room.as_mut_slice())?;
+    let count = read_bytes(rt, path, room.as_mut_slice()).map_err(Cause::Device)?;
     match read_zone(rt.alloc(), &room.as_slice()[..count]) {
         Ok(zone) => Ok((zone, count)),
         Err(fault) => Err(Cause::Fault(fault)),

@@ -1,9 +1,9 @@
 //! The names of all zones, and the version of their data, in the file `tzdata.zi` below their folder.
-ghost use Rattle.std.specs.Prelude.{◌≡◌, ◌≤◌, length};
+ghost use Rattle.std.specs.Prelude.{◌≡◌, ◌≤◌, length, IfOk};
 
 use std::alloc::AllocError;
 use std::fs;
-use std::io::Read;
+use std::io::{ErrorKind, Read};
 use std::path::PathBuf;
 
 // The file has some 100 KiB.
@@ -12,38 +12,35 @@ const ROOM: usize = 1_048_576;
 // So many letters at the beginning are alike where a name is near.
 const LEAST: usize = 3;
 
-// The first bytes of a file, as far as there is room, and none where it can't be read.
-fn read_first<R: Read>(file: &mut R, room: &mut [u8]) -> usize
-    ensures count { result ≤ length room.new }
+/// The first bytes of a file, as far as there is room.
+pub(crate) fn read_bytes(rt: &HostRuntime, path: &str, room: &mut [u8]) -> Result<usize, ErrorKind>
+    ensures count { IfOk result (λ count. count ≤ length room.new) }
     ensures len { length room.new ≡ length room.old }
 {
+    let mut file = fs::open(rt, path).map_err(|fault| fault.kind())?;
     let mut count = 0;
     while count < room.len() {
-        match file.read(&mut room[count..]) {
-            Ok(0) | Err(_) => break,
-            Ok(more) => count += more,
+        let more = file.read(&mut room[count..]).map_err(|fault| fault.kind())?;
+        if more == 0 {
+            break;
         }
+        count += more;
     }
-    count
-}
-
-// The text of a file, of which so many bytes are read at most: empty where there is none.
-fn read_text(rt: &HostRuntime, path: &str, size: usize) -> Result<String, AllocError> {
-    let mut room = vec![in rt.alloc(); 0; size]?;
-    let count = match fs::open(rt, path) {
-        Ok(mut file) => read_first(&mut file, room.as_mut_slice()),
-        Err(_) => 0,
-    };
-    match str::from_utf8(&room.as_slice()[..count]) {
-        Ok(text) => String::from_str(rt.alloc(), text),
-        Err(_) => String::from_str(rt.alloc(), ""),
-    }
+    Ok(count)
 }
 
 /// The text of the file below a folder: empty where there is none.
 pub fn read_names(rt: &HostRuntime, folder: &PathBuf) -> Result<String, AllocError> {
     let path = folder.as_path().join(rt.alloc(), "tzdata.zi")?;
     read_text(rt, path.as_str(), ROOM)
+}
+
+// The text of a file, of which so many bytes are read at most: empty where it can't be read.
+fn read_text(rt: &HostRuntime, path: &str, size: usize) -> Result<String, AllocError> {
+    let mut room = vec![in rt.alloc(); 0; size]?;
+    let count = read_bytes(rt, path, room.as_mut_slice()).unwrap_or(0);
+    let text = str::from_utf8(&room.as_slice()[..count]).unwrap_or("");
+    String::from_str(rt.alloc(), text)
 }
 
 /// The version of the data, as `2025b`, by the first line, `# version 2025b`.

@@ -1,8 +1,8 @@
 -- What the words for a time of day and for a separator say.
-use Rattle.std.proofs.Common.{◌≡◌, ◌≢◌, ℕ, true, false, Option, None, Some, List, [], ◌∷◌, length, get_or, refl, ap, arith}
+use Rattle.std.proofs.Common.{◌≡◌, ◌≢◌, ◌∙◌, ℕ, Bool, Decides, true, false, Option, None, Some, is_some, List, [], ◌∷◌, length, get_or, refl, ap, arith}
 use Rattle.std.specs.Prelude.{◌↔◌, IsSome, IfSome, codes, if◌then◌else◌}
 use Rattle.std.specs.Str.{bytes_eq}
-use Rattle.std.proofs.lemmas.Bool.Decides.{nat_tests}
+use Rattle.std.proofs.lemmas.Bool.Decides.{nat_tests, same_from_decides}
 use Rattle.std.proofs.lemmas.Slice.Eq.{bytes_eq-Decides}
 use Rattle.instants_fields.specs.Columns.{IsSeparator}
 use Rattle.instants_words.specs.Pieces.{number_said}
@@ -18,27 +18,17 @@ time_five word five colon = absurd (omega arith)
 -- ---- what stands between columns
 
 -- a byte that may stand there
-bytes_of : (byte : ℕ) → is_separator byte ≡ true → IsSeparator byte
-bytes_of byte is = record { mark = grind (arith, nat_tests); line_feed = grind (arith, nat_tests); carriage_return = grind (arith, nat_tests) }
+decides : (byte : ℕ) → Decides (is_separator byte) (IsSeparator byte)
+decides byte =
+    (λ is. record { mark = grind (arith, nat_tests); line_feed = grind (arith, nat_tests); carriage_return = grind (arith, nat_tests) }, λ one. grind (arith, nat_tests, one.mark, one.line_feed, one.carriage_return))
 
-no_byte_of : (byte : ℕ) → is_separator byte ≡ false → IsSeparator byte → ⊥
-no_byte_of byte is one = grind (arith, nat_tests, one.mark, one.line_feed, one.carriage_return)
-
-there : (byte : ℕ) (result : Option ℕ) → IsSome result → IfSome result (λ separator. separator ≡ byte) → result ≡ Some byte
-there byte (Some separator) some is = ap (λ one. Some one) is
-there byte None some is = absurd cc
-
-none : (result : Option ℕ) → (IsSome result → ⊥) → result ≡ None
-none (Some separator) unsaid = absurd (unsaid refl)
-none None unsaid = refl
+there : (byte : ℕ) (result : Option ℕ) → IfSome result (λ separator. separator ≡ byte) → result ≡ (if is_some result then Some byte else None)
+there byte (Some separator) is = ap (λ one. Some one) is
+there byte None is = refl
 
 -- the separator of a byte
 made : (byte : ℕ) (result : Option ℕ) → IsSome result ↔ IsSeparator byte → IfSome result (λ separator. separator ≡ byte) → result ≡ (if is_separator byte then Some byte else None)
-made byte result which value =
-    elim (is_separator byte) as (λ test. is_separator byte ≡ test → result ≡ (if test then Some byte else None)) [
-      | true ↦ λ e. there byte result (which.1 (bytes_of byte e)) value
-      | false ↦ λ e. none result (λ some. no_byte_of byte e (which.0 some))
-    ] refl
+made byte result which value = there byte result value ∙ ap (λ (test : Bool). if test then Some byte else None) (same_from_decides (is_some result) (is_separator byte) which (decides byte))
 
 -- a word of one byte
 pub separator_one : (word : List ℕ) (result : Option ℕ) → length word ≡ 1 → IsSome result ↔ IsSeparator (get_or word 0 0) → IfSome result (λ separator. separator ≡ get_or word 0 0) → result ≡ separator_said word

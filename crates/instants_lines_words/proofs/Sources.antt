@@ -1,20 +1,12 @@
 -- What is wrong with sources, word by word.
 use Rattle.std.proofs.Common.{◌≡◌, ℕ, ◌+◌, ◌<◌, true, false, Option, None, Some, is_some, option_map, Result, Ok, Err, List, [], ◌∷◌, ◌++◌, append_assoc, length, get_or, drop, map, refl, ap, ◌∙◌}
-use Rattle.std.specs.Borrow.{Bor}
 use Rattle.std.specs.Result.{result_err}
-use Rattle.std.proofs.lemmas.List.{drop_more}
+use Rattle.std.proofs.lemmas.List.{append-nil, map-append}
 use Rattle.instants_words.specs.Sources.{SourceSaid, language_named}
 use Rattle.instants_lines_words.specs.Words.{◌or◌, ◌>>=◌, also, described, source_named, sources_read}
 use Rattle.instants_lines_words.specs.Wrong.{Wrong, Source}
 
--- the words from a place on are one and those after it
-pub cut : (words : List (Bor (List ℕ))) (index : ℕ) → index < length words
-    → map (λ word. word.now) (drop index words) ≡ (get_or words index (record { ref_ptr = (0, 0); now = [] })).now ∷ map (λ word. word.now) (drop (index + 1) words)
-cut words index within = ap (map (λ word. word.now)) (drop_more words index (record { ref_ptr = (0, 0); now = [] }) within)
-
--- some words more were added, and others are left
-pub added : (new old some rest all : List (List ℕ)) → new ≡ old ++ some → old ++ (some ++ rest) ≡ all → new ++ rest ≡ all
-added new old some rest all e is = ap (λ l. l ++ rest) e ∙ append_assoc old some rest ∙ is
+pub ruleset added = (append_assoc, append-nil, map-append)
 
 by_source : (said : Option SourceSaid) (wrong : Wrong) (others : Result (List SourceSaid) Wrong) → is_some said ≡ true → result_err (said or wrong >>= (λ source. also source others)) ≡ result_err others
 by_source (Some source) wrong (Ok sources) is = refl
@@ -45,3 +37,5 @@ module _ (place : ℕ) (word : List ℕ) (words : List (List ℕ)) where
   pub no_source : is_some (language_named word) ≡ false → is_some (source_named word) ≡ false → result_err (sources_read None place (word ∷ words)) ≡ Some (Source place word)
   unfolding sources_read
   no_source none is = rw none (by_none (source_named word) (Source place word) (sources_read None (place + 1) words) is)
+
+pub ruleset steps = (description, language, source, no_source)

@@ -1,5 +1,5 @@
 -- Words that nothing is left out of stay as they are.
-use Rattle.std.proofs.Common.{◌≡◌, ℕ, ◌+◌, ◌<◌, ◌⊎◌, inl, inr, Bool, true, false, Option, None, Some, is_some, option_map, Result, Ok, Err, List, [], ◌∷◌, length, codes, if◌then◌else◌, refl, sym, ap, ◌∙◌, subst, arith, ℤ}
+use Rattle.std.proofs.Common.{◌≡◌, ℕ, ◌+◌, ◌<◌, ◌⊎◌, inl, inr, true, false, Option, None, Some, is_some, option_map, Result, Ok, Err, List, [], ◌∷◌, length, codes, if◌then◌else◌, refl, sym, ap, ◌∙◌, subst, arith, ℤ}
 use Rattle.std.proofs.lemmas.Slice.Eq.{bytes_eq-Decides}
 use Rattle.std.specs.Str.{bytes_eq}
 use Rattle.instants_words.specs.declared.words.Words.{Words}
@@ -35,27 +35,11 @@ assumed_begins_by (first ∷ rest) None assumed is e = (grind arith, grind arith
 assumed_begins : (word : List ℕ) (assumed : Option ℤ) → assumed_said word ≡ Some assumed → (has_sign_or_digit word ≡ true) × (is_utc word ≡ false)
 assumed_begins word assumed e = assumed_begins_by word (offset_said word) assumed refl e
 
-setting : (word : List ℕ) → has_sign_or_digit word ≡ true → is_setting word ≡ true
-unfolding is_setting
-setting word e = rw e refl
-
-as_is : (word : List ℕ) → is_utc word ≡ false → as_offset word ≡ word
-unfolding as_offset
-as_is word e = rw e refl
-
 -- the first of sources that are accepted is not the name of anything else
 is_known : (place : ℕ) (source : List ℕ) (others : List (List ℕ)) (all : List SourceSaid) → format_named source ≡ None → language_named source ≡ None → sources_said place (source ∷ others) ≡ Ok all → ⊥
 unfolding sources_said
 is_known place source [] all f l e = let none = rw f at e in absurd cc
 is_known place source (next ∷ others) all f l e = let none = rw f at (rw l at e) in absurd cc
-
-other_name : (source name : List ℕ) (others : List (List ℕ)) (all : List SourceSaid) (same : Bool) → format_named name ≡ None → language_named name ≡ None → sources_said 1 (source ∷ others) ≡ Ok all
-    → bytes_eq source name ≡ same → same ≡ false
-other_name source name others all false f l e is = refl
-other_name source name others all true f l e is =
-    let named : source ≡ name = (bytes_eq-Decides source name).0 is in
-    let P : List ℕ → Type 0 = λ word. sources_said 1 (word ∷ others) ≡ Ok all in
-    absurd (is_known 1 name others all f l (subst P named e))
 
 -- sources that are accepted have no names of formats to spell out
 also_ok : (source : SourceSaid) (sources : Result (List SourceSaid) WordsFault) (all : List SourceSaid) → also source sources ≡ Ok all → (others : List SourceSaid) × (sources ≡ Ok others)
@@ -84,12 +68,36 @@ spelled place (word ∷ next ∷ words) all e =
       | inr h ↦ rw h.0 (ap (λ (l : List (List ℕ)). word ∷ next ∷ l) (spelled (place + 1) words h.1.0 h.1.1))
     ]
 
--- three such words are the target, the assumed offset and the limit, where the next one is no name
-stays : (target assumed limit source : List ℕ) (others : List (List ℕ)) → is_setting target ≡ true → is_setting assumed ≡ true → is_setting limit ≡ true → as_offset target ≡ target → as_offset assumed ≡ assumed
-    → bytes_eq source (codes "year") ≡ false → bytes_eq source (codes "time") ≡ false → bytes_eq source (codes "field") ≡ false → bytes_eq source (codes "column") ≡ false → bytes_eq source (codes "separator") ≡ false → bytes_eq source (codes "label") ≡ false → spelled_out false (source ∷ others) ≡ source ∷ others
-    → filled (target ∷ assumed ∷ limit ∷ source ∷ others) ≡ target ∷ assumed ∷ limit ∷ source ∷ others
-unfolding filled target_in assumed_first assumed_in limit_in year_first time_first field_first column_first separator_first label_first
-stays target assumed limit source others t a l et ea y n f c p b s = rw (t, a, a, l, et, ea, y, n, f, c, p, b, s) refl
+module _ (source : List ℕ) (others : List (List ℕ)) (all : List SourceSaid) (good : sources_said 1 (source ∷ others) ≡ Ok all) where
+  unnamed : (name : List ℕ) → format_named name ≡ None → language_named name ≡ None → bytes_eq source name ≡ false
+  unnamed name f l =
+      elim (bytes_eq source name) as (λ same. bytes_eq source name ≡ same → same ≡ false) [
+        | true ↦ λ is.
+            let named : source ≡ name = (bytes_eq-Decides source name).0 is in
+            absurd (is_known 1 name others all f l (subst (λ (word : List ℕ). sources_said 1 (word ∷ others) ≡ Ok all) named good))
+        | false ↦ λ is. refl
+      ] refl
+
+  -- three words of such looks are the target, the assumed offset and the limit, and the source is no name
+  stays : (target assumed limit : List ℕ) → has_sign_or_digit target ≡ true → has_sign_or_digit assumed ≡ true → has_sign_or_digit limit ≡ true → is_utc target ≡ false → is_utc assumed ≡ false
+      → filled (target ∷ assumed ∷ limit ∷ source ∷ others) ≡ target ∷ assumed ∷ limit ∷ source ∷ others
+  unfolding filled target_in assumed_first assumed_in limit_in year_first time_first field_first column_first separator_first label_first is_setting as_offset
+  stays target assumed limit t a l et ea =
+      rw (
+        t,
+        a,
+        a,
+        l,
+        et,
+        ea,
+        unnamed (codes "year") refl refl,
+        unnamed (codes "time") refl refl,
+        unnamed (codes "field") refl refl,
+        unnamed (codes "column") refl refl,
+        unnamed (codes "separator") refl refl,
+        unnamed (codes "label") refl refl,
+        spelled 1 (source ∷ others) all good,
+      ) refl
 
 known : (t : Option ℤ) (a : Option (Option ℤ)) (l : Option ℕ) (sources : Result (List SourceSaid) WordsFault) (said : Words)
     → ((t or words.Target) >>= (λ x. (a or words.Assumed) >>= (λ y. (l or words.Limit) >>= (λ z. sources >>= (λ s. Ok (record { target = x; assumed = y; limit = z; sources = s })))))) ≡ Ok said
@@ -110,13 +118,5 @@ in_full (t ∷ a ∷ l ∷ source ∷ others) said e =
     let is = known (offset_said t) (assumed_said a) (limit_said l) (sources_said 1 (source ∷ others)) said (sym (said_four (t ∷ a ∷ l ∷ source ∷ others) (source ∷ others) t a l refl (omega arith)) ∙ e) in
     let target = sign_first t said.target is.0 in
     let assumed = assumed_begins a said.assumed is.1 in
-    stays t a l source others (setting t target.0) (setting a assumed.0) (setting l (digit_first l said.limit is.2))
-    (as_is t target.1) (as_is a assumed.1)
-    (other_name source (codes "year") others said.sources (bytes_eq source (codes "year")) refl refl is.3 refl)
-    (other_name source (codes "time") others said.sources (bytes_eq source (codes "time")) refl refl is.3 refl)
-    (other_name source (codes "field") others said.sources (bytes_eq source (codes "field")) refl refl is.3 refl)
-    (other_name source (codes "column") others said.sources (bytes_eq source (codes "column")) refl refl is.3 refl)
-    (other_name source (codes "separator") others said.sources (bytes_eq source (codes "separator")) refl refl is.3 refl)
-    (other_name source (codes "label") others said.sources (bytes_eq source (codes "label")) refl refl is.3 refl)
-    (spelled 1 (source ∷ others) said.sources is.3)
+    stays source others said.sources is.3 t a l target.0 assumed.0 (digit_first l said.limit is.2) target.1 assumed.1
 in_full words said e = absurd (few words said (omega arith) e)

@@ -1,20 +1,15 @@
 -- The sentence for what is wrong with words, after the name of the program.
-use Rattle.std.specs.Prelude.{ℕ, if◌then◌else◌, List, ◌++◌, codes}
+use Rattle.std.specs.Prelude.{ℕ, Bool, true, false, if◌then◌else◌, List, ◌++◌, codes}
 use Rattle.std.specs.Fmt.{decimal}
 use Rattle.instants_lines_words.specs.FileName.{is_file_name}
 use Rattle.instants_lines_words.specs.Wrong.{Wrong, NoMode, UnknownMode, NoSource, Target, Assumed, Limit, Zone, Year, Time, Field, Column, Separator, Label, Source, FirstSource, NoDescription}
 
--- what is said of a word that is no source
-abbrev pub no_such_source : List ℕ → List ℕ
-no_such_source word =
+-- what is said of a word that is no source; where it is the first one, it may be an offset that is misspelt
+abbrev pub no_such_source : Bool → List ℕ → List ℕ
+no_such_source is_first word =
     if is_file_name word then codes "no such source; files are read from standard input: instants-lines .. < FILE"
+    else if is_first then codes "no such source; there are rfc3339, rfc2822, iso8601, v1, v2, v3, strftime, and the names of --help; an offset before the sources is +HH:MM, -HH:MM, Z or UTC"
     else codes "no such source; there are rfc3339, rfc2822, iso8601, v1, v2, v3, strftime, and the names of --help"
-
--- the same, where the word may be an offset that is misspelt
-abbrev pub no_such_first_source : List ℕ → List ℕ
-no_such_first_source word =
-    if is_file_name word then codes "no such source; files are read from standard input: instants-lines .. < FILE"
-    else codes "no such source; there are rfc3339, rfc2822, iso8601, v1, v2, v3, strftime, and the names of --help; an offset before the sources is +HH:MM, -HH:MM, Z or UTC"
 
 -- what is said of the word that is wrong, or of there being none
 abbrev pub said_of : Wrong → List ℕ
@@ -31,8 +26,8 @@ said_of (Field word) = codes "no field; modes key, carry, replace and locate tak
 said_of (Column word) = codes "no column; modes key, carry, replace and locate take one from 1 to 1048576, where no field is named"
 said_of (Separator word) = codes "no separator; after a column it must be one byte and no quotation mark, or tab"
 said_of (Label word) = codes "no label; modes key and carry take one, without tabs and line feeds"
-said_of (Source place word) = no_such_source word
-said_of (FirstSource word) = no_such_first_source word
+said_of (Source place word) = no_such_source false word
+said_of (FirstSource word) = no_such_source true word
 said_of (NoDescription place language) = codes "needs a description in the next argument"
 
 -- the sentence for what is wrong with words, after the name of the program

@@ -212,6 +212,6 @@ pub fn fill<'a>(alloc: Global, parted: &Parted<'a, '_>) -> Result<Vec<&'a str>, 
         ∷ spelled_out false (map (λ word. word.now) parted.now.sources.now)) }
 {
     let mut words = Vec::from_slice(alloc, &[parted.target, parted.assumed, parted.limit])?;
-    spell_out(parted.sources, &mut words)?;
+    spell_out(false, parted.sources, &mut words)?;
     Ok(words)
 }

@@ -22,17 +22,12 @@ pub enum Mode {
 pub fn mode_named(word: &str) -> Option<Mode>
     ensures { result ≡ mode_said word.now }
 {
-    if word == "key" {
-        Some(Mode::Key)
-    } else if word == "carry" {
-        Some(Mode::Carry)
-    } else if word == "replace" {
-        Some(Mode::Replace)
-    } else if word == "explain" {
-        Some(Mode::Explain)
-    } else if word == "locate" {
-        Some(Mode::Locate)
-    } else {
-        None
+    match word {
+        "key" => Some(Mode::Key),
+        "carry" => Some(Mode::Carry),
+        "replace" => Some(Mode::Replace),
+        "explain" => Some(Mode::Explain),
+        "locate" => Some(Mode::Locate),
+        _ => None,
     }
 }

@@ -1,5 +1,5 @@
 //! Names of formats, spelled out.
-ghost use Rattle.std.specs.Prelude.{◌≡◌, ◌++◌, false, map, OnOk};
+ghost use Rattle.std.specs.Prelude.{◌≡◌, ◌++◌, map, OnOk};
 ghost use Rattle.instants_formats.specs.Named.{named_format};
 ghost use Rattle.instants_lines_words.specs.Spelled.{in_place, spelled_out, stays};
 
@@ -25,20 +25,25 @@ fn stays(is_description: bool, word: &str) -> bool
     is_description || is_language(word)
 }
 
-/// Adds the words of sources, with the language and the description of each format in place of its name.
-pub fn spell_out<'a>(sources: &[&'a str], words: &mut Vec<&'a str>) -> Result<(), AllocError>
+/// Adds the words of sources, with the language and the description of each format in place of its name; the first word may be a
+/// description. The call for the words after the first one is the last thing that a call does.
+#[tactic(auto, using(crate::proofs::Sources::added), unfolding(crate::specs::Spelled::spelled_out))]
+pub fn spell_out<'a>(
+    is_description: bool,
+    sources: &[&'a str],
+    words: &mut Vec<&'a str>,
+) -> Result<(), AllocError>
     ensures { OnOk result (map (λ word. word.now) words.new.items
         ≡ map (λ word. word.now) words.old.items
-        ++ spelled_out false (map (λ word. word.now) sources.now)) }
+        ++ spelled_out is_description (map (λ word. word.now) sources.now)) }
 {
-    let mut is_description = false;
-    for word in sources {
-        if stays(is_description, word) {
-            words.extend_from_slice(&[*word])?;
-            is_description = !is_description;
-            continue;
-        }
-        push_word(word, words)?;
+    let Some((word, others)) = sources.split_first() else {
+        return Ok(());
+    };
+    if stays(is_description, word) {
+        words.extend_from_slice(&[*word])?;
+        return spell_out(!is_description, others, words);
     }
-    Ok(())
+    push_word(word, words)?;
+    spell_out(is_description, others, words)
 }

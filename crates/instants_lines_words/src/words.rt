@@ -74,7 +74,7 @@ pub fn read_mode_words<'a>(
         Ok(asked) => asked,
         Err(wrong) => return Err(ModeWordsFault::Wrong(wrong)),
     };
-    if let Some(wrong) = wrong_source(parted.sources) {
+    if let Some(wrong) = wrong_source(None, 1, parted.sources) {
         return Err(ModeWordsFault::Wrong(first_wrong(parted.is_whole, wrong)));
     }
     match fill(alloc, &parted) {

@@ -1,5 +1,5 @@
 //! The first source that is wrong.
-ghost use Rattle.std.specs.Prelude.{◌≡◌, None, map, option_map, is_some};
+ghost use Rattle.std.specs.Prelude.{◌≡◌, ◌<◌, ◌+◌, ◌^◌, true, IfSome, length, map, option_map, is_some};
 ghost use Rattle.std.specs.Result.{result_err};
 ghost use Rattle.instants_words.specs.Sources.{format_named, language_named};
 ghost use Rattle.instants_lines_words.specs.Words.{source_named, sources_read};
@@ -26,39 +26,34 @@ pub fn is_language(name: &str) -> bool
 fn is_named(word: &str) -> bool
     ensures { result ≡ is_some (source_named word.now) }
 {
-    if is_format(word) {
-        return true;
-    }
-    match format_named(word) {
-        Some(format) => is_language(format.language),
-        None => false,
-    }
+    is_format(word) || format_named(word).is_some_and(|format| is_language(format.language))
 }
 
-/// What is wrong first with the sources that words say.
-pub fn wrong_source<'a>(words: &[&'a str]) -> Option<WrongWords<'a>>
-    ensures { option_map wrong_of result
-        ≡ result_err (sources_read None 1 (map (λ word. word.now) words.now)) }
+/// What is wrong first with the sources that words say, the first of them in this place; its description stands first where its
+/// language is given. The call for the words after the first one is the last thing that a call does.
+#[tactic(auto, using(crate::proofs::Sources::steps), unfolding(crate::specs::Words::sources_read))]
+pub fn wrong_source<'a>(
+    language: Option<&'a str>,
+    place: usize,
+    words: &[&'a str],
+) -> Option<WrongWords<'a>>
+    requires place { place + length words.now < 2 ^ 64 }
+    requires language { IfSome language (λ name. is_some (language_named name.now) ≡ true) }
+    ensures { option_map wrong_of result ≡ result_err
+        (sources_read (option_map (λ word. word.now) language.entry) place (map (λ word. word.now) words.now)) }
 {
-    let mut place = 1;
-    let mut before = None;
-    for word in words {
-        if let Some(_) = before {
-            before = None;
-            place += 1;
-            continue;
-        }
-        if is_language(word) {
-            before = Some(*word);
-            continue;
-        }
-        if !is_named(word) {
-            return Some(WrongWords::Source { place, word });
-        }
-        place += 1;
+    let Some((word, others)) = words.split_first() else {
+        let language = language?;
+        return Some(WrongWords::NoDescription { place, language });
+    };
+    if let Some(_) = language {
+        return wrong_source(None, place + 1, others);
     }
-    match before {
-        Some(language) => Some(WrongWords::NoDescription { place, language }),
-        None => None,
+    if is_language(word) {
+        return wrong_source(Some(word), place, others);
     }
+    if !is_named(word) {
+        return Some(WrongWords::Source { place, word });
+    }
+    wrong_source(None, place + 1, others)
 }

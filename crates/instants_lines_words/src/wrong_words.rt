@@ -1,7 +1,7 @@
 //! What can be wrong with the words.
 ghost use Rattle.std.specs.Prelude.{◌≡◌};
 ghost use Rattle.instants_lines_words.specs.Wrong.{wrong_of};
-ghost use Rattle.instants_lines_words.specs.WrongText.{no_such_first_source, no_such_source, said_of};
+ghost use Rattle.instants_lines_words.specs.WrongText.{no_such_source, said_of};
 
 use crate::file_name::is_file_name;
 use std::fmt;
@@ -111,31 +111,22 @@ fn said(wrong: &WrongWords<'_>) -> &'static str
         WrongWords::Label(_) => {
             "no label; modes key and carry take one, without tabs and line feeds"
         }
-        WrongWords::Source { word, .. } => no_such_source(word),
-        WrongWords::FirstSource(word) => no_such_first_source(word),
+        WrongWords::Source { word, .. } => no_such_source(false, word),
+        WrongWords::FirstSource(word) => no_such_source(true, word),
         WrongWords::NoDescription { .. } => "needs a description in the next argument",
     }
 }
 
-// What is said of a word that is no source.
-fn no_such_source(word: &str) -> &'static str
-    ensures { result.now ≡ no_such_source word.now }
+// What is said of a word that is no source; where it is the first one, it may be an offset that is misspelt.
+fn no_such_source(is_first: bool, word: &str) -> &'static str
+    ensures { result.now ≡ no_such_source is_first word.now }
 {
     if is_file_name(word) {
         "no such source; files are read from standard input: instants-lines .. < FILE"
-    } else {
-        "no such source; there are rfc3339, rfc2822, iso8601, v1, v2, v3, strftime, and the names of --help"
-    }
-}
-
-// The same, where the word may be an offset that is misspelt.
-fn no_such_first_source(word: &str) -> &'static str
-    ensures { result.now ≡ no_such_first_source word.now }
-{
-    if is_file_name(word) {
-        "no such source; files are read from standard input: instants-lines .. < FILE"
-    } else {
+    } else if is_first {
         "no such source; there are rfc3339, rfc2822, iso8601, v1, v2, v3, strftime, and the names of --help; \
          an offset before the sources is +HH:MM, -HH:MM, Z or UTC"
+    } else {
+        "no such source; there are rfc3339, rfc2822, iso8601, v1, v2, v3, strftime, and the names of --help"
     }
 }

@@ -1,11 +1,10 @@
 -- The sources that words say, one after the other.
-use Rattle.std.proofs.Common.{◌≡◌, ℕ, ◌+◌, ◌<◌, ◌≤◌, Option, None, Some, Result, Ok, Err, List, [], ◌∷◌, ◌++◌, length, refl, drop, true, false, nat_lt, sym, ap, ◌∙◌, arith}
-use Rattle.std.proofs.lemmas.Bool.{ltb-true, ltb-false}
-use Rattle.std.proofs.lemmas.List.{append_assoc, append-nil, drop-drop, drop_all, length-drop}
+use Rattle.std.proofs.Common.{◌≡◌, ℕ, ◌+◌, ◌<◌, Option, None, Some, Result, Ok, Err, List, [], ◌∷◌, length, refl, sym, ap, ◌∙◌, arith}
+use Rattle.std.proofs.lemmas.List.{append_assoc, append-nil, length-map}
 use Rattle.instants_words.specs.declared.fault.WordsFault.{WordsFault}
 use Rattle.instants_words.specs.declared.fault.WordsFault.TheVariants.{Source}
 use Rattle.instants_words.specs.Sources.{SourceSaid, format_named, language_named, also, last_said, next_said, sources_said}
-use Rattle.instants_words.specs.FirstSource.{first_said, source_said}
+use Rattle.instants_words.specs.FirstSource.{counted, first_said, source_said}
 
 -- what is said where the first source is this one, or none
 abbrev pub first_or : ℕ → Option (SourceSaid × List (List ℕ)) → Result (List SourceSaid) WordsFault
@@ -30,11 +29,6 @@ unfolding sources_said
 sources_step place word [] = last_step place (format_named word) (language_named word)
 sources_step place word (next ∷ words) = next_step place (format_named word) (language_named word) next words
 
--- sources that stand before others
-abbrev pub after : List SourceSaid → Result (List SourceSaid) WordsFault → Result (List SourceSaid) WordsFault
-after before (Ok sources) = Ok (before ++ sources)
-after before (Err fault) = Err fault
-
 pub step_some : (place : ℕ) (words others : List (List ℕ)) (s : SourceSaid) → source_said words ≡ Some (s, others) → sources_said place words ≡ also s (sources_said (place + 1) others)
 step_some place [] others s e = absurd cc
 step_some place (word ∷ words) others s e = sources_step place word words ∙ ap (first_or place) e
@@ -43,51 +37,59 @@ pub step_none : (place : ℕ) (words : List (List ℕ)) → 0 < length words →
 step_none place [] some e = absurd (omega arith)
 step_none place (word ∷ words) some e = sources_step place word words ∙ ap (first_or place) e
 
--- one source more stands before the others
-pub after_one : (before : List SourceSaid) (s : SourceSaid) (others : Result (List SourceSaid) WordsFault) → after before (also s others) ≡ after (before ++ s ∷ []) others
-after_one before s (Ok sources) = ap Ok (sym (append_assoc before (s ∷ []) sources))
-after_one before s (Err fault) = refl
+-- words that are accepted say a source, and others after it
+also_ok : (s : SourceSaid) (others : Result (List SourceSaid) WordsFault) (all : List SourceSaid) → also s others ≡ Ok all → (rest : List SourceSaid) × (others ≡ Ok rest) × (all ≡ s ∷ rest)
+also_ok s (Ok rest) all e = (rest, refl, cc)
+also_ok s (Err fault) all e = absurd cc
 
--- what is said is what was said so far, and then one source more
-pub said_more : (ws : List (List ℕ)) (before : List SourceSaid) (place at n : ℕ) (s : SourceSaid)
-    → sources_said 1 ws ≡ after before (sources_said place (drop at ws)) → source_said (drop at ws) ≡ Some (s, drop n (drop at ws))
-    → sources_said 1 ws ≡ after (before ++ s ∷ []) (sources_said (place + 1) (drop (at + n) ws))
-said_more ws before place at n s so_far e =
-    so_far ∙ ap (after before) (step_some place (drop at ws) (drop n (drop at ws)) s e) ∙ after_one before s (sources_said (place + 1) (drop n (drop at ws)))
-    ∙ ap (λ rest. after (before ++ s ∷ []) (sources_said (place + 1) rest)) (drop-drop n at ws)
+pub step_ok : (place : ℕ) (words others : List (List ℕ)) (s : SourceSaid) (all : List SourceSaid) → sources_said place words ≡ Ok all → source_said words ≡ Some (s, others)
+    → (rest : List SourceSaid) × (sources_said (place + 1) others ≡ Ok rest) × (all ≡ s ∷ rest)
+step_ok place words others s all e f = also_ok s _ all (sym (step_some place words others s f) ∙ e)
 
--- nothing is said after the last word
-pub said_all : (ws : List (List ℕ)) (before : List SourceSaid) (place at : ℕ)
-    → sources_said 1 ws ≡ after before (sources_said place (drop at ws)) → length ws ≤ at → sources_said 1 ws ≡ Ok before
+-- or there are none
+pub end_ok : (place : ℕ) (words : List (List ℕ)) (all : List SourceSaid) → sources_said place words ≡ Ok all → source_said words ≡ None → all ≡ []
 unfolding sources_said
-said_all ws before place at so_far h = so_far ∙ ap (λ rest. after before (sources_said place rest)) (drop_all at ws h) ∙ ap Ok (append-nil before)
+end_ok place [] all e none = cc
+end_ok place (word ∷ words) all e none = let wrong = step_none place (word ∷ words) (omega arith) none in absurd cc
 
--- a word that says nothing
-pub said_wrong : (ws : List (List ℕ)) (before : List SourceSaid) (place at : ℕ)
-    → sources_said 1 ws ≡ after before (sources_said place (drop at ws)) → at < length ws → source_said (drop at ws) ≡ None
-    → sources_said 1 ws ≡ Err (Source place)
-said_wrong ws before place at so_far h none = so_far ∙ ap (after before) (step_none place (drop at ws) (rw (length-drop at ws) (omega arith)) none)
+-- ---- how many they are
 
--- where all words say sources, those so far are all of them once none is left
-pub said_end : (ws : List (List ℕ)) (before all : List SourceSaid) (place at : ℕ)
-    → sources_said 1 ws ≡ after before (sources_said place (drop at ws)) → source_said (drop at ws) ≡ None → sources_said 1 ws ≡ Ok all
-    → sources_said 1 ws ≡ Ok before
-said_end ws before all place at so_far none good =
-    elim (nat_lt at (length ws)) as (λ b. nat_lt at (length ws) ≡ b → sources_said 1 ws ≡ Ok before) [
-      | true ↦ λ e. let wrong = said_wrong ws before place at so_far (ltb-true at (length ws) e) none in absurd cc
-      | false ↦ λ e. said_all ws before place at so_far (ltb-false at (length ws) e)
-    ] refl
+also_counted : (before : ℕ) (s : SourceSaid) (others : Result (List SourceSaid) WordsFault) → counted before (also s others) ≡ counted (before + 1) others
+also_counted before s (Ok sources) = ap Ok (omega arith)
+also_counted before s (Err fault) = refl
 
-some_also : (s : SourceSaid) (others : Result (List SourceSaid) WordsFault) (sources : List SourceSaid) → also s others ≡ Ok sources → 0 < length sources
-some_also s (Ok others) [] e = absurd cc
-some_also s (Ok others) (t ∷ sources) e = omega arith
-some_also s (Err fault) sources e = absurd cc
+abbrev pub first_counted : ℕ → Option (SourceSaid × List (List ℕ)) → Result ℕ WordsFault
+first_counted before (Some said) = counted (before + 1) (sources_said (before + 1 + 1) said.1)
+first_counted before None = Err (Source (before + 1))
 
-some_first : (place : ℕ) (first : Option (SourceSaid × List (List ℕ))) (sources : List SourceSaid) → first_or place first ≡ Ok sources → 0 < length sources
-some_first place None sources e = absurd cc
-some_first place (Some said) sources e = some_also said.0 (sources_said (place + 1) said.1) sources e
+by_first : (before : ℕ) (first : Option (SourceSaid × List (List ℕ))) → counted before (first_or (before + 1) first) ≡ first_counted before first
+by_first before (Some said) = also_counted before said.0 (sources_said (before + 1 + 1) said.1)
+by_first before None = refl
 
--- words say one source at least
+pub count_step : (before : ℕ) (words : List (List ℕ)) → 0 < length words → counted before (sources_said (before + 1) words) ≡ first_counted before (source_said words)
+count_step before [] some = absurd (omega arith)
+count_step before (word ∷ words) some = ap (counted before) (sources_step (before + 1) word words) ∙ by_first before (source_said (word ∷ words))
+
+pub count_none : (before place : ℕ) (words : List (List ℕ)) → length words ≡ 0 → counted before (sources_said place words) ≡ Ok before
+unfolding sources_said
+count_none before place [] none = ap Ok (omega arith)
+count_none before place (word ∷ words) none = absurd (omega arith)
+
+pub counted_ok : (before n : ℕ) (said : Result (List SourceSaid) WordsFault) → Ok n ≡ counted before said → (all : List SourceSaid) × (said ≡ Ok all)
+counted_ok before n (Ok sources) e = (sources, refl)
+counted_ok before n (Err fault) e = absurd cc
+
+pub counted_err : (before : ℕ) (fault : WordsFault) (said : Result (List SourceSaid) WordsFault) → Err fault ≡ counted before said → said ≡ Err fault
+counted_err before fault (Ok sources) e = absurd cc
+counted_err before fault (Err other) e = cc
+
+pub ruleset counts = (count_step, count_none, counted_ok, counted_err, length-map)
+
+-- ---- words say one source at least
+
 pub said_some : (place : ℕ) (words : List (List ℕ)) (sources : List SourceSaid) → 0 < length words → sources_said place words ≡ Ok sources → 0 < length sources
-said_some place [] sources some e = absurd (omega arith)
-said_some place (word ∷ words) sources some e = some_first place (source_said (word ∷ words)) sources (sym (sources_step place word words) ∙ e)
+said_some place words sources some e =
+    elim (source_said words) as (λ first. source_said words ≡ first → 0 < length sources) [
+      | Some said ↦ λ f. let (rest, reads, are) = step_ok place words said.1 said.0 sources e f in rw are (omega arith)
+      | None ↦ λ f. let wrong = step_none place words some f in absurd cc
+    ] refl

@@ -1,8 +1,8 @@
 //! The sources that words ask for.
 
-ghost use Rattle.std.specs.Prelude.{◌≡◌, ◌≢◌, ◌<◌, ◌≤◌, List, map, drop, length, option_map, Ok, Err, IsOk, IfOk, IfErr, IfSome};
+ghost use Rattle.std.specs.Prelude.{◌≡◌, ◌≢◌, ◌<◌, ◌+◌, ◌^◌, ◌++◌, ℕ, List, map, length, option_map, Ok, OnOk, Err, IsOk, IfOk, IfErr, IfSome};
 ghost use Rattle.instants_words.specs.Sources.{SourceSaid, said_by, format_named, language_named, sources_said};
-ghost use Rattle.instants_words.specs.FirstSource.{source_said};
+ghost use Rattle.instants_words.specs.FirstSource.{counted, source_said};
 
 use crate::fault::WordsFault;
 use std::alloc::Global;
@@ -46,6 +46,7 @@ impl<'a> Model for Sources<'a> {
 
 impl<'a> Sources<'a> {
     // The sources that the words say, if there is memory. All of the words are looked at before any is taken.
+    #[tactic(auto, using(crate::proofs::SourceLemmas::counts))]
     pub(crate) fn read(alloc: Global, words: &[&'a str]) -> Result<Sources<'a>, WordsFault>
         ensures ok { IfOk result
             (λ sources. sources_said 1 (map (λ word. word.now) words.now) ≡ Ok sources) }
@@ -55,13 +56,9 @@ impl<'a> Sources<'a> {
             → IsOk (sources_said 1 (map (λ word. word.now) words.now)) }
         ensures some { 0 < length words.now → IfOk result (λ sources. 0 < length sources) }
     {
-        let count = count(words)?;
+        let count = count(words, 0)?;
         let mut texts = Vec::with_capacity(alloc, count).map_err(|_| WordsFault::Memory)?;
-        let mut at = 0;
-        while let Some((text, taken)) = source(&words[at..]) {
-            texts.push(text).map_err(|_| WordsFault::Memory)?;
-            at += taken;
-        }
+        push_sources(words, &mut texts)?;
         Ok(Sources { texts })
     }
 
@@ -73,54 +70,61 @@ impl<'a> Sources<'a> {
     }
 }
 
-// How many sources the words say.
-fn count(words: &[&str]) -> Result<usize, WordsFault>
-    ensures ok { IfOk result (λ count. (sources : List SourceSaid)
-        × (sources_said 1 (map (λ word. word.now) words.now) ≡ Ok sources)
-        × (count ≡ length sources)) }
-    ensures err { IfErr result
-        (λ fault. sources_said 1 (map (λ word. word.now) words.now) ≡ Err fault) }
+// How many sources the words say, with so many before them. The call for those after the first one is the last thing that a call does.
+#[tactic(auto, using(crate::proofs::SourceLemmas::counts))]
+fn count(words: &[&str], before: usize) -> Result<usize, WordsFault>
+    requires { before + length words.now < 2 ^ 64 }
+    ensures count { result ≡ counted before (sources_said (before + 1) (map (λ word. word.now) words.now)) }
     ensures never_memory { result ≢ Err WordsFault.Memory }
 {
-    let mut at = 0;
-    let mut count = 0;
-    while at < words.len() {
-        count += 1;
-        let Some((_, taken)) = source(&words[at..]) else {
-            return Err(WordsFault::Source(count));
-        };
-        at += taken;
+    if words.is_empty() {
+        return Ok(before);
     }
-    Ok(count)
+    match source(words) {
+        Some((_, others)) => count(others, before + 1),
+        None => Err(WordsFault::Source(before + 1)),
+    }
 }
 
-// The source that the words begin with, and how many words say it.
-fn source<'a>(words: &[&'a str]) -> Option<(SourceText<'a>, usize)>
+// Adds the sources that the words say, where they say nothing else. The call for those after the first one is the last thing that
+// a call does.
+fn push_sources<'a>(words: &[&'a str], texts: &mut Vec<SourceText<'a>>) -> Result<(), WordsFault>
+    ensures memory { IfErr result (λ fault. fault ≡ WordsFault.Memory) }
+    ensures ok { OnOk result ((place : ℕ) (all : List SourceSaid) → sources_said place (map (λ word. word.now) words.now) ≡ Ok all
+        → map said_by texts.new.items ≡ map said_by texts.old.items ++ all) }
+{
+    let Some((text, others)) = source(words) else {
+        return Ok(());
+    };
+    texts.push(text).map_err(|_| WordsFault::Memory)?;
+    push_sources(others, texts)
+}
+
+// The source that the words begin with, and the words after it.
+fn source<'a, 'b>(words: &'b [&'a str]) -> Option<(SourceText<'a>, &'b [&'a str])>
     ensures said { option_map
-        (λ said. (said_by said.0, drop said.1 (map (λ word. word.now) words.now))) result
+        (λ said. (said_by said.0, map (λ word. word.now) said.1.now)) result
         ≡ source_said (map (λ word. word.now) words.now) }
-    ensures taken { IfSome result (λ said. (0 < said.1) × (said.1 ≤ length words.now)) }
+    ensures fewer { IfSome result (λ said. length said.1.now < length words.now) }
 {
     let (name, words) = words.split_first()?;
     if let Some(format) = format(name) {
-        return Some((format, 1));
+        return Some((format, words));
     }
-    let text = described(name, words.first()?)?;
-    Some((text, 2))
+    let (description, others) = words.split_first()?;
+    let text = described(name, description)?;
+    Some((text, others))
 }
 
 /// The well-known format of this name.
 pub(crate) fn format<'a>(name: &str) -> Option<SourceText<'a>>
     ensures { option_map said_by result ≡ format_named name.now }
 {
-    if name == "rfc2822" {
-        Some(SourceText::Rfc2822)
-    } else if name == "rfc3339" {
-        Some(SourceText::Rfc3339)
-    } else if name == "iso8601" {
-        Some(SourceText::Iso8601)
-    } else {
-        None
+    match name {
+        "rfc2822" => Some(SourceText::Rfc2822),
+        "rfc3339" => Some(SourceText::Rfc3339),
+        "iso8601" => Some(SourceText::Iso8601),
+        _ => None,
     }
 }
 
@@ -129,15 +133,11 @@ pub(crate) fn described<'a>(name: &str, description: &'a str) -> Option<SourceTe
     ensures { option_map said_by result
         ≡ option_map (λ language. language description.now) (language_named name.now) }
 {
-    if name == "v1" {
-        Some(SourceText::V1(description))
-    } else if name == "v2" {
-        Some(SourceText::V2(description))
-    } else if name == "v3" {
-        Some(SourceText::V3(description))
-    } else if name == "strftime" {
-        Some(SourceText::Strftime(description))
-    } else {
-        None
+    match name {
+        "v1" => Some(SourceText::V1(description)),
+        "v2" => Some(SourceText::V2(description)),
+        "v3" => Some(SourceText::V3(description)),
+        "strftime" => Some(SourceText::Strftime(description)),
+        _ => None,
     }
 }

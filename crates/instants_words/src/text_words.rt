@@ -1,8 +1,9 @@
 //! Words that stand in one text, with a line feed between them, as in `+00:00\n-\n100\nrfc3339`.
 
-ghost use Rattle.std.specs.Prelude.{◌≡◌, ◌≢◌, ◌∷◌, Some, Err, Option, IsOk, IfSome, IfNone};
-ghost use Rattle.instants_words.specs.FirstSource.{source_said};
-ghost use Rattle.instants_words.specs.Sources.{SourceSaid, sources_said};
+ghost use Rattle.std.specs.Prelude.{◌≡◌, ◌≢◌, ◌<◌, ◌+◌, ◌^◌, ◌∷◌, length, option_map, Some, Err, IsOk, IfSome, IfNone};
+ghost use Rattle.std.specs.Result.{result_err};
+ghost use Rattle.instants_words.specs.FirstSource.{counted, source_said};
+ghost use Rattle.instants_words.specs.Sources.{sources_said};
 ghost use Rattle.instants_words.specs.TextWords.{words_in, words_left};
 ghost use Rattle.instants_words.specs.Words.{words_said};
 
@@ -22,38 +23,50 @@ fn first_word(text: &str) -> (&str, Option<&str>)
 
 // The words after those that say the first source: one word of a format, or two of a language and a description.
 fn after_source(text: &str) -> Option<Option<&str>>
-    ensures some { IfSome result (λ rest. (said : SourceSaid)
-        × (source_said (words_in text.now) ≡ Some (said, words_left rest))) }
-    ensures none { IfNone result (source_said (words_in text.now) ≡ None) }
+    ensures { option_map words_left result ≡ option_map (λ said. said.1) (source_said (words_in text.now)) }
 {
     let (name, rest) = first_word(text);
-    if format(name).is_some() {
+    if let Some(_) = format(name) {
         return Some(rest);
     }
     let (description, rest) = first_word(rest?);
-    described(name, description)?;
+    let _text = described(name, description)?;
     Some(rest)
 }
 
-// The first fault of the sources that the words of a text say.
-fn fault_in_sources(text: &str) -> Option<WordsFault>
-    ensures some { IfSome result (λ fault. sources_said 1 (words_in text.now) ≡ Err fault) }
-    ensures none { IfNone result (IsOk (sources_said 1 (words_in text.now))) }
+// How many sources the words that are left say, with so many before them. The call for those after the first one is the last thing
+// that a call does.
+#[tactic(auto, using(crate::proofs::SourceLemmas::counts, crate::proofs::TextLemmas::left_words))]
+fn count_in(left: Option<&str>, before: usize) -> Result<usize, WordsFault>
+    requires { before + length (words_left left) < 2 ^ 64 }
+    ensures count { result ≡ counted before (sources_said (before + 1) (words_left left.entry)) }
+    ensures never_memory { result ≢ Err WordsFault.Memory }
+{
+    let Some(words) = left else {
+        return Ok(before);
+    };
+    match after_source(words) {
+        Some(rest) => count_in(rest, before + 1),
+        None => Err(WordsFault::Source(before + 1)),
+    }
+}
+
+// What is wrong first with four words or more, of which those from the fourth on stand in one text.
+#[tactic(auto, using(crate::proofs::TextLemmas::fours))]
+fn fault_in_words(target: &str, assumed: &str, limit: &str, sources: &str) -> Option<WordsFault>
+    ensures fault { result ≡ result_err (words_said (target.now ∷ assumed.now ∷ limit.now ∷ words_in sources.now)) }
     ensures never_memory { result ≢ Some WordsFault.Memory }
 {
-    // No text has more words.
-    let most = text.as_bytes().len() + 1;
-    let mut left = Some(text);
-    for count in 0..most {
-        let Some(words) = left else {
-            return None;
-        };
-        match after_source(words) {
-            Some(rest) => left = rest,
-            None => return Some(WordsFault::Source(count + 1)),
-        }
-    }
-    None
+    let Some(_) = pieces::offset(target.as_bytes()) else {
+        return Some(WordsFault::Target);
+    };
+    let Some(_) = pieces::assumed(assumed) else {
+        return Some(WordsFault::Assumed);
+    };
+    let Some(_) = pieces::limit(limit.as_bytes()) else {
+        return Some(WordsFault::Limit);
+    };
+    count_in(Some(sources), 0).err()
 }
 
 /// What is wrong first with the words of a text, as `read_words` says it of these words: `None` where they are accepted.
@@ -77,14 +90,5 @@ pub fn fault_in_text(text: &str) -> Option<WordsFault>
     let Some(sources) = after_limit else {
         return Some(WordsFault::Usage);
     };
-    if pieces::offset(target.as_bytes()).is_none() {
-        return Some(WordsFault::Target);
-    }
-    if pieces::assumed(assumed).is_none() {
-        return Some(WordsFault::Assumed);
-    }
-    if pieces::limit(limit.as_bytes()).is_none() {
-        return Some(WordsFault::Limit);
-    }
-    fault_in_sources(sources)
+    fault_in_words(target, assumed, limit, sources)
 }

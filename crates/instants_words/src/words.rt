@@ -29,7 +29,7 @@ pub struct Words<'a> {
 /// A source is `rfc2822`, `rfc3339` or `iso8601`, or one of `v1`, `v2`, `v3` and `strftime` with a description in the
 /// word after it. All words are looked at before memory is taken: `Memory` comes only where a growth of the list of
 /// sources was refused.
-#[tactic(auto, unfolding(crate::specs::Words::words_said))]
+#[tactic(auto, using(std::proofs::lemmas::Grind::common_steps), unfolding(crate::specs::Words::words_said))]
 pub fn read_words<'a>(alloc: Global, words: &[&'a str]) -> Result<Words<'a>, WordsFault>
     ensures ok { IfOk result (λ read. words_said (map (λ word. word.now) words.now) ≡ Ok read) }
     ensures err { IfErr result (λ fault. fault ≢ WordsFault.Memory
