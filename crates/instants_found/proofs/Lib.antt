@@ -15,3 +15,4 @@ pub mod OneFound
 pub mod Bounded
 pub mod NotEmpty
 mod SameYears
+pub mod Wholly

@@ -1,5 +1,6 @@
 -- What is read of all of the first bytes is the prefix that is read.
-use Rattle.std.proofs.Common.{◌≡◌, ℕ, true, List, [], ◌∷◌, take, drop, None, Result, Ok, Err, refl, arith}
+use Rattle.std.proofs.Common.{◌≡◌, ℕ, true, List, [], ◌∷◌, length, take, drop, None, Result, Ok, Err, refl, arith}
+use Rattle.std.proofs.Math.Seq.{take-length, drop-length}
 use Rattle.std.proofs.lemmas.Bool.Decides.{nat_tests}
 use Rattle.datetime_wall.specs.Wall.{Shown}
 use Rattle.parsing_combinator.specs.Fault.{Fault}
@@ -25,3 +26,10 @@ by_whole bytes n moment (Err f) is e = absurd cc
 pub named_prefix : (bytes : List ℕ) (n : ℕ) (moment : Shown) → AgreeOn direct reads_rfc3339 (take n bytes) → direct (take n bytes) ≡ Ok moment → NamesPrefix reads_rfc3339 empty bytes (drop n bytes) moment
 unfolding whole reads_rfc3339
 named_prefix bytes n moment agree is = by_whole bytes n moment (rfc3339 true (take n bytes)) refl (same_moment (direct (take n bytes)) _ moment (agree None None) is)
+
+-- all of it is one
+pub named_whole : (bytes : List ℕ) (moment : Shown) → AgreeOn direct reads_rfc3339 bytes → direct bytes ≡ Ok moment → NamesPrefix reads_rfc3339 empty bytes [] moment
+named_whole bytes moment agree is =
+    let all : take (length bytes) bytes ≡ bytes = take-length bytes in
+    let none : drop (length bytes) bytes ≡ [] = drop-length bytes in
+    rw none at (named_prefix bytes (length bytes) moment (rw all agree) (rw all is))

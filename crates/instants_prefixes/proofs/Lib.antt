@@ -29,3 +29,4 @@ pub mod IsoYear
 pub mod Formats
 pub mod NotEmpty
 pub mod AssumedOffset
+pub mod Wholly

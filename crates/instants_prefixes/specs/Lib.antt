@@ -9,3 +9,4 @@ pub mod Ends
 pub mod DateSource
 pub mod NoPrefix
 pub mod Lacks
+pub mod Wholly

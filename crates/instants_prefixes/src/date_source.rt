@@ -8,6 +8,7 @@ ghost use Rattle.instants_prefixes.specs.Ends.{AreEnds, items_in};
 use crate::contents::Contents;
 use crate::ends::Ends;
 use crate::extent::{extent_by_texts, extent_of};
+use crate::fast_prefix::fast_whole;
 use crate::given::Given;
 use crate::lacks::{Lack, lack_of};
 use crate::named::{assumed, prefix_named, record_of};
@@ -43,6 +44,7 @@ impl<'a> DateSource<'a> {
     ghost use Rattle.std.specs.Prelude.{◌≡◌, ◌≤◌, ℕ, List, None, Some, false, true, length, IfSome};
     ghost use Rattle.instants_prefixes.specs.DateSource.{grammar_in, IsWithin};
     ghost use Rattle.instants_prefixes.specs.Prefix.{prefix_at};
+    ghost use Rattle.instants_prefixes.specs.Wholly.{IsWholly};
     ghost use Rattle.instants_prefixes.specs.Lacks.{lack};
     ghost use Rattle.instants_prefixes.specs.Kinds.{is_of};
     ghost use Rattle.instants_prefixes.specs.Given.{lacks_offset};
@@ -169,6 +171,23 @@ impl<'a> DateSource<'a> {
             return None;
         }
         self.read_any(bytes, given)
+    }
+
+    /// The prefix that is all of a short text, where the source is RFC 3339 and the fast way reads it: `None` says nothing of
+    /// the text.
+    #[inline(always)]
+    #[tactic(auto, using(crate::proofs::Wholly::wholly))]
+    pub fn read_whole(&self, text: &[u8]) -> Option<Prefix>
+        ensures all { IfSome result (IsWholly (grammar_in self.now) text.now) }
+        ensures within { IfSome result (IsWithin text.now) }
+    {
+        let Source::Rfc3339 = &self.source else {
+            return None;
+        };
+        let Some(fields) = fast_whole(text) else {
+            return None;
+        };
+        Some(Prefix::whole(text, Named::of_fields(fields), &[]))
     }
 
     /// What the source lacks to name a moment with what is given: such a source finds no date in any line.

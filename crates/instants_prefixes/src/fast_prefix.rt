@@ -1,5 +1,5 @@
 //! Prefixes of RFC 3339 as whole texts: where such a date ends, its first bytes show.
-ghost use Rattle.std.specs.Prelude.{◌≡◌, ◌≤◌, length, IfSome};
+ghost use Rattle.std.specs.Prelude.{◌≡◌, ◌<◌, ◌≤◌, [], length, IfSome};
 ghost use Rattle.parsing_values.specs.Moment.{moment_of};
 ghost use Rattle.parsing_parsable.specs.Staged.{reads_rfc3339};
 ghost use Rattle.parsing_record.specs.Prefix.{NamesPrefix};
@@ -61,4 +61,26 @@ pub(crate) fn fast_prefix(bytes: &[u8]) -> Option<(Fields, &[u8])>
     let count = length_of_date(bytes)?;
     let fields = parsing_rfc3339::read_fields(&bytes[..count])?;
     Some((fields, &bytes[count..]))
+}
+
+// No date has more bytes that the fast way reads.
+const LONGEST: usize = 64;
+
+/// The fields of a text that is a date of RFC 3339 and nothing else, where the fast way reads it: `None` says nothing of
+/// the text.
+#[inline(always)]
+pub(crate) fn fast_whole(text: &[u8]) -> Option<Fields>
+    ensures names { IfSome result
+        (λ fields. NamesPrefix reads_rfc3339 empty text.now [] (moment_of fields)) }
+    ensures some { IfSome result (λ _. 0 < length text.now) }
+    ensures short { IfSome result (λ _. length text.now ≤ 64) }
+{
+    two_roads_of_rfc3339();
+    if text.is_empty() || text.len() > LONGEST {
+        return None;
+    }
+    let Some(fields) = parsing_rfc3339::read_fields(text) else {
+        return None;
+    };
+    Some(fields)
 }

@@ -12,11 +12,11 @@ ghost use Rattle.instants_found.specs.KeptDays.{IsKept};
 ghost use Rattle.instants_found.specs.Keys.{IsKeyedBy};
 ghost use Rattle.instants_found.specs.Marks.{AreMarks};
 ghost use Rattle.instants_found.specs.Starts.{CannotStand, HasNoDate, IsNoDate, MarkPlaces};
-ghost use Rattle.instants_found.specs.Within.{IsWithin};
+ghost use Rattle.instants_found.specs.Within.{IsWithin, LiesWithin};
 ghost use Rattle.instants_found.specs.declared.found.Finding.TheVariants.{There};
 
 use crate::beside::after;
-use crate::candidate::doubted_at;
+use crate::candidate::{doubted_at, found_at};
 use crate::doubt::Doubted;
 use crate::finder::Finder;
 use crate::finding::{at_place, may_read, plain_at};
@@ -369,6 +369,26 @@ impl<'a> Finder<'a> {
         Some(date)
     }
 
+    // The date of a text that is a date and nothing else, as a part of a line mostly is, if its only source reads it at once.
+    #[inline(always)]
+    #[tactic(auto, using(crate::proofs::Wholly::wholly_found))]
+    fn whole_date(&self, text: &[u8]) -> Option<Found>
+        ensures found { IfSome result (λ date. (given : Given)
+            → Some (There date) ≡ found (limit_of self.now) given (sources_of self.now) text.now) }
+        ensures within { IfSome result (LiesWithin (length text.now) (length (sources_of self.now))) }
+    {
+        let [source] = self.sources.as_slice() else {
+            return None;
+        };
+        if self.limit == 0 {
+            return None;
+        }
+        let Some(prefix) = source.read_whole(text) else {
+            return None;
+        };
+        Some(found_at(0, 0, prefix))
+    }
+
     /// The date of a line, with what is given: the longest that stands whole at the least place, among the first ones, at which a
     /// source reads a date. Where none that begins there stands whole the date is in doubt; `None` says that no source reads one.
     ///
@@ -379,6 +399,9 @@ impl<'a> Finder<'a> {
         ensures within { IfSome result
             (IsWithin (limit_of self.now) line.now (length (sources_of self.now))) }
     {
+        if let Some(date) = self.whole_date(line) {
+            return Some(Finding::There(date));
+        }
         let Some(start) = self.undated_len(line) else {
             return None;
         };
