@@ -106,9 +106,9 @@ module _ (given : Given) (grammar : Grammar) (line : List ℕ) (prefix : Prefix)
   at_first unmoves unsaid =
       let stands : why given grammar line 0 (unmoved given.offset prefix) ≡ None = rw (edge, no_clock, sym unsaid) (simp and-false) in
       let candidate_is : candidate given line 0 0 grammar ≡ Some (as_candidate given line 0 0 grammar (unmoved given.offset prefix)) =
-          ap (of_prefix given line 0 0 grammar) prefix_is
-          ∙ chosen (is_read grammar line 0 prefix) (as_candidate given line 0 0 grammar (settled_at given grammar line 0 prefix)) read
-          ∙ ap Some unmoves in
+      ap (of_prefix given line 0 0 grammar) prefix_is
+      ∙ chosen (is_read grammar line 0 prefix) (as_candidate given line 0 0 grammar (settled_at given grammar line 0 prefix)) read
+      ∙ ap Some unmoves in
       rw (candidate_is, stands) refl
 
   -- ---- what was read needs nothing, or is a number of Unix time: so no zone moves it

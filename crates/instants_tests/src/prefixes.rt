@@ -170,6 +170,17 @@ static NEAR_YEARS: [Told; 2] = [
     Some((946_684_799, [0, 17, 17, 17])),
 ];
 
+static WHOLE: [Told; 2] = [Some((1_609_556_645, [0, 22, 22, 22])), None];
+
+// What RFC 3339 reads of a text that is a date and nothing else, and of one that has more.
+fn whole(alloc: Global) -> Option<[Told; 2]> {
+    let source = DateSource::new(Source::new(alloc, SourceText::Rfc3339).ok()?);
+    Some([
+        as_told(source.read_whole(b"2021-01-02T03:04:05.5Z")),
+        as_told(source.read_whole(b"2021-01-02T03:04:05.5Z up")),
+    ])
+}
+
 fn sources_read(alloc: Global) -> bool {
     let Some(stamp) = described(alloc, "%F %T%z") else {
         return false;
@@ -177,7 +188,7 @@ fn sources_read(alloc: Global) -> bool {
     let Some(day) = described(alloc, "%m/%d/%y %T") else {
         return false;
     };
-    planned(&stamp) == PLANNED && near_years(&day) == NEAR_YEARS
+    planned(&stamp) == PLANNED && near_years(&day) == NEAR_YEARS && whole(alloc) == Some(WHOLE)
 }
 
 #[test]
