@@ -13,5 +13,4 @@ pub mod DoubtOf
 pub mod NearFound
 pub mod OneFound
 pub mod Bounded
-pub mod NotEmpty
 mod SameYears
