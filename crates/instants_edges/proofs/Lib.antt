@@ -7,3 +7,4 @@ pub mod Anywhere
 pub mod NoClocks
 pub mod Zones
 pub mod TextPrefixes
+pub mod Lanes

@@ -52,16 +52,10 @@ fn is_clock(line: &[u8], place: usize) -> bool
 }
 
 // Whether one does at a place from one up to another.
-#[tactic(auto, using(crate::proofs::Anywhere::any_more, crate::proofs::Anywhere::any_none))]
 fn has_clock(line: &[u8], from: usize, to: usize) -> bool
     ensures { result ≡ Beside.is_any (Beside.is_clock line.now) from to }
 {
-    for place in from..to {
-        if is_clock(line, place) {
-            return true;
-        }
-    }
-    false
+    (from..to).any(|place| is_clock(line, place))
 }
 
 /// Whether a line says a clock within sixteen bytes before a date or after it, which begins and ends at these places.
@@ -118,18 +112,13 @@ fn quote_place(bytes: &[u8]) -> usize
 // Whether they do before a place and the first quotation mark, looked for byte by byte.
 #[cold]
 #[inline(never)]
-#[tactic(auto, using(crate::proofs::Anywhere::any_more, crate::proofs::Anywhere::any_none), unfolding(crate::specs::Beside::has_clock_before))]
+#[tactic(auto, unfolding(crate::specs::Beside::has_clock_before))]
 fn has_seconds(line: &[u8], place: usize) -> bool
     ensures { result ≡ Beside.has_clock_before line.now place }
 {
     let bytes = first_bytes(line, place);
     let before = first_bytes(bytes, quote_place(bytes));
-    for place in 0..before.len() {
-        if begins_seconds(before, place) {
-            return true;
-        }
-    }
-    false
+    (0..before.len()).any(|place| begins_seconds(before, place))
 }
 
 /// Whether a clock with seconds stands before a place, and before the first quotation mark. Most lines have no colon there.

@@ -5,12 +5,12 @@ ghost use Rattle.base.specs.Bytes.{colon};
 
 use std::simd::prelude::*;
 
-// How many bytes are looked at at once.
-const LANES: usize = 16;
+/// How many bytes are looked at at once.
+pub const LANES: usize = 16;
 
-// The bytes from a place on.
+/// The bytes from a place on.
 #[inline(always)]
-fn load(bytes: &[u8], place: usize) -> u8x16
+pub fn load(bytes: &[u8], place: usize) -> u8x16
     requires { place + LANES ≤ length bytes.now }
     ensures { (k : ℕ) → k < LANES → slice_index result k ≡ slice_index bytes.now (place + k) }
 {

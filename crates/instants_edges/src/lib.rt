@@ -16,6 +16,7 @@ mod year;
 
 pub use bytes::byte_at;
 pub use clock::{has_clock_before, has_clock_beside, has_half_after};
+pub use colons::{LANES, load};
 pub use edge::{is_edge, may_say};
 pub use offset::{first_after, has_another_offset, offset_said, word_after};
 pub use pieces::{blanks, reach, trimmed_length, zone_length};

@@ -204,16 +204,10 @@ fn says_offset(line: &[u8], place: usize, is_other: bool) -> bool
 }
 
 // Whether one is at a place from one up to another.
-#[tactic(auto, using(crate::proofs::Anywhere::any_more, crate::proofs::Anywhere::any_none))]
 fn has_offset_inside(line: &[u8], start: usize, ends: usize, is_other: bool) -> bool
     ensures { result ≡ Beside.is_any (Beside.is_offset is_other line.now) start ends }
 {
-    for place in start..ends {
-        if says_offset(line, place, is_other) {
-            return true;
-        }
-    }
-    false
+    (start..ends).any(|place| says_offset(line, place, is_other))
 }
 
 /// Whether a line says another offset than the one given, after a date that is read from a place up to another, or inside

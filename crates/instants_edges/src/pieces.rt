@@ -20,6 +20,7 @@ pub fn blanks(bytes: &[u8]) -> usize
 }
 
 /// The length without the white space at the end.
+#[tactic(auto, using(crate::proofs::Zones::trimmed_is))]
 pub fn trimmed_length(bytes: &[u8]) -> usize
     ensures value { result ≡ Pieces.trimmed_length bytes.now }
     ensures within { result ≤ length bytes.now }

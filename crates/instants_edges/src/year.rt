@@ -13,12 +13,12 @@ use crate::words::{begin_so, signed, word};
 
 // Whether another year from 1000 to 2999 begins bytes.
 #[inline(always)]
-fn is_other_year(year: i32, bytes: &[u8]) -> bool
-    ensures { result ≡ Beside.is_other_year year bytes.now }
+fn is_other_year(year: &i32, bytes: &[u8]) -> bool
+    ensures { result ≡ Beside.is_other_year year.now bytes.now }
 {
     matches!(byte_at(bytes, 0), b'1' | b'2')
         && word(&FOUR_DIGITS, bytes) != 0
-        && number(bytes) as i32 != year
+        && number(bytes) as i32 != *year
 }
 
 // How many capital letters stand at the start.
@@ -51,9 +51,8 @@ fn past_zone(bytes: &[u8]) -> &[u8]
 }
 
 // Whether another year stands after a date.
-#[tactic(auto, using(crate::proofs::Prefixes::passed))]
-fn is_year_after(year: i32, bytes: &[u8]) -> bool
-    ensures { result ≡ Beside.is_year_after year bytes.now }
+fn is_year_after(year: &i32, bytes: &[u8]) -> bool
+    ensures { result ≡ Beside.is_year_after year.now bytes.now }
 {
     is_other_year(year, bytes)
         || is_other_year(year, rest_from(bytes, 1))
@@ -73,10 +72,10 @@ fn is_joint(bytes: &[u8]) -> bool
 
 // Whether another year stands so far before a date.
 #[inline(always)]
-#[tactic(auto, using(std::proofs::lemmas::Bool::Decides::nat_tests, crate::proofs::Prefixes::passed))]
-fn is_year_before(line: &[u8], begins: usize, year: i32, far: usize) -> bool
+#[tactic(auto, using(std::proofs::lemmas::Bool::Decides::nat_tests))]
+fn is_year_before(line: &[u8], begins: usize, year: &i32, far: usize) -> bool
     requires { begins ≤ length line.now }
-    ensures { result ≡ Beside.is_year_before line.now begins year far }
+    ensures { result ≡ Beside.is_year_before line.now begins year.now far }
 {
     let place = begins.saturating_sub(far);
     is_other_year(year, rest_from(line, place))
@@ -85,26 +84,20 @@ fn is_year_before(line: &[u8], begins: usize, year: i32, far: usize) -> bool
 }
 
 // Whether one stands so far before a date, from five bytes on.
-#[tactic(auto, using(crate::proofs::Prefixes::passed, crate::proofs::Anywhere::any_more, crate::proofs::Anywhere::any_none))]
-fn has_year_before(line: &[u8], begins: usize, year: i32, to: usize) -> bool
+fn has_year_before(line: &[u8], begins: usize, year: &i32, to: usize) -> bool
     requires { begins ≤ length line.now }
-    ensures { result ≡ Beside.is_any (Beside.is_year_before line.now begins year) 5 to }
+    ensures { result ≡ Beside.is_any (Beside.is_year_before line.now begins year.now) 5 to }
 {
-    for far in 5..to {
-        if is_year_before(line, begins, year, far) {
-            return true;
-        }
-    }
-    false
+    (5..to).any(|far| is_year_before(line, begins, year, far))
 }
 
 /// Whether a line says another year beside a date that begins and ends at these places.
-#[tactic(auto, using(crate::proofs::Prefixes::passed), unfolding(crate::specs::Beside::has_another_year))]
+#[tactic(auto, unfolding(crate::specs::Beside::has_another_year))]
 pub fn has_another_year(line: &[u8], begins: usize, ends: usize, year: i32) -> bool
     requires begins { begins ≤ length line.now }
     requires ends { ends ≤ length line.now }
     ensures { result ≡ Beside.has_another_year line.now begins ends year }
 {
-    is_year_after(year, after(line, ends))
-        || has_year_before(line, begins, year, 12.min(begins + 1))
+    is_year_after(&year, after(line, ends))
+        || has_year_before(line, begins, &year, 12.min(begins + 1))
 }

@@ -24,7 +24,7 @@ module _ (given : Given) (sources : List Grammar) (line : List ℕ) where
       (date : Candidate) × (number : ℕ) × IsReadAt given sources line place number date × ((other : Candidate) (later : ℕ) → IsReadAt given sources line place later other → IsNoShorter number date later other) × (found ≡ finding place date)
 
   few : (place number : ℕ) (date : Candidate) → IsReadAt given sources line place number date → number < length sources
-  few place number date read = (lies_near given sources line place number date read.reads).2
+  few place number date read = (lies_near given sources line place number date read.reads).1
 
   by_best : (place : ℕ) → place < length line → is_edge line place ≡ true → (o : Option Candidate) → IsBestOf given sources line place (length sources) o → IsThere place (option_map (finding place) o)
   by_best place within edge None none = λ number date read. none date number (few place number date read) read.reads

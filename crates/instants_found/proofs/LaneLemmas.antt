@@ -13,16 +13,6 @@ use Rattle.instants_found.specs.Keys.{stands_at}
 use Rattle.instants_found.specs.Lanes.{AreAllOrNone}
 use Rattle.instants_found.specs.declared.key.Key.{Key}
 
-none_where : (b : Bool) → cond {A = ℕ} b 1 0 ≡ 0 → b ≡ false
-none_where true h = absurd (omega (arith, h))
-none_where false h = refl
-
--- a bit for each lane that passes a test
-pub bits_passing : (test : ℕ → Bool) (v : List ℕ) → length v ≡ 16 → (m : ℕ) → m ≡ mask_l (map test v) → (k : ℕ) → k < 16 → bit_at m k ≡ 0 → test (get_or v k 0) ≡ false
-bits_passing test v long m mask k lt none =
-    let bit : bit_at m k ≡ cond (test (get_or v k 0)) 1 0 = rw mask (bit_mask_l (map test v) k ∙ ap (λ (b : Bool). cond {A = ℕ} b 1 0) (get_or-map test v k 0 false (omega (arith, long, lt)))) in
-    none_where (test (get_or v k 0)) (sym bit ∙ none)
-
 -- a comparison with a byte that is spread over the lanes
 pub compared : (t : ℕ → ℕ → Bool) (v lanes : List ℕ) (byte : ℕ) → lanes ≡ replicate 16 byte → length v ≡ 16 → mask_l (map (top (hbits w8)) (zip2 (λ a b. cond (t a b) (2 ^ bits w8 - 1) 0) v lanes)) % 2 ^ 64 ≡ mask_l (map (λ x. t x byte) v)
 compared t v lanes byte is long = rw is (bitmask_splat w8 t v 16 byte long (omega arith))

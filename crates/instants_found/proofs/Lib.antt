@@ -13,6 +13,5 @@ pub mod DoubtOf
 pub mod NearFound
 pub mod OneFound
 pub mod Bounded
-pub mod NotEmpty
 mod SameYears
 pub mod Wholly

@@ -14,6 +14,7 @@ use Rattle.instants_found.specs.declared.found.Finding.{Finding}
 use Rattle.instants_found.specs.declared.found.Finding.TheVariants.{Doubtful, There}
 use Rattle.instants_found.proofs.FirstFound.{first_found_is}
 use Rattle.instants_found.proofs.ReadAt.{lies_near}
+use Rattle.std.proofs.lemmas.Option.{IfSome_then}
 
 -- ---- bytes further on
 
@@ -23,33 +24,39 @@ near_found limit given sources line rest far = ap (found_in limit given sources)
 
 -- ---- where the date that is found lies
 
--- a date that is found is the longest one, and stands whole
-pub there_is : (place : ℕ) (one : Candidate) (date : Found) (b : Bool) → There date ≡ (if b then There one.date else Doubtful place) → one.date ≡ date
-there_is place one date true e = cc
-there_is place one date false e = absurd cc
+module _ (limit : ℕ) (given : Given) (sources : List Grammar) (line : List ℕ) where
+  abbrev Lies : Finding → Type 0
+  Lies (There date) = (date.start < limit + 256) × (date.end < limit + 256) × (date.start < date.end) × (date.end ≤ length line) × (date.source < length sources)
+  Lies (Doubtful place) = place < length (looked_at limit line)
 
-pub found_near : (limit : ℕ) (given : Given) (sources : List Grammar) (line : List ℕ) (date : Found) → found limit given sources line ≡ Some (There date) → (date.start < limit + 256) × (date.end < limit + 256)
-found_near limit given sources line date e =
-    let P : Option Finding → Type 0 = λ o. IsFound limit given sources (looked_at limit line) o in
-    let (place, one, long, is) = subst P e (first_found_is limit given sources line) in
-    let lies = (lies_near given sources (looked_at limit line) place long.number one long.here.reads).0 in
-    let same = there_is place one date (is_whole one) is in
-    let start : one.date.start ≡ date.start = ap (λ (d : Found). d.start) same in
-    let end : one.date.end ≡ date.end = ap (λ (d : Found). d.end) same in
-    (omega (arith, long.near, lies.start_near, start), omega (arith, long.near, lies.end_near, end))
+  either_lies : (place : ℕ) (one : Candidate) (b : Bool) → Lies (There one.date) → Lies (Doubtful place) → Lies (if b then There one.date else Doubtful place)
+  either_lies place one true date doubt = date
+  either_lies place one false date doubt = doubt
 
-within_of : (limit : ℕ) (line : List ℕ) (sources place : ℕ) (one : Candidate) (b : Bool) → place < length (looked_at limit line) → one.date.start ≤ length line → one.date.end ≤ length line → one.date.source < sources
-    → IsWithin limit line sources (if b then There one.date else Doubtful place)
-within_of limit line sources place one true within start end source = record { start = start; end = end; source = source }
-within_of limit line sources place one false within start end source = within
+  all_lie : (o : Option Finding) → IsFound limit given sources (looked_at limit line) o → IfSome o Lies
+  all_lie None none = tt
+  all_lie (Some found) (place, one, long, is) =
+      let (lies, few) = lies_near given sources (looked_at limit line) place long.number one long.here.reads in
+      let within = long.here.within in
+      let all = length-take (limit + 256 + 64) line in
+      let date : Lies (There one.date) = (omega (arith, long.near, lies.start_near), omega (arith, long.near, lies.end_near), lies.later, omega (arith, lies.end_near, within, all), omega (arith, lies.source, few)) in
+      rw is (either_lies place one (is_whole one) date within)
 
-within_line : (limit : ℕ) (given : Given) (sources : List Grammar) (line : List ℕ) (o : Option Finding) → IsFound limit given sources (looked_at limit line) o → IfSome o (IsWithin limit line (length sources))
-within_line limit given sources line None none = tt
-within_line limit given sources line (Some found) (place, one, long, is) =
-    let (near, lies, few) = lies_near given sources (looked_at limit line) place long.number one long.here.reads in
-    let within = long.here.within in
-    let all = length-take (limit + 256 + 64) line in
-    rw is (within_of limit line (length sources) place one (is_whole one) within (omega (arith, lies.start_near, within, all)) (omega (arith, lies.end_near, within, all)) (omega (arith, lies.source, few)))
+  found_lies : IfSome (found limit given sources line) Lies
+  found_lies = all_lie (found limit given sources line) (first_found_is limit given sources line)
 
-pub found_within : (limit : ℕ) (given : Given) (sources : List Grammar) (line : List ℕ) → IfSome (found limit given sources line) (IsWithin limit line (length sources))
-found_within limit given sources line = within_line limit given sources line (found limit given sources line) (first_found_is limit given sources line)
+  within_of : (finding : Finding) → Lies finding → IsWithin limit line (length sources) finding
+  within_of (There date) (start, end, later, within, source) = record { start = omega (arith, later, within); end = within; source = source }
+  within_of (Doubtful place) within = within
+
+  pub found_within : IfSome (found limit given sources line) (IsWithin limit line (length sources))
+  found_within = IfSome_then (found limit given sources line) found_lies within_of
+
+  date_lies : (date : Found) → found limit given sources line ≡ Some (There date) → Lies (There date)
+  date_lies date e = let P : Option Finding → Type 0 = λ o. IfSome o Lies in subst P e found_lies
+
+  pub found_near : (date : Found) → found limit given sources line ≡ Some (There date) → (date.start < limit + 256) × (date.end < limit + 256)
+  found_near date e = let lies = date_lies date e in (lies.0, lies.1)
+
+  pub found_not_empty : (date : Found) → found limit given sources line ≡ Some (There date) → (date.start < date.end) × (date.end ≤ length line)
+  found_not_empty date e = let (start, end, later, within, source) = date_lies date e in (later, within)

@@ -1,5 +1,5 @@
 -- The date that is made of what a source reads at a place.
-use Rattle.std.proofs.Common.{◌≡◌, ◌<◌, ◌≤◌, ◌+◌, ℕ, ℤ, Bool, true, false, List, ◌-◌, length, drop, get_or, map, Option, Some, None, refl, sym, ap, subst, ◌∙◌, inl, inr, arith, length-drop}
+use Rattle.std.proofs.Common.{◌≡◌, ◌<◌, ◌≤◌, ◌+◌, ℕ, ℤ, Bool, true, false, List, ◌-◌, length, drop, get_or, map, Option, Some, None, refl, sym, ap, subst, ◌∙◌, inl, inr, arith, length-drop, min}
 use Rattle.std.specs.Prelude.{IfSome, option_and_then, option_map, if◌then◌else◌}
 use Rattle.std.proofs.lemmas.List.{length-take}
 use Rattle.std.proofs.lemmas.Option.{slice_get-map, slice_get_read, slice_get_cases}
@@ -7,7 +7,7 @@ use Rattle.datetime_wall.specs.Wall.{Shown}
 use Rattle.instants_sources.specs.Grammar.{Grammar}
 use Rattle.instants_prefixes.proofs.PrefixesAt.{prefix_within}
 use Rattle.instants_prefixes.proofs.Windows.{text_within}
-use Rattle.instants_prefixes.specs.DateSource.{grammar_in, IsWithin}
+use Rattle.instants_prefixes.specs.DateSource.{grammar_in}
 use Rattle.instants_prefixes.specs.NoPrefix.{HasNoPrefix}
 use Rattle.instants_prefixes.specs.Prefix.{prefix_at, prefix_in}
 use Rattle.instants_prefixes.specs.Reading.{text_for, prefix_named}
@@ -19,11 +19,12 @@ use Rattle.std.specs.Borrow.{Bor}
 use Rattle.zones_clock.specs.declared.zone.Zone.{Zone}
 use Rattle.instants_found.specs.Zoned.{settled_by, takes_offset, unmoved}
 use Rattle.instants_found.specs.declared.zoned.Settled.{Settled}
-use Rattle.instants_found.proofs.ZonedLemmas.{settled_within}
+use Rattle.instants_found.proofs.ZonedLemmas.{settled_moves}
 use Rattle.instants_found.specs.Beside.{is_read, settled_at, why}
 use Rattle.instants_found.specs.Candidate.{as_candidate, candidate_with, of_prefix, candidate, read_by}
 use Rattle.instants_found.specs.declared.candidate.Candidate.{Candidate}
 use Rattle.instants_found.specs.declared.doubt.Doubt.{Doubt}
+use Rattle.instants_prefixes.proofs.NotEmpty.{prefix_later}
 
 module _ (given : Given) (line : List ℕ) (start number : ℕ) (grammar : Grammar) where
   pub no_candidate : HasNoPrefix (drop start line) grammar → candidate given line start number grammar ≡ None
@@ -63,24 +64,27 @@ by_source given line start sources number source within is =
 
 -- ---- where it lies
 
--- a date that is read at a place begins and ends within so many bytes from there on, and its source is the one that reads it
+-- a date that is read at a place begins and ends within so many bytes from there on; it has a byte at least, and its source is the one that reads it
 pub record LiesBy (start number many : ℕ) (date : Candidate) : Type 0 where
   pub start_near : date.date.start ≤ start + many
   pub end_near : date.date.end ≤ start + many
+  pub later : date.date.start < date.date.end
   pub source : date.date.source ≡ number
 
-prefix_in_within : (grammar : Grammar) (text : List ℕ) (named : Option (Shown × List ℕ)) → IfSome (prefix_in grammar text named) (IsWithin text)
-prefix_in_within grammar text None = tt
-prefix_in_within grammar text (Some (moment, rest)) = prefix_within grammar text moment rest
+abbrev Lies : List ℕ → Prefix → Type 0
+Lies text prefix = (prefix.begins ≤ length text) × (prefix.zone ≤ length text) × (prefix.begins < prefix.zone)
 
-lies_of : (given : Given) (line : List ℕ) (start number many : ℕ) (grammar : Grammar) (text : List ℕ) (o : Option Prefix) → length text ≤ many → IfSome o (IsWithin text) → IfSome (of_prefix given line start number grammar o) (LiesBy start number many)
-lies_of given line start number many grammar text None le within = tt
-lies_of given line start number many grammar text (Some prefix) le within =
+prefix_in_lies : (given : Given) (grammar : Grammar) (text : List ℕ) (named : Option (Shown × List ℕ)) → named ≡ prefix_named given grammar text → IfSome (prefix_in grammar text named) (Lies text)
+prefix_in_lies given grammar text None e = tt
+prefix_in_lies given grammar text (Some (moment, rest)) e = let within = prefix_within grammar text moment rest in (within.begins, within.zone, prefix_later given grammar text rest moment e)
+
+lies_of : (given : Given) (line : List ℕ) (start number many : ℕ) (grammar : Grammar) (text : List ℕ) (o : Option Prefix) → length text ≤ many → IfSome o (Lies text) → IfSome (of_prefix given line start number grammar o) (LiesBy start number many)
+lies_of given line start number many grammar text None le lies = tt
+lies_of given line start number many grammar text (Some prefix) le lies =
     elim (is_read grammar line start prefix) as (λ b. IfSome (if b then Some (as_candidate given line start number grammar (settled_at given grammar line start prefix)) else None) (LiesBy start number many)) [
       | true ↦
-          let date = settled_at given grammar line start prefix in
-          let same : date.prefix.begins ≤ length text × date.prefix.zone ≤ length text = let w = settled_within text given.zone given.offset (takes_offset (record_at grammar (drop start line))) line start prefix within in (w.begins, w.zone) in
-          record { start_near = omega (arith, same.0, le); end_near = omega (arith, same.1, le); source = refl }
+          let (begins, zone, later) = settled_moves (Lies text) prefix (λ offset. lies) lies given.zone given.offset (takes_offset (record_at grammar (drop start line))) line start in
+          record { start_near = omega (arith, begins, le); end_near = omega (arith, zone, le); later = omega (arith, later); source = refl }
       | false ↦ tt
     ]
 
@@ -88,20 +92,19 @@ lies_by : (given : Given) (line : List ℕ) (start number many : ℕ) (grammar :
 unfolding candidate prefix_at
 lies_by given line start number many grammar le =
     let text = text_for grammar (drop start line) in
-    lies_of given line start number many grammar text _ le (prefix_in_within grammar text (prefix_named given grammar text))
+    lies_of given line start number many grammar text _ le (prefix_in_lies given grammar text (prefix_named given grammar text) refl)
 
--- within the window, and within the line
+-- within the window and the line
 pub lies_near : (given : Given) (sources : List Grammar) (line : List ℕ) (start number : ℕ) (date : Candidate) → read_by given sources line start number ≡ Some date
-    → (LiesBy start number 256 date) × (LiesBy start number (length line - start) date) × (number < length sources)
+    → LiesBy start number (min 256 (length line - start)) date × (number < length sources)
 lies_near given sources line start number date e =
     let reads_by : Option Grammar → Option Candidate = option_and_then (candidate given line start number) in
     elim (slice_get_cases sources number).1 [
       | inl (grammar, lt, is, there) ↦
           let reads : candidate given line start number grammar ≡ Some date = sym (ap reads_by is) ∙ e in
-          let P : ℕ → Option Candidate → Type 0 = λ many o. IfSome o (LiesBy start number many) in
-          let few = text_within grammar (drop start line) in
-          let long = length-take 256 (drop start line) in
-          let left = length-drop start line in
-          (subst (P 256) reads (lies_by given line start number 256 grammar (omega (arith, few, long))), subst (P (length line - start)) reads (lies_by given line start number (length line - start) grammar (omega (arith, few, long, left))), lt)
+          let near : length (text_for grammar (drop start line)) ≤ min 256 (length line - start) =
+              omega (arith, text_within grammar (drop start line), length-take 256 (drop start line), length-drop start line) in
+          let P : Option Candidate → Type 0 = λ o. IfSome o (LiesBy start number (min 256 (length line - start))) in
+          (subst P reads (lies_by given line start number (min 256 (length line - start)) grammar near), lt)
       | inr (past, is) ↦ let none : None ≡ Some date = sym (ap reads_by is) ∙ e in absurd cc
     ]

@@ -24,22 +24,28 @@ use Rattle.zones_clock.proofs.MomentLemmas.{answer_is}
 use Rattle.instants_found.specs.declared.zoned.Settled.{Settled}
 use Rattle.instants_found.specs.Zoned.{EachIsAtTheMoment, IsTheMoment, ShowsAt, at_offset, by_moments, chosen, is_said, reading, settled_by}
 
-chosen_within : (bytes : List ℕ) (prefix : Prefix) (first second : ℤ) (one other : Bool) → IsWithin bytes prefix → IsWithin bytes (chosen prefix first second one other).prefix
-chosen_within bytes prefix first second true true within = within
-chosen_within bytes prefix first second true false within = record { begins = within.begins; ends = within.ends; zone = within.zone; all = within.all }
-chosen_within bytes prefix first second false true within = record { begins = within.begins; ends = within.ends; zone = within.zone; all = within.all }
-chosen_within bytes prefix first second false false within = within
+module _ (P : Prefix → Type 0) (prefix : Prefix) (moves : (offset : ℤ) → P (at_offset prefix offset)) (stays : P prefix) where
+  chosen_moves : (first second : ℤ) (one other : Bool) → P (chosen prefix first second one other).prefix
+  chosen_moves first second true true = stays
+  chosen_moves first second true false = moves _
+  chosen_moves first second false true = moves _
+  chosen_moves first second false false = stays
 
-moments_within : (bytes : List ℕ) (zone : Zone) (line : List ℕ) (start : ℕ) (prefix : Prefix) (moments : Moments) → IsWithin bytes prefix → IsWithin bytes (by_moments zone line start prefix moments).prefix
-moments_within bytes zone line start prefix Skipped within = within
-moments_within bytes zone line start prefix (One moment) within = record { begins = within.begins; ends = within.ends; zone = within.zone; all = within.all }
-moments_within bytes zone line start prefix (Repeated first second) within = chosen_within bytes prefix first second _ _ within
-moments_within bytes zone line start prefix (Several first second third) within = within
+  moments_move : (zone : Zone) (line : List ℕ) (start : ℕ) (moments : Moments) → P (by_moments zone line start prefix moments).prefix
+  moments_move zone line start (One moment) = moves _
+  moments_move zone line start (Repeated first second) = chosen_moves first second _ _
+  moments_move zone line start Skipped = stays
+  moments_move zone line start (Several first second third) = stays
+
+  -- what holds of a prefix at any offset holds of it on the clock of a zone
+  pub settled_moves : (zone : Option (Bor Zone)) (offset : Option ℤ) (takes : Bool) (line : List ℕ) (start : ℕ) → P (settled_by zone offset takes line start prefix).prefix
+  settled_moves (Some zone) offset true line start = moments_move zone.now line start _
+  settled_moves (Some zone) offset false line start = stays
+  settled_moves None offset takes line start = stays
 
 pub settled_within : (bytes : List ℕ) (zone : Option (Bor Zone)) (offset : Option ℤ) (takes : Bool) (line : List ℕ) (start : ℕ) (prefix : Prefix) → IsWithin bytes prefix → IsWithin bytes (settled_by zone offset takes line start prefix).prefix
-settled_within bytes None offset takes line start prefix within = within
-settled_within bytes (Some zone) offset true line start prefix within = moments_within bytes zone.now line start prefix (moments_of zone.now.first zone.now.steps.items (reading prefix.moment)) within
-settled_within bytes (Some zone) offset false line start prefix within = within
+settled_within bytes zone offset takes line start prefix within =
+    settled_moves (IsWithin bytes) prefix (λ offset. record { begins = within.begins; ends = within.ends; zone = within.zone; all = within.all }) within zone offset takes line start
 
 -- an offset of a zone's clock is one of the calendar
 pub of_zone : (offset : ℤ) → IsOffset offset → offset_of_seconds offset ≡ Ok offset

@@ -7,17 +7,7 @@ use crate::range::Range;
 use crate::spread::Spread;
 use std::simd::prelude::*;
 
-/// How many bytes are looked at at once.
-pub(crate) const LANES: usize = 16;
-
-/// The bytes from a place on.
-#[inline(always)]
-pub(crate) fn load(bytes: &[u8], place: usize) -> u8x16
-    requires { place + LANES ≤ length bytes.now }
-    ensures { (k : ℕ) → k < LANES → slice_index result k ≡ slice_index bytes.now (place + k) }
-{
-    u8x16::from_slice(&bytes[place..])
-}
+pub(crate) use instants_edges::{LANES, load};
 
 /// A bit for each lane, which is 0 only where the lane is another byte than this.
 #[inline(always)]

@@ -26,7 +26,7 @@ pub fn longest_date()
 
 /// The date that is found begins and ends within the window after the last place at which a date may begin. It has a byte at
 /// least, and ends within the line.
-#[tactic(auto, using(crate::proofs::NearFound::found_near, crate::proofs::NotEmpty::found_not_empty))]
+#[tactic(auto, using(crate::proofs::NearFound::found_near, crate::proofs::NearFound::found_not_empty))]
 pub fn lies_near()
     ensures near { (limit : ℕ) (given : Given) (sources : List Grammar) (line : List ℕ) (date : Found)
         → found limit given sources line ≡ Some (There date)

@@ -6,7 +6,7 @@ use Rattle.instants_fields.specs.declared.json.Member.{Member}
 use Rattle.instants_found.specs.declared.found.Found.{Found}
 use Rattle.instants_found.specs.declared.found.Finding.{Finding}
 use Rattle.instants_found.specs.declared.found.Finding.TheVariants.{Doubtful, There}
-use Rattle.instants_found.proofs.NotEmpty.{found_not_empty}
+use Rattle.instants_found.proofs.NearFound.{found_not_empty}
 use Rattle.instants_lines.specs.Dates.{Search, date_at, date_by, date_in, found_by}
 use Rattle.instants_lines.specs.Parts.{PartSaid, found_at, has_escape, moved, place_of_part, text_at}
 

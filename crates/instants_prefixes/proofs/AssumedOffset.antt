@@ -27,33 +27,11 @@ use Rattle.instants_sources.specs.Written.{reads_written}
 use Rattle.instants_prefixes.specs.Given.{Given, lacks_time, lacks_year, moment_of}
 use Rattle.instants_prefixes.specs.Reading.{is_likely, prefix_of, record_of}
 use Rattle.instants_prefixes.specs.declared.kind.Kind.TheVariants as kind
-use Rattle.instants_prefixes.proofs.Le.{le_refl, none_le}
 use Rattle.instants_prefixes.proofs.NamedAlone.{by_unix, has_parts, named_given}
 use Rattle.instants_prefixes.proofs.ReadPrefixes.{hour_of, minute_of, placed_named}
-use Rattle.instants_prefixes.proofs.Says.{holds, nothing_held, put_holds}
-use Rattle.instants_prefixes.proofs.Told.{Told, Reads, Refuses, described_told}
-use Rattle.instants_prefixes.proofs.Unread.{Adds, IsPlaced, Moves, adds_both, moves, moves_both, of_moves, placed}
-
--- no part of an offset was read
-abbrev pub SaysNoOffset : Answer → Type 0
-SaysNoOffset answer = holds (record_of answer) kind.OffsetPart ≡ false
-
--- ---- descriptions
-
--- a part of an offset was said, or it may come before what was said or after it
-abbrev Turns : Bool → (Record → Record) → Type 0
-Turns b f = Adds kind.OffsetPart b f × Moves b f
-
-turns_both : (a b : Bool) (f g : Record → Record) → Turns a f → Turns b g → Turns (a || b) (λ r. g (f r))
-turns_both a b f g h j = (adds_both kind.OffsetPart a b f g h.0 j.0, moves_both a b f g h.1 j.1)
-
-of_turns : (answer : Record → Answer) (may always : Bool) (hour minute : Option ℤ) (set : Record) (rest : List ℕ) → Told Turns answer may always
-    → SaysNoOffset (answer empty) → answer (placed hour minute empty) ≡ Ok (set, rest) → IsPlaced answer hour minute set rest
-of_turns answer may always hour minute set rest (Reads b f left turns up down is) none e =
-    let held : holds (f empty) kind.OffsetPart ≡ b = turns.0 empty ∙ ap (λ (x : Bool). b || x) (nothing_held kind.OffsetPart) ∙ or-false b in
-    let said : b ≡ false = sym held ∙ ap (λ (a : Answer). holds (record_of a) kind.OffsetPart) (sym (is empty)) ∙ none in
-    of_moves answer b false hour minute set rest (Reads b f left turns.1 le_refl none_le is) said e
-of_turns answer may always hour minute set rest (Refuses fault is) none e = let refused = is (placed hour minute empty) in absurd cc
+use Rattle.instants_prefixes.proofs.Says.{holds}
+use Rattle.instants_prefixes.proofs.Told.{placed}
+use Rattle.instants_prefixes.proofs.Unread.{IsPlaced, SaysNoOffset, read_placed}
 
 -- ---- ISO 8601
 
@@ -107,10 +85,7 @@ pub placed_reading : (grammar : Grammar) (hour minute : Option ℤ) (text rest :
     → reading_of grammar (placed hour minute empty) text ≡ Ok (set, rest) → IsPlaced (λ r. reading_of grammar r text) hour minute set rest
 unfolding reads_rfc3339 reads_rfc2822 reads_iso8601
 placed_reading (Described written) hour minute text rest set none e =
-    let puts : (said : Read) → Turns (holds (put said empty) kind.OffsetPart) (put said) = λ said. (put_holds said kind.OffsetPart, moves said) in
-    let nothing : Turns false (λ r. r) = ((λ r. refl), (λ e hour minute r. refl)) in
-    let told = described_told kind.OffsetPart Turns nothing turns_both puts written text in
-    of_turns (λ r. reads_written written r text) _ _ hour minute set rest told none e
+    read_placed written hour minute text rest set none e
 placed_reading Rfc2822 hour minute text rest set none e =
     always_said put_rfc2822 (placed hour minute empty) (rfc2822.rfc2822 true text) (set, rest) (λ w r. refl) none e
 placed_reading Rfc3339 hour minute text rest set none e =

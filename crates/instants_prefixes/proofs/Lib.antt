@@ -20,11 +20,9 @@ pub mod Unnamed
 pub mod Marked
 pub mod MarkedShapes
 pub mod MarkedParts
-pub mod Took
 pub mod Silent
 pub mod ItemsLater
-pub mod Daily
-pub mod FirstByte
+mod Shorter
 pub mod IsoYear
 pub mod Formats
 pub mod NotEmpty

@@ -1,5 +1,5 @@
 -- A component that says something takes a byte that is no white space, and one that says nothing changes no record.
-use Rattle.std.proofs.Common.{◌≡◌, ℕ, Bool, true, false, List, [], ◌∷◌, length, drop, Option, Some, None, Result, Ok, Err, refl, sym, subst, arith}
+use Rattle.std.proofs.Common.{◌++◌, ◌≡◌, ℕ, Bool, true, false, List, [], ◌∷◌, length, drop, Option, Some, None, Result, Ok, Err, refl, sym, subst, arith}
 use Rattle.std.specs.Prelude.{nat_le, option_map, codes, if◌then◌else◌}
 use Rattle.std.proofs.lemmas.List.{append-nil}
 use Rattle.description_modifiers.specs.declared.choices.Padding.{Padding}
@@ -34,8 +34,12 @@ use Rattle.parsing_components.specs.Ranged.{kept, says}
 use Rattle.parsing_components.specs.Component.{fraction_of, ignored, offset_piece, time_piece, year_piece, date_piece, component_name, at_end, begins_character, if_whole, reads_modern, reads_component, reads_component_v3}
 use Rattle.parsing_components.specs.declared.said.Read.{Read}
 use Rattle.parsing_components.specs.declared.said.Read.TheVariants as read
-use Rattle.instants_prefixes.specs.Kinds.{is_saying}
-use Rattle.instants_prefixes.proofs.MarkedShapes.{IsMarking, IsMarkedBefore, Takes, taken_takes, digits_marking, padded_marking, year_marking, century_marking, offset_hour_marking, timestamp_marking, period_marking, named_marks}
+use Rattle.instants_prefixes.specs.Kinds.{is_newer, is_saying}
+use Rattle.instants_prefixes.specs.declared.kind.Kind.{Kind}
+use Rattle.instants_prefixes.proofs.Marked.{HasMark}
+use Rattle.instants_prefixes.proofs.Says.{IsOf, nothing_held, piece_each}
+use Rattle.std.specs.Prelude.{IfOk, IfSome}
+use Rattle.instants_prefixes.proofs.MarkedShapes.{IsMarking, IsMarkedBefore, Takes, taken_takes, digits_marking, padded_marking, year_marking, century_marking, offset_hour_marking, timestamp_marking, period_marking, named_marking}
 
 -- ---- what says something
 
@@ -51,16 +55,8 @@ says_takes : {A B : Type 0} (f : A → Option B) (shape : Shape A) (bytes : List
 says_takes f shape bytes h = kept_takes f bytes (taken shape bytes) (taken_takes shape bytes h)
 
 fraction_marking : (d : SubsecondDigits) → IsMarking (fraction_of d)
-fraction_marking digits.One = digits_marking _ 1 1 (omega arith)
-fraction_marking digits.Two = digits_marking _ 2 2 (omega arith)
-fraction_marking digits.Three = digits_marking _ 3 3 (omega arith)
-fraction_marking digits.Four = digits_marking _ 4 4 (omega arith)
-fraction_marking digits.Five = digits_marking _ 5 5 (omega arith)
-fraction_marking digits.Six = digits_marking _ 6 6 (omega arith)
-fraction_marking digits.Seven = digits_marking _ 7 7 (omega arith)
-fraction_marking digits.Eight = digits_marking _ 8 8 (omega arith)
-fraction_marking digits.Nine = digits_marking _ 9 9 (omega arith)
 fraction_marking digits.OneOrMore = digits_marking _ 1 32 (omega arith)
+fraction_marking _ = digits_marking _ _ _ (omega arith)
 
 two_marking : (p : Padding) → IsMarking (padded p 2 2)
 two_marking p = padded_marking p 2 2 (omega arith)
@@ -75,66 +71,58 @@ piece_takes : (c : Component) → is_saying c ≡ true → (bytes : List ℕ) �
 unfolding date_piece year_piece time_piece offset_piece
 piece_takes (component.Ignore m) e bytes = absurd cc
 piece_takes (component.End m) e bytes = tt
-piece_takes (component.Period m) e bytes =
-    says_takes (λ x. Some (read.Afternoon x)) (period m.is_uppercase m.case_sensitive) bytes (period_marking m.is_uppercase m.case_sensitive)
-piece_takes (component.Subsecond m) e bytes = says_takes (λ n. Some (read.Subsecond n)) (fraction_of m.digits) bytes (fraction_marking m.digits)
-piece_takes (component.MonthShort m) e bytes =
-    says_takes (λ x. Some (read.Month x)) (named m.case_sensitive short_months) bytes (named_marks m.case_sensitive).0
-piece_takes (component.MonthLong m) e bytes =
-    says_takes (λ x. Some (read.Month x)) (named m.case_sensitive long_months) bytes (named_marks m.case_sensitive).1
-piece_takes (component.WeekdayShort m) e bytes =
-    says_takes (λ x. Some (read.Weekday x)) (named m.case_sensitive short_weekdays) bytes (named_marks m.case_sensitive).2
-piece_takes (component.WeekdayLong m) e bytes =
-    says_takes (λ x. Some (read.Weekday x)) (named m.case_sensitive long_weekdays) bytes (named_marks m.case_sensitive).3
 piece_takes c e bytes =
-    search (says_takes, two_marking, three_marking, one_marking, year_marking, century_marking, offset_hour_marking, timestamp_marking, tt)
+    search (says_takes, two_marking, three_marking, one_marking, fraction_marking, period_marking, named_marking, year_marking, century_marking, offset_hour_marking, timestamp_marking, refl, tt)
 
 -- ---- what is read
 
--- what says something takes such a byte, and what says nothing sets nothing
-abbrev pub Tells : Bool → List ℕ → Result (Read × List ℕ) Fault → Type 0
-Tells says bytes (Err f) = Unit {0}
-Tells true bytes (Ok x) = IsMarkedBefore bytes x.1
-Tells false bytes (Ok x) = (EndsWith bytes x.1) × (x.0 ≡ read.Nothing)
+-- what says something takes such a byte, and what says nothing sets nothing; what it says is of these kinds
+pub record Tells (says : Bool) (kinds : Kind → Bool) (bytes : List ℕ) (x : Read × List ℕ) : Type 0 where
+  pub of : IsOf kinds x.0
+  pub taken : List ℕ
+  pub is : bytes ≡ taken ++ x.1
+  pub mark : says ≡ true → HasMark taken
+  pub nothing : says ≡ false → x.0 ≡ read.Nothing
 
-saying_tells : (f : Fault) (bytes : List ℕ) (o : Option (Read × List ℕ)) → Takes bytes o → Tells true bytes (piece_or f o)
-saying_tells f bytes None h = tt
-saying_tells f bytes (Some x) h = h
+saying_tells : (f : Fault) (kinds : Kind → Bool) (bytes : List ℕ) (o : Option (Read × List ℕ)) → IfSome o (λ x. IsOf kinds x.0) → Takes bytes o → IfOk (piece_or f o) (Tells true kinds bytes)
+saying_tells f kinds bytes None of takes = tt
+saying_tells f kinds bytes (Some x) of takes = record { of = of; taken = takes.taken; is = takes.is; mark = λ e. takes.mark; nothing = λ e. absurd cc }
 
-ignored_tells : (f : Fault) (count : ℕ) (bytes : List ℕ) (b : Bool)
-    → Tells false bytes (piece_or f (if b then Some (read.Nothing, drop count bytes) else None))
-ignored_tells f count bytes true = (dropped count bytes, refl)
-ignored_tells f count bytes false = tt
+abbrev TellsNothing : List ℕ → Read × List ℕ → Type 0
+TellsNothing bytes x = Tells false (λ k. false) bytes x
 
-end_tells : (t : TrailingInput) (bytes : List ℕ) → Tells false bytes (at_end t bytes)
-end_tells trailing_input.Discard bytes = ((bytes, sym (append-nil bytes)), refl)
-end_tells trailing_input.Prohibit [] = (([], refl), refl)
+nothing_tells : (bytes rest : List ℕ) → EndsWith bytes rest → TellsNothing bytes (read.Nothing, rest)
+nothing_tells bytes rest h = record { of = nothing_held; taken = h.0; is = h.1; mark = λ e. absurd cc; nothing = λ e. refl }
+
+there_tells : (f : Fault) (b : Bool) (bytes rest : List ℕ) → EndsWith bytes rest → IfOk (piece_or f (if b then Some (read.Nothing, rest) else None)) (TellsNothing bytes)
+there_tells f true bytes rest h = nothing_tells bytes rest h
+there_tells f false bytes rest h = tt
+
+end_tells : (t : TrailingInput) (bytes : List ℕ) → IfOk (at_end t bytes) (TellsNothing bytes)
+end_tells trailing_input.Discard bytes = nothing_tells bytes [] (bytes, sym (append-nil bytes))
+end_tells trailing_input.Prohibit [] = nothing_tells [] [] ([], refl)
 end_tells trailing_input.Prohibit (x ∷ rest) = tt
 
-modern_tells : (c : Component) (bytes : List ℕ) → Tells (is_saying c) bytes (reads_modern c bytes)
+modern_tells : (c : Component) (bytes : List ℕ) → IfOk (reads_modern c bytes) (Tells (is_saying c) (is_newer c) bytes)
 unfolding reads_modern date_piece year_piece time_piece offset_piece ignored
 modern_tells (component.End m) bytes = end_tells m.trailing_input bytes
 modern_tells (component.Ignore m) bytes =
-    ignored_tells (fault.component (component_name (component.Ignore m))) m.count bytes (nat_le m.count (length bytes))
-modern_tells c bytes = saying_tells (fault.component (component_name c)) bytes (date_piece c bytes) (piece_takes c refl bytes)
+    there_tells (fault.component (component_name (component.Ignore m))) (nat_le m.count (length bytes)) bytes (drop m.count bytes) (dropped m.count bytes)
+modern_tells c bytes = saying_tells (fault.component (component_name c)) (is_newer c) bytes (date_piece c bytes) (piece_each c bytes refl) (piece_takes c refl bytes)
 
 -- ---- older forms
 
 month_says : (repr : MonthRepr) (p : Padding) (b : Bool) → is_saying (modern_month repr p b) ≡ true
 month_says month.Numerical p b = refl
-month_says month.Long p b = refl
-month_says month.Short p b = refl
+month_says _ p b = refl
 
 weekday_says : (repr : WeekdayRepr) (one b : Bool) → is_saying (modern_weekday repr one b) ≡ true
 weekday_says weekday.Short one b = refl
-weekday_says weekday.Long one b = refl
-weekday_says weekday.Sunday one b = refl
-weekday_says weekday.Monday one b = refl
+weekday_says _ one b = refl
 
 week_says : (repr : WeekNumberRepr) (p : Padding) → is_saying (modern_week_number repr p) ≡ true
 week_says week.Iso p = refl
-week_says week.Sunday p = refl
-week_says week.Monday p = refl
+week_says _ p = refl
 
 year_says : (weeks : Bool) (repr : YearRepr) (reach : YearRange) (p : Padding) (sign : Bool) → is_saying (modern_year weeks repr reach p sign) ≡ true
 year_says true year_repr.Full range.Extended p sign = refl
@@ -154,9 +142,7 @@ hour_says false p = refl
 
 timestamp_says : (u : UnixTimestampPrecision) (sign : Bool) → is_saying (modern_timestamp u sign) ≡ true
 timestamp_says unit.Second sign = refl
-timestamp_says unit.Millisecond sign = refl
-timestamp_says unit.Microsecond sign = refl
-timestamp_says unit.Nanosecond sign = refl
+timestamp_says _ sign = refl
 
 modern_says : (c : Component) → is_saying (modern c) ≡ is_saying c
 modern_says (component.Month m) = month_says m.repr m.padding m.case_sensitive
@@ -167,22 +153,17 @@ modern_says (component.Hour m) = hour_says m.is_12_hour_clock m.padding
 modern_says (component.UnixTimestamp m) = timestamp_says m.precision m.sign_is_mandatory
 modern_says c = refl
 
-pub component_tells : (c : Component) (bytes : List ℕ) → Tells (is_saying c) bytes (reads_component c bytes)
+pub component_tells : (c : Component) (bytes : List ℕ) → IfOk (reads_component c bytes) (Tells (is_saying c) (is_newer (modern c)) bytes)
 unfolding reads_component
 component_tells c bytes =
-    let P : Bool → Type 0 = λ b. Tells b bytes (reads_modern (modern c) bytes) in subst P (modern_says c) (modern_tells (modern c) bytes)
-
-there_tells : (f : Fault) (b : Bool) (bytes rest : List ℕ) → EndsWith bytes rest
-    → Tells false bytes (piece_or f (if b then Some (read.Nothing, rest) else None))
-there_tells f true bytes rest h = (h, refl)
-there_tells f false bytes rest h = tt
+    let P : Bool → Type 0 = λ b. IfOk (reads_modern (modern c) bytes) (Tells b (is_newer (modern c)) bytes) in subst P (modern_says c) (modern_tells (modern c) bytes)
 
 whole_tells : (f : Fault) (count : ℕ) (bytes : List ℕ) (b : Bool)
-    → Tells false bytes (piece_or f (if_whole (if b then Some (read.Nothing, drop count bytes) else None)))
+    → IfOk (piece_or f (if_whole (if b then Some (read.Nothing, drop count bytes) else None))) (TellsNothing bytes)
 whole_tells f count bytes false = tt
 whole_tells f count bytes true = there_tells f (begins_character (drop count bytes)) bytes (drop count bytes) (dropped count bytes)
 
-pub component_tells_v3 : (c : Component) (bytes : List ℕ) → Tells (is_saying c) bytes (reads_component_v3 c bytes)
+pub component_tells_v3 : (c : Component) (bytes : List ℕ) → IfOk (reads_component_v3 c bytes) (Tells (is_saying c) (is_newer (modern c)) bytes)
 unfolding reads_component_v3 ignored
 component_tells_v3 (component.Ignore m) bytes = whole_tells (fault.component (codes "ignore")) m.count bytes (nat_le m.count (length bytes))
 component_tells_v3 c bytes = component_tells c bytes

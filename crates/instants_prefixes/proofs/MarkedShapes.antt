@@ -108,51 +108,34 @@ timestamp_marking mandatory most = signed_if_marking mandatory _ (digits_between
 abbrev are_lettered : {A : Type 0} → List (List ℕ × A) → Bool
 are_lettered entries = list_all (λ entry. is_ascii_alphabetic (get_or entry.0 0 0)) entries
 
-same_first : (name text : List ℕ) → is_ascii_alphabetic (get_or name 0 0) ≡ true → name ≡ text → HasMark text
-same_first name [] letter e =
-    absurd (let none : is_ascii_alphabetic 0 ≡ true = ap (λ (t : List ℕ). is_ascii_alphabetic (get_or t 0 0)) (sym e) ∙ letter in cc)
-same_first name (c ∷ cs) letter e =
-    let is : is_ascii_alphabetic c ≡ true = ap (λ (t : List ℕ). is_ascii_alphabetic (get_or t 0 0)) (sym e) ∙ letter in
-    first_mark c cs (grind (arith, nat_tests))
+lettered : (text : List ℕ) → is_ascii_alphabetic (get_or text 0 0) ≡ true → HasMark text
+lettered [] letter = absurd cc
+lettered (c ∷ cs) letter = first_mark c cs (grind (arith, nat_tests))
 
-lower_letter : (c : ℕ) → is_ascii_alphabetic (to_ascii_lowercase c) ≡ is_ascii_alphabetic c
-lower_letter c = grind (arith, nat_tests)
-
-lower_first : (name : List ℕ) → is_ascii_alphabetic (get_or (map to_ascii_lowercase name) 0 0) ≡ is_ascii_alphabetic (get_or name 0 0)
+lower_first : (text : List ℕ) → is_ascii_alphabetic (get_or (map to_ascii_lowercase text) 0 0) ≡ is_ascii_alphabetic (get_or text 0 0)
 lower_first [] = refl
-lower_first (c ∷ cs) = lower_letter c
+lower_first (c ∷ cs) = grind (arith, nat_tests)
 
-lower_mark : (text : List ℕ) → HasMark (map to_ascii_lowercase text) → is_ascii_alphabetic (get_or (map to_ascii_lowercase text) 0 0) ≡ true
-    → HasMark text
-lower_mark [] mark letter = mark
-lower_mark (c ∷ cs) mark letter = let is : is_ascii_alphabetic c ≡ true = sym (lower_letter c) ∙ letter in first_mark c cs (grind (arith, nat_tests))
-
-name_marks : (b : Bool) (name text : List ℕ) → is_ascii_alphabetic (get_or name 0 0) ≡ true → is_name b name text ≡ true → HasMark text
-name_marks true name text letter e = same_first name text letter ((bytes_eq-Decides name text).0 e)
+name_marks : (b : Bool) (name text : List ℕ) → is_ascii_alphabetic (get_or name 0 0) ≡ true → is_name b name text ≡ true → is_ascii_alphabetic (get_or text 0 0) ≡ true
+name_marks true name text letter e = rw (← (bytes_eq-Decides name text).0 e) letter
 name_marks false name text letter e =
     let same = (bytes_eq-Decides (map to_ascii_lowercase name) (map to_ascii_lowercase text)).0 e in
-    let lower = lower_first name ∙ letter in
-    lower_mark text (same_first _ _ lower same) (ap (λ (t : List ℕ). is_ascii_alphabetic (get_or t 0 0)) (sym same) ∙ lower)
+    sym (lower_first text) ∙ ap (λ (t : List ℕ). is_ascii_alphabetic (get_or t 0 0)) (sym same) ∙ lower_first name ∙ letter
 
-named_marking : {A : Type 0} (b : Bool) (entries : List (List ℕ × A)) → are_lettered entries ≡ true → IsMarking (named b entries)
+pub named_marking : {A : Type 0} (b : Bool) (entries : List (List ℕ × A)) → are_lettered entries ≡ true → IsMarking (named b entries)
 unfolding named
 named_marking b [] letters text = tt
 named_marking b (entry ∷ entries) letters text =
     let both = and_parts _ _ letters in
     let others = named b entries text in
     elim (is_name b entry.0 text) as (λ so. is_name b entry.0 text ≡ so → IfSome (if so then Some entry.1 else others) (λ x. HasMark text)) [
-      | true ↦ λ e. name_marks b entry.0 text both.0 e
+      | true ↦ λ e. lettered text (name_marks b entry.0 text both.0 e)
       | false ↦ λ e. named_marking b entries both.1 text
     ] refl
 
 pub period_marking : (upper sensitive : Bool) → IsMarking (period upper sensitive)
 unfolding period
 period_marking upper sensitive = named_marking _ periods refl
-
-pub named_marks : (b : Bool)
-    → IsMarking (named b short_months) × IsMarking (named b long_months) × IsMarking (named b short_weekdays) × IsMarking (named b long_weekdays)
-named_marks b =
-    (named_marking b short_months refl, named_marking b long_months refl, named_marking b short_weekdays refl, named_marking b long_weekdays refl)
 
 -- ---- what is taken
 

@@ -21,7 +21,7 @@ use Rattle.parsing_iso8601.specs.declared.written.WrittenOffset.{WrittenOffset}
 use Rattle.parsing_parsable.specs.Put.{put_iso8601}
 use Rattle.parsing_parsable.specs.Staged.{reads_iso8601}
 use Rattle.instants_sources.specs.Grammar.{Iso8601}
-use Rattle.instants_prefixes.specs.Given.{Given, completed, moment_in}
+use Rattle.instants_prefixes.specs.Given.{Given, completed, moment_in, moment_of}
 use Rattle.instants_prefixes.specs.NoPrefix.{begins_year}
 use Rattle.instants_prefixes.specs.Reading.{prefix_named, prefix_of}
 use Rattle.instants_prefixes.specs.declared.kind.Kind.TheVariants as kind
@@ -44,6 +44,10 @@ no_moment given year None None = no_moment_of (completed given.offset year given
 no_moment given year (Some t) None = no_moment_of (completed given.offset year given.time (dateless (Some t) None)) refl refl refl
 no_moment given year None (Some o) = no_moment_of (completed given.offset year given.time (dateless None (Some o))) refl refl refl
 no_moment given year (Some t) (Some o) = no_moment_of (completed given.offset year given.time (dateless (Some t) (Some o))) refl refl refl
+
+-- nothing at all names none
+pub nothing_named : (given : Given) → moment_of given given.years empty ≡ None
+nothing_named given = each_year given given.years empty None (λ year known. no_moment_of (completed given.offset year given.time empty) refl refl refl)
 
 none_of_dateless : (given : Given) (time : Option WrittenTime) (offset : Option WrittenOffset) (rest : List ℕ) → prefix_of given (Ok (dateless time offset, rest)) ≡ None
 none_of_dateless given time offset rest =
@@ -95,6 +99,3 @@ without_year text given none = none_without_year text given none
 
 pub part_none : (text : List ℕ) → begins_year (get_or text 0 0) ≡ false → (given : Given) → prefix_named given Iso8601 text ≡ None
 part_none text none given = without_year text given (no_year_of_first text none)
-
-pub nothing_iso8601 : (given : Given) → prefix_named given Iso8601 [] ≡ None
-nothing_iso8601 given = part_none [] refl given

@@ -60,9 +60,9 @@ pub few_digits : (text : List ℕ) (n count : ℕ) → n < count → is_ascii_di
 few_digits text n count lt e = grind (arith, nat_tests, prefix_len_passes is_ascii_digit text n 0)
 
 -- its year has four digits
-pub year_none : (text : List ℕ) → is_ascii_digit (get_or text 3 0) ≡ false → (given : Given) → prefix_named given Rfc3339 text ≡ None
+pub year_none : (text : List ℕ) (n : ℕ) → n < 4 → is_ascii_digit (get_or text n 0) ≡ false → (given : Given) → prefix_named given Rfc3339 text ≡ None
 unfolding prefix_named reads_rfc3339 rfc3339.rfc3339 rfc3339.date digits
-year_none text other given = none_prefix given (reads_rfc3339 empty text) (rw (few_digits text 3 4 (omega arith) other) refl)
+year_none text n lt other given = none_prefix given (reads_rfc3339 empty text) (rw (few_digits text n 4 lt other) refl)
 
 -- ---- RFC 2822
 

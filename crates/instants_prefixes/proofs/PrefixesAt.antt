@@ -21,6 +21,7 @@ use Rattle.instants_prefixes.specs.declared.prefix.Prefix.{Prefix}
 use Rattle.instants_prefixes.specs.declared.extent.Extent.{Extent}
 use Rattle.instants_prefixes.proofs.Extents.{extent_within}
 use Rattle.instants_prefixes.proofs.Windows.{text_within}
+use Rattle.parsing_components.specs.declared.fields.Record.{Record}
 
 -- ---- what is read
 
@@ -28,21 +29,25 @@ pub prefix_at_is : (given : Given) (grammar : Grammar) (bytes text : List ℕ) (
 unfolding prefix_at
 prefix_at_is given grammar bytes text o is named = rw (sym is, sym named) refl
 
-likely_rest : (b : Bool) (o : Option Shown) (m : Shown) (left rest : List ℕ) → (if b then option_map {U = Shown × List ℕ} (λ moment. (moment, left)) o else None) ≡ Some (m, rest) → left ≡ rest
-likely_rest b o m left rest e = grind arith
+likely : (b : Bool) (o : Option Shown) (m : Shown) (left rest : List ℕ) → (if b then option_map {U = Shown × List ℕ} (λ moment. (moment, left)) o else None) ≡ Some (m, rest) → (left ≡ rest) × (o ≡ Some m)
+likely b o m left rest e = (grind arith, grind arith)
 
-read_leaves : (given : Given) (grammar : Grammar) (text rest : List ℕ) (m : Shown) (a : Answer) → reading_of grammar empty text ≡ a → prefix_of given a ≡ Some (m, rest) → LeavesRest grammar text rest
-read_leaves given grammar text rest m (Ok read) is e = (read.0, is ∙ ap (λ left. Ok (read.0, left)) (likely_rest (is_likely read.0.unix_timestamp_nanos) (moment_of given given.years read.0) m read.1 rest e))
-read_leaves given grammar text rest m (Err f) is e = absurd cc
+named_of : (given : Given) (a : Answer) (m : Shown) (rest : List ℕ) → prefix_of given a ≡ Some (m, rest) → (set : Record) × (a ≡ Ok (set, rest)) × (moment_of given given.years set ≡ Some m)
+named_of given (Ok read) m rest e = let (same, names) = likely (is_likely read.0.unix_timestamp_nanos) (moment_of given given.years read.0) m read.1 rest e in (read.0, ap (λ (left : List ℕ). Ok (read.0, left)) same, names)
+named_of given (Err f) m rest e = absurd cc
 
-begun_leaves : (b : Bool) (given : Given) (grammar : Grammar) (text : List ℕ) (m : Shown) (rest : List ℕ) → (if b then prefix_of given (reading_of grammar empty text) else None) ≡ Some (m, rest) → LeavesRest grammar text rest
-begun_leaves true given grammar text m rest e = read_leaves given grammar text rest m (reading_of grammar empty text) refl e
-begun_leaves false given grammar text m rest e = absurd cc
+begun : {A : Type 0} (b : Bool) (o : Option A) (x : A) → Some x ≡ (if b then o else None) → o ≡ Some x
+begun true o x e = sym e
+begun false o x e = absurd cc
 
 -- a prefix that is named was read
-pub named_leaves : (given : Given) (grammar : Grammar) (text : List ℕ) (m : Shown) (rest : List ℕ) → Some (m, rest) ≡ prefix_named given grammar text → LeavesRest grammar text rest
+pub named_read : (given : Given) (grammar : Grammar) (text : List ℕ) (m : Shown) (rest : List ℕ) → Some (m, rest) ≡ prefix_named given grammar text
+    → (set : Record) × (reading_of grammar empty text ≡ Ok (set, rest)) × (moment_of given given.years set ≡ Some m)
 unfolding prefix_named
-named_leaves given grammar text m rest e = begun_leaves (may_begin grammar text) given grammar text m rest (sym e)
+named_read given grammar text m rest e = named_of given (reading_of grammar empty text) m rest (begun (may_begin grammar text) _ (m, rest) e)
+
+pub named_leaves : (given : Given) (grammar : Grammar) (text : List ℕ) (m : Shown) (rest : List ℕ) → Some (m, rest) ≡ prefix_named given grammar text → LeavesRest grammar text rest
+named_leaves given grammar text m rest e = let (set, reads, names) = named_read given grammar text m rest e in (set, reads)
 
 -- ---- where it lies
 

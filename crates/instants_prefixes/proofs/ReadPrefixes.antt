@@ -20,8 +20,9 @@ use Rattle.instants_prefixes.specs.Given.{Given, moment_of, completed, lacks_yea
 use Rattle.instants_prefixes.specs.Kinds.{is_newer}
 use Rattle.instants_prefixes.specs.Reading.{record_of, prefix_of, prefix_named, written_has}
 use Rattle.instants_prefixes.specs.declared.kind.Kind.TheVariants as kind
-use Rattle.instants_prefixes.proofs.Unread.{placed, read_placed, timeless}
+use Rattle.instants_prefixes.proofs.Unread.{read_placed, timeless, none_said_by}
 use Rattle.instants_prefixes.proofs.NamedAlone.{names, named_given, each_year, has_parts}
+use Rattle.instants_prefixes.proofs.Told.{placed}
 
 -- the prefix of a record without Unix time
 by_record : (given : Given) (a : Answer) (set : Record) (rest : List ℕ) (moment : Shown) → a ≡ Ok (set, rest) → (record_of a).unix_timestamp_nanos ≡ None → (set.unix_timestamp_nanos ≡ None → moment_of given given.years set ≡ Some moment) → prefix_of given a ≡ Some (moment, rest)
@@ -59,17 +60,11 @@ unfolding prefix_named
 planned_named given written text rest moment part None stands plain is names = named_whatever given (reads_written written) text rest moment (timeless (Described written) plain text) names
 planned_named given written text rest moment true (Some offset) stands plain is names = absurd cc
 planned_named given written text rest moment false (Some offset) stands plain is names =
-    let read = read_placed written (Some (hour_of offset)) (Some (minute_of offset)) text rest names.set stands names.reads in
+    let read = read_placed written (Some (hour_of offset)) (Some (minute_of offset)) text rest names.set (none_said_by written text stands) names.reads in
     by_record given (reads_written written empty text) read.plain rest moment read.reads (timeless (Described written) plain text)
     (placed_named given offset read.plain moment (sym is) read.none (ap moment_named (sym read.is) ∙ names.names))
 
 -- ---- RFC 3339
-
--- it begins with a digit
-pub no_digit : (given : Given) (text : List ℕ) → is_ascii_digit (get_or text 0 0) ≡ false → prefix_named given Rfc3339 text ≡ None
-unfolding prefix_named reads_rfc3339 rfc3339.rfc3339 rfc3339.date digits
-no_digit given [] e = refl
-no_digit given (c ∷ rest) e = rw e refl
 
 pub rfc3339_prefix : (given : Given) (text rest : List ℕ) (moment : Shown) → NamesPrefix reads_rfc3339 empty text rest moment → prefix_named given Rfc3339 text ≡ Some (moment, rest)
 unfolding prefix_named

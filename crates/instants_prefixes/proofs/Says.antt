@@ -18,7 +18,8 @@ use Rattle.parsing_components.specs.Record.{empty}
 use Rattle.parsing_components.specs.declared.fields.Record.{Record}
 use Rattle.parsing_components.specs.declared.said.Read.{Read}
 use Rattle.parsing_components.specs.declared.said.Read.TheVariants as read
-use Rattle.instants_prefixes.specs.Kinds.{is_newer}
+use Rattle.instants_prefixes.specs.Kinds.{is_newer, is_saying}
+use Rattle.std.specs.Prelude.{IfSome}
 use Rattle.instants_prefixes.specs.declared.kind.Kind.{Kind}
 use Rattle.instants_prefixes.specs.declared.kind.Kind.TheVariants as kind
 
@@ -64,13 +65,7 @@ put_holds _ kind.UnixTime r = refl
 put_holds _ _ r = refl
 
 abbrev EachPrefix : (Kind → Bool) → Option (Read × List ℕ) → Type 0
-EachPrefix kinds None = Unit {0}
-EachPrefix kinds (Some prefix) = IsOf kinds prefix.0
-
--- what was read is of these kinds
-abbrev pub EachRead : (Kind → Bool) → Result (Read × List ℕ) Fault → Type 0
-EachRead kinds (Ok prefix) = IsOf kinds prefix.0
-EachRead kinds (Err f) = Unit {0}
+EachPrefix kinds o = IfSome o (λ prefix. IsOf kinds prefix.0)
 
 kept_each : {A : Type 0} (kinds : Kind → Bool) (f : A → Option Read) (o : Option (A × List ℕ)) → ((x : A) (rest : List ℕ) → EachPrefix kinds (option_map (λ y. (y, rest)) (f x))) → EachPrefix kinds (kept f o)
 kept_each kinds f None h = tt
@@ -87,37 +82,7 @@ map_each : {A : Type 0} (kinds : Kind → Bool) (make : A → Read) (o : Option 
 map_each kinds make None rest h = tt
 map_each kinds make (Some x) rest h = h x
 
-there_each : (kinds : Kind → Bool) (b : Bool) (x : Read × List ℕ) → IsOf kinds x.0 → EachPrefix kinds (if b then Some x else None)
-there_each kinds true x h = h
-there_each kinds false x h = tt
-
-piece_each : (c : Component) (bytes : List ℕ) → EachPrefix (is_newer c) (date_piece c bytes)
-unfolding date_piece year_piece time_piece offset_piece ignored
-piece_each (component.Ignore m) bytes = there_each _ (nat_le m.count (length bytes)) (read.Nothing, drop m.count bytes) nothing_held
-piece_each c bytes = search (says_each, if_each, map_each)
-
-or_each : (kinds : Kind → Bool) (f : Fault) (o : Option (Read × List ℕ)) → EachPrefix kinds o → EachRead kinds (piece_or f o)
-or_each kinds f None h = tt
-or_each kinds f (Some prefix) h = h
-
-end_each : (t : TrailingInput) (bytes : List ℕ) → EachRead (λ k. false) (at_end t bytes)
-end_each trailing_input.Prohibit (x ∷ rest) = tt
-end_each _ bytes = nothing_held
-
-modern_each : (c : Component) (bytes : List ℕ) → EachRead (is_newer c) (reads_modern c bytes)
-unfolding reads_modern
-modern_each (component.End m) bytes = end_each m.trailing_input bytes
-modern_each c bytes = or_each (is_newer c) (fault.component (component_name c)) (date_piece c bytes) (piece_each c bytes)
-
-pub component_each : (c : Component) (bytes : List ℕ) → EachRead (is_newer (modern c)) (reads_component c bytes)
-unfolding reads_component
-component_each c bytes = modern_each (modern c) bytes
-
-whole_each : (kinds : Kind → Bool) (o : Option (Read × List ℕ)) → EachPrefix kinds o → EachPrefix kinds (if_whole o)
-whole_each kinds None h = tt
-whole_each kinds (Some x) h = there_each kinds (begins_character x.1) x h
-
-pub component_each_v3 : (c : Component) (bytes : List ℕ) → EachRead (is_newer (modern c)) (reads_component_v3 c bytes)
-unfolding reads_component_v3 date_piece year_piece time_piece offset_piece
-component_each_v3 (component.Ignore m) bytes = or_each _ (fault.component (codes "ignore")) (if_whole (ignored m.count bytes)) (whole_each _ (ignored m.count bytes) (piece_each (component.Ignore m) bytes))
-component_each_v3 c bytes = component_each c bytes
+pub piece_each : (c : Component) (bytes : List ℕ) → is_saying c ≡ true → EachPrefix (is_newer c) (date_piece c bytes)
+unfolding date_piece year_piece time_piece offset_piece
+piece_each (component.Ignore m) bytes e = absurd cc
+piece_each c bytes e = search (says_each, if_each, map_each, tt)

@@ -28,59 +28,35 @@ use Rattle.instants_prefixes.specs.Reading.{is_local, written_has, stands_in, re
 use Rattle.instants_prefixes.specs.declared.kind.Kind.{Kind}
 use Rattle.instants_prefixes.specs.declared.kind.Kind.TheVariants as kind
 use Rattle.instants_prefixes.proofs.Le.{Le, le_false}
-use Rattle.instants_prefixes.proofs.Says.{holds, put_holds, nothing_held}
-use Rattle.instants_prefixes.proofs.Told.{Told, Reads, Refuses, described_told}
+use Rattle.instants_prefixes.proofs.Says.{holds, nothing_held}
+use Rattle.instants_prefixes.proofs.Told.{Changes, Reads, Refuses, Span, Told, described_told, placed, said_alone, span_written}
 
 -- ---- what is held
-
--- something of a kind was said, and all is there that was there before
-abbrev pub Adds : Kind → Bool → (Record → Record) → Type 0
-Adds k b f = (r : Record) → holds (f r) k ≡ (b || holds r k)
-
-turned : (a b c : Bool) → (b || (a || c)) ≡ ((a || b) || c)
-turned true b c = or_right b true refl
-turned false b c = refl
-
-pub adds_both : (k : Kind) (a b : Bool) (f g : Record → Record) → Adds k a f → Adds k b g → Adds k (a || b) (λ r. g (f r))
-adds_both k a b f g h j r = j (f r) ∙ ap (λ x. b || x) (h r) ∙ turned a b (holds r k)
 
 -- what a description says of each record that it reads
 pub record Holds (written : Written) (r : Record) : Type 0 where
   pub may : (k : Kind) → Le (holds r k) (written_has true (λ c. is_newer (modern c) k) written)
   pub always : (k : Kind) → Le (written_has false (λ c. is_newer (modern c) k) written) (holds r k)
 
-record Between (k : Kind) (most least : Bool) (r : Record) : Type 0 where
-  may : Le (holds r k) most
-  always : Le least (holds r k)
-
-of_told : (k : Kind) (answer : Record → Answer) (may always : Bool) (read : Record × List ℕ) → Told (Adds k) answer may always → answer empty ≡ Ok read → Between k may always read.0
-of_told k answer may always read (Reads b f rest h up down is) e =
-    let same : ◌≡◌ {A = Record × List ℕ} read (f empty, rest) = cc (is empty) in
-    let held : holds read.0 k ≡ b = ap (λ (x : Record × List ℕ). holds x.0 k) same ∙ h empty ∙ ap (λ x. b || x) (nothing_held k) ∙ or-false b in
-    record { may = rw held up; always = rw held down }
-of_told k answer may always read (Refuses fault is) e = let refused = is empty in absurd cc
+held_by : (answer : Record → Answer) (bytes : List ℕ) (span : Span) (read : Record × List ℕ) → Told answer bytes span → answer empty ≡ Ok read → (k : Kind) → Le (holds read.0 k) (span.may k) × Le (span.always k) (holds read.0 k)
+held_by answer bytes span read (Reads says kinds f taken rest h within is reads) e k =
+    let same : ◌≡◌ {A = Record × List ℕ} read (f empty, rest) = cc (reads empty) in
+    let held : holds read.0 k ≡ kinds k = ap (λ (x : Record × List ℕ). holds x.0 k) same ∙ said_alone says kinds f taken h k in
+    let between = within.1 k in
+    rw held between
+held_by answer bytes span read (Refuses fault refuses) e k = let refused = refuses empty in absurd cc
 
 pub read_holds : (written : Written) (text : List ℕ) (read : Record × List ℕ) → reads_written written empty text ≡ Ok read → Holds written read.0
 read_holds written text read e =
-    let told = λ (k : Kind). of_told k (λ r. reads_written written r text) _ _ read (described_told k (Adds k) (λ r. refl) (adds_both k) (λ said. put_holds said k) written text) e in
-    record { may = λ k. (told k).may; always = λ k. (told k).always }
+    let held = held_by (λ r. reads_written written r text) text (span_written written) read (described_told written text) e in
+    record { may = λ k. (held k).0; always = λ k. (held k).1 }
+
+-- what stands nowhere in a description is not there
+unheld : (written : Written) (text : List ℕ) (k : Kind) (a : Answer) → written_has true (λ c. is_newer (modern c) k) written ≡ false → reads_written written empty text ≡ a → holds (record_of a) k ≡ false
+unheld written text k (Ok read) free e = le_false ((read_holds written text read e).may k) free
+unheld written text k (Err f) free e = nothing_held k
 
 -- ---- an offset in the record from the start
-
-abbrev pub placed : Option ℤ → Option ℤ → Record → Record
-placed hour minute r = record r { offset_hour = hour; offset_minute = minute }
-
--- what says no part of an offset may come before it or after it
-abbrev pub Moves : Bool → (Record → Record) → Type 0
-Moves b f = b ≡ false → (hour minute : Option ℤ) (r : Record) → f (placed hour minute r) ≡ placed hour minute (f r)
-
-pub moves_both : (a b : Bool) (f g : Record → Record) → Moves a f → Moves b g → Moves (a || b) (λ r. g (f r))
-moves_both a b f g h j e hour minute r = let parts = or_parts a b e in ap g (h parts.0 hour minute r) ∙ j parts.1 hour minute (f r)
-
-pub moves : (said : Read) → Moves (holds (put said empty) kind.OffsetPart) (put said)
-moves (read.OffsetHour h n) e hour minute r = absurd cc
-moves (read.OffsetMinute n) e hour minute r = absurd cc
-moves said e hour minute r = refl
 
 -- what is read with it is what is read without it, and it
 pub record IsPlaced (answer : Record → Answer) (hour minute : Option ℤ) (set : Record) (rest : List ℕ) : Type 0 where
@@ -89,20 +65,28 @@ pub record IsPlaced (answer : Record → Answer) (hour minute : Option ℤ) (set
   pub is : set ≡ placed hour minute plain
   pub none : plain.offset_hour ≡ None
 
-pub of_moves : (answer : Record → Answer) (may always : Bool) (hour minute : Option ℤ) (set : Record) (rest : List ℕ) → Told Moves answer may always → may ≡ false → answer (placed hour minute empty) ≡ Ok (set, rest) → IsPlaced answer hour minute set rest
-of_moves answer may always hour minute set rest (Reads b f left h up down is) free e =
-    let same : ◌≡◌ {A = Record × List ℕ} (f (placed hour minute empty), left) (set, rest) = cc (is (placed hour minute empty)) in
-    let moved = h (le_false up free) in
+-- no part of an offset was read
+abbrev pub SaysNoOffset : Answer → Type 0
+SaysNoOffset answer = holds (record_of answer) kind.OffsetPart ≡ false
+
+pub of_told : (answer : Record → Answer) (bytes : List ℕ) (span : Span) (hour minute : Option ℤ) (set : Record) (rest : List ℕ) → Told answer bytes span → SaysNoOffset (answer empty) → answer (placed hour minute empty) ≡ Ok (set, rest) → IsPlaced answer hour minute set rest
+of_told answer bytes span hour minute set rest (Reads says kinds f taken left h within is reads) none e =
+    let said : kinds kind.OffsetPart ≡ false = sym (said_alone says kinds f taken h kind.OffsetPart) ∙ ap (λ (a : Answer). holds (record_of a) kind.OffsetPart) (sym (reads empty)) ∙ none in
+    let moved = h.moves said in
+    let same : ◌≡◌ {A = Record × List ℕ} (f (placed hour minute empty), left) (set, rest) = cc (reads (placed hour minute empty)) in
     record {
       plain = f empty;
-      reads = is empty ∙ ap (λ (x : Record × List ℕ). Ok (f empty, x.1)) same;
+      reads = reads empty ∙ ap (λ (x : Record × List ℕ). Ok (f empty, x.1)) same;
       is = sym (ap (λ (x : Record × List ℕ). x.0) same) ∙ moved hour minute empty;
       none = ap (λ (x : Record). x.offset_hour) (moved None None empty);
     }
-of_moves answer may always hour minute set rest (Refuses fault is) free e = let refused = is (placed hour minute empty) in absurd cc
+of_told answer bytes span hour minute set rest (Refuses fault refuses) none e = let refused = refuses (placed hour minute empty) in absurd cc
 
-pub read_placed : (written : Written) (hour minute : Option ℤ) (text rest : List ℕ) (set : Record) → written_has true (λ c. is_newer (modern c) kind.OffsetPart) written ≡ false → reads_written written (placed hour minute empty) text ≡ Ok (set, rest) → IsPlaced (λ r. reads_written written r text) hour minute set rest
-read_placed written hour minute text rest set free e = of_moves (λ r. reads_written written r text) _ _ hour minute set rest (described_told kind.OffsetPart Moves (λ e hour minute r. refl) moves_both moves written text) free e
+pub read_placed : (written : Written) (hour minute : Option ℤ) (text rest : List ℕ) (set : Record) → SaysNoOffset (reads_written written empty text) → reads_written written (placed hour minute empty) text ≡ Ok (set, rest) → IsPlaced (λ r. reads_written written r text) hour minute set rest
+read_placed written hour minute text rest set none e = of_told (λ r. reads_written written r text) text (span_written written) hour minute set rest (described_told written text) none e
+
+pub none_said_by : (written : Written) (text : List ℕ) → written_has true (λ c. is_newer (modern c) kind.OffsetPart) written ≡ false → SaysNoOffset (reads_written written empty text)
+none_said_by written text free = unheld written text kind.OffsetPart (reads_written written empty text) free refl
 
 -- ---- Unix time
 
@@ -117,14 +101,10 @@ put_timeless : {W : Type 0} (put : W → Record → Record) (x : Result (W × Li
 put_timeless put (Ok y) h = h y.0
 put_timeless put (Err f) h = refl
 
-described_timeless : (written : Written) (text : List ℕ) (a : Answer) → written_has true (λ c. is_newer (modern c) kind.UnixTime) written ≡ false → reads_written written empty text ≡ a → (record_of a).unix_timestamp_nanos ≡ None
-described_timeless written text (Ok read) free e = none_of read.0.unix_timestamp_nanos (le_false ((read_holds written text read e).may kind.UnixTime) free)
-described_timeless written text (Err f) free e = refl
-
 -- a source without numbers of Unix time reads none
 pub timeless : (grammar : Grammar) → stands_in (λ c. is_newer (modern c) kind.UnixTime) grammar ≡ false → (text : List ℕ) → (record_of (reading_of grammar empty text)).unix_timestamp_nanos ≡ None
 unfolding reads_rfc3339 reads_rfc2822 reads_iso8601
-timeless (Described written) free text = described_timeless written text (reads_written written empty text) free refl
+timeless (Described written) free text = none_of _ (unheld written text kind.UnixTime (reads_written written empty text) free refl)
 timeless Rfc2822 free text = put_timeless put_rfc2822 (rfc2822.rfc2822 true text) (λ w. refl)
 timeless Rfc3339 free text = put_timeless put_rfc3339 (rfc3339.rfc3339 true text) (λ w. refl)
 timeless Iso8601 free text = put_timeless put_iso8601 (iso8601.iso8601 text) iso_timeless
@@ -139,9 +119,8 @@ none_said : {A B C : Type 0} (hour : Option A) (minute : Option B) (second : Opt
 none_said None minute second e = refl
 none_said (Some h) minute second e = absurd cc
 
-described_local : (written : Written) (text : List ℕ) (a : Answer) → written_has true (λ c. is_newer (modern c) kind.OffsetPart) written ≡ false → reads_written written empty text ≡ a → lacks_offset (record_of a) ≡ true
-described_local written text (Ok read) free e = none_said read.0.offset_hour read.0.offset_minute read.0.offset_second (le_false ((read_holds written text read e).may kind.OffsetPart) free)
-described_local written text (Err f) free e = refl
+local_of : (r : Record) → holds r kind.OffsetPart ≡ false → lacks_offset r ≡ true
+local_of r e = none_said r.offset_hour r.offset_minute r.offset_second e
 
 neither : (a b : Bool) → not (a || b) ≡ true → (a ≡ false) × (b ≡ false)
 neither false false e = (refl, refl)
@@ -151,7 +130,7 @@ neither true b e = absurd cc
 -- a description without a part of an offset reads no hour of one
 pub local_at : (grammar : Grammar) → is_local grammar ≡ true → (bytes : List ℕ) → lacks_offset (record_at grammar bytes) ≡ true
 unfolding record_at
-local_at (Described written) local bytes = described_local written (text_for (Described written) bytes) _ (neither _ _ local).0 refl
+local_at (Described written) local bytes = local_of (record_of (reads_written written empty (text_for (Described written) bytes))) (none_said_by written (text_for (Described written) bytes) (neither _ _ local).0)
 local_at Rfc2822 local bytes = absurd cc
 local_at Rfc3339 local bytes = absurd cc
 local_at Iso8601 local bytes = absurd cc

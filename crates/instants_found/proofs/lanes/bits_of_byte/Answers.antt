@@ -1,5 +1,6 @@
 use Rattle.std.proofs.Common.{ℕ, ◌==◌}
-use Rattle.instants_found.proofs.LaneLemmas.{bits_passing, compared}
+use Rattle.instants_edges.proofs.Lanes.{bits_passing}
+use Rattle.instants_found.proofs.LaneLemmas.{compared}
 use Rattle.instants_found.proofs.lanes.bits_of_byte.Goals as goal
 
 pub returns : goal.returns

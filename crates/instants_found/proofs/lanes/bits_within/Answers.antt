@@ -1,7 +1,8 @@
 use Rattle.std.proofs.Common.{◌≡◌, leb, false, get_or, ◌∙◌, ap}
 use Rattle.std.proofs.lemmas.List.{get_or-replicate}
 use Rattle.instants_found.specs.Ranges.{above}
-use Rattle.instants_found.proofs.LaneLemmas.{bits_passing, compared}
+use Rattle.instants_edges.proofs.Lanes.{bits_passing}
+use Rattle.instants_found.proofs.LaneLemmas.{compared}
 use Rattle.instants_found.proofs.lanes.bits_within.Goals as goal
 
 pub returns : goal.returns
