@@ -103,7 +103,7 @@ lies_near given sources line start number date e =
       | inl (grammar, lt, is, there) ↦
           let reads : candidate given line start number grammar ≡ Some date = sym (ap reads_by is) ∙ e in
           let near : length (text_for grammar (drop start line)) ≤ min 256 (length line - start) =
-              omega (arith, text_within grammar (drop start line), length-take 256 (drop start line), length-drop start line) in
+          omega (arith, text_within grammar (drop start line), length-take 256 (drop start line), length-drop start line) in
           let P : Option Candidate → Type 0 = λ o. IfSome o (LiesBy start number (min 256 (length line - start))) in
           (subst P reads (lies_by given line start number (min 256 (length line - start)) grammar near), lt)
       | inr (past, is) ↦ let none : None ≡ Some date = sym (ap reads_by is) ∙ e in absurd cc

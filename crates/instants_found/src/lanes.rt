@@ -5,9 +5,8 @@ ghost use Rattle.instants_found.specs.Ranges.{above, is_within};
 
 use crate::range::Range;
 use crate::spread::Spread;
-use std::simd::prelude::*;
-
 pub(crate) use instants_edges::{LANES, load};
+use std::simd::prelude::*;
 
 /// A bit for each lane, which is 0 only where the lane is another byte than this.
 #[inline(always)]

@@ -83,6 +83,7 @@ pub record Span : Type 0 where
 -- one after the other, and one or the other
 abbrev joint : Span → Span → Span
 joint one other = record { saying = one.saying || other.saying; may = λ k. one.may k || other.may k; always = λ k. one.always k || other.always k }
+
 abbrev loose : Span → Span
 loose span = record { saying = span.saying; may = span.may; always = λ k. false }
 
@@ -151,17 +152,20 @@ is_so k c = is_newer (modern c) k
 
 abbrev pub span_of : Tree → Span
 span_of t = record { saying = has true is_saying t; may = λ k. has true (is_so k) t; always = λ k. has false (is_so k) t }
+
 abbrev pub span_of_all : Trees → Span
 span_of_all ts = record { saying = any_has true is_saying ts; may = λ k. any_has true (is_so k) ts; always = λ k. any_has false (is_so k) ts }
 
 this_first : (t : Tree) (ts : Trees) → Under (span_of t) (span_of_all (also t ts))
 this_first t ts = (left_le _ _, λ k. left_le _ _)
+
 these_after : (t : Tree) (ts : Trees) → Under (span_of_all ts) (span_of_all (also t ts))
 these_after t ts = (right_le _ _, λ k. right_le _ _)
 
 module _ (language : Language) (tells : (c : Component) (bytes : List ℕ) → IfOk (language c bytes) (Tells (is_saying c) (is_newer (modern c)) bytes)) where
   mutual
     unfolding reads each_reads all_of first_of first_success optionally literally
+
     pub tree_told : (t : Tree) (bytes : List ℕ) → Told (λ r. reading language t r bytes) bytes (span_of t)
     tree_told (Literal text) bytes = text_told (bytes_eq (take (length text) bytes) text) (length text) bytes
     tree_told (Part c) bytes = part_told (is_saying c) (is_newer (modern c)) bytes (language c bytes) (tells c bytes)
@@ -169,14 +173,17 @@ module _ (language : Language) (tells : (c : Component) (bytes : List ℕ) → I
     tree_told (Optional format t) bytes =
         either_told (λ r. reading language t r bytes) bytes (span_of t) (loose (span_of t)) (span_of t) (λ r a. or_unchanged a r bytes) (λ f r. Ok (r, bytes)) (le_refl, λ k. le_refl) (le_refl, λ k. le_refl) (tree_told t bytes) (λ f. unchanged_told (span_of t) bytes) (λ r x. refl) (λ r f. refl)
     tree_told (First ts) bytes = first_told ts bytes
+
     pub trees_told : (ts : Trees) (bytes : List ℕ) → Told (λ r. reading_of_all language ts r bytes) bytes (span_of_all ts)
     trees_told none bytes = unchanged_told silent bytes
     trees_told (also t ts) bytes =
         then_told (λ r. reading language t r bytes) bytes (span_of t) (span_of_all ts) (λ r a. (then_counted a (reads language t r bytes).1 (all_of (each_reads language ts))).0) (reading_of_all language ts) (tree_told t bytes) (trees_told ts) (λ r x. refl) (λ r f. refl)
+
     first_told : (ts : Trees) (bytes : List ℕ) → Told (λ r. meaning (first_of (each_reads language ts)) r bytes) bytes (loose (span_of_all ts))
     first_told none bytes = unchanged_told silent bytes
     first_told (also t ts) bytes =
         either_told (λ r. reading language t r bytes) bytes (span_of t) (loose (span_of_all ts)) (span_of_all (also t ts)) (λ r a. (or_found a (reads language t r bytes).1 (first_success (each_reads language ts) r bytes)).0) (λ f r. found_or f (first_success (each_reads language ts) r bytes).0) (this_first t ts) (these_after t ts) (tree_told t bytes) (success_told ts bytes) (λ r x. refl) (λ r f. refl)
+
     -- the first that reads, or a fault
     success_told : (ts : Trees) (bytes : List ℕ) (fault : Fault)
         → Told (λ r. found_or fault (first_success (each_reads language ts) r bytes).0) bytes (loose (span_of_all ts))
