@@ -3,7 +3,8 @@
 use calendar::UtcOffset;
 use instants_edges::{
     blanks, byte_at, has_another_offset, has_another_year, has_clock_before, has_clock_beside,
-    has_half_after, is_edge, iso_text, mail_text, may_say, reach, trimmed_length, zone_length,
+    has_half_after, is_edge, iso_text, load, mail_text, may_say, reach, trimmed_length,
+    zone_length,
 };
 
 // A line, and where a date in it begins and ends; whether it may begin there, whether it may as far as a sign goes, whether a
@@ -226,7 +227,12 @@ fn are_texts() -> bool {
     true
 }
 
+// Whether the bytes from a place on are loaded.
+fn are_loaded() -> bool {
+    load(b"0123456789abcdefg", 1).to_array() == *b"123456789abcdefg"
+}
+
 #[test]
 fn bytes_beside_and_texts(rt: HostRuntime) {
-    assert!(rt; are_beside() && are_texts());
+    assert!(rt; are_beside() && are_texts() && are_loaded());
 }
